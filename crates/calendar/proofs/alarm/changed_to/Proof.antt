@@ -1,0 +1,22 @@
+use borrow.Author.Needs.{needs}
+use Rattle.unit.specs.Tests.{tests}
+use Rattle.calendar.specs.Alarm.{reaches}
+use Rattle.calendar.proofs.alarm.changed_to.Statement.{statement}
+use Rattle.calendar.proofs.alarm.changed_to.Tie as tie
+use Rattle.calendar.proofs.alarm.changed_to.Reads as reads
+use Rattle.calendar.proofs.alarm.changed_to.Lts as lts
+
+returns : tie.Need-returns
+unfolding reaches
+returns c = search (needs, tests)
+
+returns-2 : tie.Need-returns-2
+unfolding reaches
+returns-2 c = search (needs, tests)
+
+returns-3 : tie.Need-returns-3
+unfolding reaches
+returns-3 c = search (needs, tests)
+
+pub changed-to-spec : {M : Type 1} → statement M
+changed-to-spec = tie.close (tie.spec returns returns-2 returns-3)

@@ -1,0 +1,57 @@
+use Rattle.unit.specs.Tests.{tests}
+use Rattle.calendar.specs.Calendar.{dateFits}
+use borrow.Author.Needs.{needs}
+use Rattle.calendar.proofs.date.date_fits.Statement.{statement}
+use Rattle.calendar.proofs.date.date_fits.Tie as tie
+use Rattle.calendar.proofs.date.date_fits.Reads as reads
+use Rattle.calendar.proofs.date.date_fits.Lts as lts
+use Rattle.calendar.proofs.date.length_of_month.Reads as length-of-month-reads
+
+returns : tie.Need-returns
+unfolding dateFits
+returns c = search (needs, tests, c .if1 .taken)
+
+returns-2 : tie.Need-returns-2
+unfolding dateFits
+returns-2 c = search (needs, tests, c .if2 .taken, c .before .before .if1 .left)
+
+returns-3 : tie.Need-returns-3
+unfolding dateFits
+returns-3 c = search (needs, tests, c .if3 .taken, c .before .before .if2 .left, c .before .before .before .before .if1 .left)
+
+returns-4 : tie.Need-returns-4
+unfolding dateFits
+returns-4 c = search (needs, tests, c .if4 .taken, c .before .before .if3 .left, c .before .before .before .before .if2 .left, c .before .before .before .before .before .before .if1 .left)
+
+length-of-month-requires : tie.Need-length-of-month-requires
+length-of-month-requires c κs = search needs
+
+returns-5 : tie.Need-returns-5
+unfolding dateFits
+returns-5 c = search (needs, tests, c .if5 .taken, ← c .before .before .length-of-month .ensures, c .before .before .before .if4 .left, c .before .before .before .before .before .if3 .left, c .before .before .before .before .before .before .before .if2 .left, c .before .before .before .before .before .before .before .before .before .if1 .left)
+
+returns-6 : tie.Need-returns-6
+unfolding dateFits
+returns-6 c = search (needs, tests, c .if6 .taken, c .before .before .if5 .left, ← c .before .before .before .before .length-of-month .ensures, c .before .before .before .before .before .if4 .left, c .before .before .before .before .before .before .before .if3 .left, c .before .before .before .before .before .before .before .before .before .if2 .left, c .before .before .before .before .before .before .before .before .before .before .before .if1 .left)
+
+returns-7 : tie.Need-returns-7
+unfolding dateFits
+returns-7 c = search (needs, tests, c .if7 .taken, c .before .before .if6 .left, c .before .before .before .before .if5 .left, ← c .before .before .before .before .before .before .length-of-month .ensures, c .before .before .before .before .before .before .before .if4 .left, c .before .before .before .before .before .before .before .before .before .if3 .left, c .before .before .before .before .before .before .before .before .before .before .before .if2 .left, c .before .before .before .before .before .before .before .before .before .before .before .before .before .if1 .left)
+
+returns-8 : tie.Need-returns-8
+unfolding dateFits
+returns-8 c = search (needs, tests, c .if7 .left, c .before .before .if6 .left, c .before .before .before .before .if5 .left, ← c .before .before .before .before .before .before .length-of-month .ensures, c .before .before .before .before .before .before .before .if4 .left, c .before .before .before .before .before .before .before .before .before .if3 .left, c .before .before .before .before .before .before .before .before .before .before .before .if2 .left, c .before .before .before .before .before .before .before .before .before .before .before .before .before .if1 .left)
+
+pub date-fits-spec : {M : Type 1} → statement M
+date-fits-spec =
+    tie.close
+    (tie.spec
+    returns
+    returns-2
+    returns-3
+    returns-4
+    length-of-month-requires
+    returns-5
+    returns-6
+    returns-7
+    returns-8)

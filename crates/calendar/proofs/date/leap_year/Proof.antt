@@ -1,0 +1,18 @@
+use borrow.Author.Needs.{needs}
+use Rattle.unit.specs.Tests.{tests}
+use Rattle.calendar.specs.Calendar.{leap}
+use Rattle.calendar.proofs.date.leap_year.Statement.{statement}
+use Rattle.calendar.proofs.date.leap_year.Tie as tie
+use Rattle.calendar.proofs.date.leap_year.Reads as reads
+use Rattle.calendar.proofs.date.leap_year.Lts as lts
+
+returns : tie.Need-returns
+unfolding leap
+returns c = search (needs, tests)
+
+returns-2 : tie.Need-returns-2
+unfolding leap
+returns-2 c = search (needs, tests)
+
+pub leap-year-spec : {M : Type 1} → statement M
+leap-year-spec = tie.close (tie.spec returns returns-2)

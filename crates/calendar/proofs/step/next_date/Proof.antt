@@ -1,0 +1,41 @@
+use Rattle.unit.specs.Tests.{tests}
+use Rattle.calendar.specs.Calendar.{nextDate}
+use borrow.Author.Needs.{needs}
+use Rattle.calendar.proofs.step.next_date.Statement.{statement}
+use Rattle.calendar.proofs.step.next_date.Tie as tie
+use Rattle.calendar.proofs.step.next_date.Reads as reads
+use Rattle.calendar.proofs.step.next_date.Lts as lts
+use Rattle.calendar.proofs.date.length_of_month.Reads as length-of-month-reads
+use Rattle.calendar.proofs.step.next_month.Reads as next-month-reads
+use Rattle.calendar.proofs.step.next_weekday.Reads as next-weekday-reads
+
+next-weekday-requires : tie.Need-next-weekday-requires
+next-weekday-requires c κs = search needs
+
+length-of-month-requires : tie.Need-length-of-month-requires
+length-of-month-requires c κs = search needs
+
+next-month-requires : tie.Need-next-month-requires
+next-month-requires c κs = search needs
+
+returns : tie.Need-returns
+unfolding nextDate
+returns c = search (needs, tests, ← c .next-month .ensures, c .before .if1 .taken, ← c .before .before .before .length-of-month .ensures, ← c .before .before .before .before .next-weekday .ensures)
+
+add-n : tie.Need-add-n
+add-n c = search needs
+
+returns-2 : tie.Need-returns-2
+unfolding nextDate
+returns-2 c = search (needs, tests, c .before .if1 .left, ← c .before .before .before .length-of-month .ensures, ← c .before .before .before .before .next-weekday .ensures)
+
+pub next-date-spec : {M : Type 1} → statement M
+next-date-spec =
+    tie.close
+    (tie.spec
+    next-weekday-requires
+    length-of-month-requires
+    next-month-requires
+    returns
+    add-n
+    returns-2)

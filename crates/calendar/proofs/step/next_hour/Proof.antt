@@ -1,0 +1,25 @@
+use Rattle.unit.specs.Tests.{tests}
+use Rattle.calendar.specs.Calendar.{nextHour}
+use borrow.Author.Needs.{needs}
+use Rattle.calendar.proofs.step.next_hour.Statement.{statement}
+use Rattle.calendar.proofs.step.next_hour.Tie as tie
+use Rattle.calendar.proofs.step.next_hour.Reads as reads
+use Rattle.calendar.proofs.step.next_hour.Lts as lts
+use Rattle.calendar.proofs.step.next_date.Reads as next-date-reads
+
+next-date-requires : tie.Need-next-date-requires
+next-date-requires c κs = search needs
+
+returns : tie.Need-returns
+unfolding nextHour
+returns c = search (needs, tests)
+
+add-n : tie.Need-add-n
+add-n c = search needs
+
+returns-2 : tie.Need-returns-2
+unfolding nextHour
+returns-2 c = search (needs, tests)
+
+pub next-hour-spec : {M : Type 1} → statement M
+next-hour-spec = tie.close (tie.spec next-date-requires returns add-n returns-2)

@@ -1,0 +1,25 @@
+use Rattle.unit.specs.Tests.{tests}
+use Rattle.calendar.specs.Calendar.{nextMonth}
+use borrow.Author.Needs.{needs}
+use Rattle.calendar.proofs.step.next_month.Statement.{statement}
+use Rattle.calendar.proofs.step.next_month.Tie as tie
+use Rattle.calendar.proofs.step.next_month.Reads as reads
+use Rattle.calendar.proofs.step.next_month.Lts as lts
+use Rattle.calendar.proofs.step.next_year.Reads as next-year-reads
+
+next-year-requires : tie.Need-next-year-requires
+next-year-requires c κs = search needs
+
+returns : tie.Need-returns
+unfolding nextMonth
+returns c = search (needs, tests)
+
+add-n : tie.Need-add-n
+add-n c = search needs
+
+returns-2 : tie.Need-returns-2
+unfolding nextMonth
+returns-2 c = search (needs, tests)
+
+pub next-month-spec : {M : Type 1} → statement M
+next-month-spec = tie.close (tie.spec next-year-requires returns add-n returns-2)

@@ -1,0 +1,25 @@
+use Rattle.unit.specs.Tests.{tests}
+use Rattle.calendar.specs.Calendar.{nextSecond}
+use borrow.Author.Needs.{needs}
+use Rattle.calendar.proofs.step.next_second.Statement.{statement}
+use Rattle.calendar.proofs.step.next_second.Tie as tie
+use Rattle.calendar.proofs.step.next_second.Reads as reads
+use Rattle.calendar.proofs.step.next_second.Lts as lts
+use Rattle.calendar.proofs.step.next_minute.Reads as next-minute-reads
+
+next-minute-requires : tie.Need-next-minute-requires
+next-minute-requires c κs = search needs
+
+returns : tie.Need-returns
+unfolding nextSecond
+returns c = search (needs, tests)
+
+add-n : tie.Need-add-n
+add-n c = search needs
+
+returns-2 : tie.Need-returns-2
+unfolding nextSecond
+returns-2 c = search (needs, tests)
+
+pub next-second-spec : {M : Type 1} → statement M
+next-second-spec = tie.close (tie.spec next-minute-requires returns add-n returns-2)

@@ -1,0 +1,21 @@
+use Rattle.unit.specs.Tests.{tests}
+use Rattle.calendar.specs.Calendar.{nextYear}
+use borrow.Author.Needs.{needs}
+use Rattle.calendar.proofs.step.next_year.Statement.{statement}
+use Rattle.calendar.proofs.step.next_year.Tie as tie
+use Rattle.calendar.proofs.step.next_year.Reads as reads
+use Rattle.calendar.proofs.step.next_year.Lts as lts
+
+returns : tie.Need-returns
+unfolding nextYear
+returns c = search (needs, tests)
+
+add-n : tie.Need-add-n
+add-n c = search needs
+
+returns-2 : tie.Need-returns-2
+unfolding nextYear
+returns-2 c = search (needs, tests)
+
+pub next-year-spec : {M : Type 1} → statement M
+next-year-spec = tie.close (tie.spec returns add-n returns-2)

@@ -1,0 +1,25 @@
+use Rattle.unit.specs.Tests.{tests}
+use Rattle.calendar.specs.Calendar.{tickClock}
+use borrow.Author.Needs.{needs}
+use Rattle.calendar.proofs.step.tick.Statement.{statement}
+use Rattle.calendar.proofs.step.tick.Tie as tie
+use Rattle.calendar.proofs.step.tick.Reads as reads
+use Rattle.calendar.proofs.step.tick.Lts as lts
+use Rattle.calendar.proofs.step.next_second.Reads as next-second-reads
+
+next-second-requires : tie.Need-next-second-requires
+next-second-requires c κs = search needs
+
+returns : tie.Need-returns
+unfolding tickClock
+returns c = search (needs, tests)
+
+add-t7 : tie.Need-add-t7
+add-t7 c = search needs
+
+returns-2 : tie.Need-returns-2
+unfolding tickClock
+returns-2 c = search (needs, tests)
+
+pub tick-spec : {M : Type 1} → statement M
+tick-spec = tie.close (tie.spec next-second-requires returns add-t7 returns-2)

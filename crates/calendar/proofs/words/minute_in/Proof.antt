@@ -1,0 +1,20 @@
+use Rattle.unit.specs.Tests.{tests}
+use Rattle.calendar.specs.Words.{minuteIn}
+use borrow.Author.Needs.{needs}
+use Rattle.calendar.proofs.words.minute_in.Statement.{statement}
+use Rattle.calendar.proofs.words.minute_in.Tie as tie
+use Rattle.calendar.proofs.words.minute_in.Reads as reads
+use Rattle.calendar.proofs.words.minute_in.Lts as lts
+
+mul-result : tie.Need-mul-result
+mul-result c = search needs
+
+add-result : tie.Need-add-result
+add-result c = search needs
+
+returns : tie.Need-returns
+unfolding minuteIn
+returns c = search (needs, tests)
+
+pub minute-in-spec : {M : Type 1} → statement M
+minute-in-spec = tie.close (tie.spec mul-result add-result returns)

@@ -1,0 +1,47 @@
+use Rattle.unit.specs.Tests.{tests}
+use Rattle.calendar.specs.Words.{word30}
+use borrow.Author.Needs.{needs}
+use Rattle.calendar.proofs.words.seconds_word.Statement.{statement}
+use Rattle.calendar.proofs.words.seconds_word.Tie as tie
+use Rattle.calendar.proofs.words.seconds_word.Reads as reads
+use Rattle.calendar.proofs.words.seconds_word.Lts as lts
+use Rattle.calendar.proofs.words.hundredths.Reads as hundredths-reads
+use Rattle.calendar.proofs.words.two_digits.Reads as two-digits-reads
+
+hundredths-requires : tie.Need-hundredths-requires
+hundredths-requires c κs = search needs
+
+two-digits-requires : tie.Need-two-digits-requires
+two-digits-requires c κs = search needs
+
+cast-result : tie.Need-cast-result
+cast-result c = search needs
+
+mul-result : tie.Need-mul-result
+mul-result c = search needs
+
+two-digits-requires-2 : tie.Need-two-digits-requires-2
+two-digits-requires-2 c κs = search needs
+
+cast-result-2 : tie.Need-cast-result-2
+cast-result-2 c = search needs
+
+add-result : tie.Need-add-result
+add-result c = search needs
+
+returns : tie.Need-returns
+unfolding word30
+returns c = search (needs, tests, ← c .two-digits2 .ensures, ← c .before .two-digits .ensures, ← c .before .before .hundredths .ensures)
+
+pub seconds-word-spec : {M : Type 1} → statement M
+seconds-word-spec =
+    tie.close
+    (tie.spec
+    hundredths-requires
+    two-digits-requires
+    cast-result
+    mul-result
+    two-digits-requires-2
+    cast-result-2
+    add-result
+    returns)

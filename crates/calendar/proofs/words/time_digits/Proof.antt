@@ -1,0 +1,26 @@
+use borrow.Author.Needs.{needs}
+use Rattle.unit.specs.Tests.{tests}
+use Rattle.calendar.specs.Words.{timeDigits}
+use Rattle.calendar.proofs.words.time_digits.Statement.{statement}
+use Rattle.calendar.proofs.words.time_digits.Tie as tie
+use Rattle.calendar.proofs.words.time_digits.Reads as reads
+use Rattle.calendar.proofs.words.time_digits.Lts as lts
+
+returns : tie.Need-returns
+unfolding timeDigits
+returns c = search (needs, tests)
+
+returns-2 : tie.Need-returns-2
+unfolding timeDigits
+returns-2 c = search (needs, tests)
+
+returns-3 : tie.Need-returns-3
+unfolding timeDigits
+returns-3 c = search (needs, tests)
+
+returns-4 : tie.Need-returns-4
+unfolding timeDigits
+returns-4 c = search (needs, tests)
+
+pub time-digits-spec : {M : Type 1} → statement M
+time-digits-spec = tie.close (tie.spec returns returns-2 returns-3 returns-4)

@@ -1,0 +1,23 @@
+use Rattle.unit.specs.Tests.{tests}
+use Rattle.calendar.specs.Words.{bcd}
+use borrow.Author.Needs.{needs}
+use Rattle.calendar.proofs.words.two_digits.Statement.{statement}
+use Rattle.calendar.proofs.words.two_digits.Tie as tie
+use Rattle.calendar.proofs.words.two_digits.Reads as reads
+use Rattle.calendar.proofs.words.two_digits.Lts as lts
+
+mul-result : tie.Need-mul-result
+mul-result c = search needs
+
+add-result : tie.Need-add-result
+add-result c = search needs
+
+cast-result : tie.Need-cast-result
+cast-result c = search needs
+
+returns : tie.Need-returns
+unfolding bcd
+returns c = search (needs, tests)
+
+pub two-digits-spec : {M : Type 1} → statement M
+two-digits-spec = tie.close (tie.spec mul-result add-result cast-result returns)

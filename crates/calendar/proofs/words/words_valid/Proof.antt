@@ -1,0 +1,31 @@
+use Rattle.unit.specs.Tests.{tests}
+use Rattle.calendar.specs.Words.{wordsValid}
+use borrow.Author.Needs.{needs}
+use Rattle.calendar.proofs.words.words_valid.Statement.{statement}
+use Rattle.calendar.proofs.words.words_valid.Tie as tie
+use Rattle.calendar.proofs.words.words_valid.Reads as reads
+use Rattle.calendar.proofs.words.words_valid.Lts as lts
+use Rattle.calendar.proofs.date.valid.Reads as valid-reads
+use Rattle.calendar.proofs.words.clock_from.Reads as clock-from-reads
+use Rattle.calendar.proofs.words.digits_fit.Reads as digits-fit-reads
+
+digits-fit-requires : tie.Need-digits-fit-requires
+digits-fit-requires c κs = search needs
+
+clock-from-requires : tie.Need-clock-from-requires
+clock-from-requires c κs = search needs
+
+valid-requires : tie.Need-valid-requires
+valid-requires c κs = search needs
+
+returns : tie.Need-returns
+unfolding wordsValid
+returns c = search (needs, tests, ← c .valid .ensures, ← c .before .clock-from .ensures, c .before .before .if1 .taken, ← c .before .before .before .digits-fit .ensures)
+
+returns-2 : tie.Need-returns-2
+unfolding wordsValid
+returns-2 c = search (needs, tests, c .if1 .left, ← c .before .digits-fit .ensures)
+
+pub words-valid-spec : {M : Type 1} → statement M
+words-valid-spec =
+    tie.close (tie.spec digits-fit-requires clock-from-requires valid-requires returns returns-2)

@@ -1,0 +1,20 @@
+// The calendar clock: its fields, its step by one tick, its register words, and the alarm.
+ghost use mathlib.Core.Path.{_≡_};
+use unit::Ticks;
+
+// Years count from 2000. The second holds `ticks` of the 32,768 Hz clock.
+pub struct Clock {
+    pub year: u32,
+    pub month: u32,
+    pub date: u32,
+    pub weekday: u32,
+    pub hour: u32,
+    pub minute: u32,
+    pub second: u32,
+    pub ticks: Ticks,
+}
+
+pub mod alarm;
+pub mod date;
+pub mod step;
+pub mod words;

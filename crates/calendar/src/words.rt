@@ -1,0 +1,151 @@
+// The calendar's registers 30h to 33h: their words from the clock, and the clock from their words.
+ghost use mathlib.Core.Path.{_≡_};
+ghost use Rattle.calendar.specs.Words.{bcd, hundredthsOf, word30, word31, word32, word33, minuteIn, hourIn, ticksIn, clockFrom, timeDigits, digitsFit, wordsValid, alarmValid};
+use crate::Clock;
+use crate::date::valid;
+use unit::Ticks;
+
+// The two decimal digits of a number below 100, four bits each.
+pub fn two_digits(n: u32) -> u8
+    ensures { λ r. ⌜ r ≡ bcd n ⌝ }
+{
+    (n / 10 % 10 * 16 + n % 10) as u8
+}
+
+pub fn hundredths(t: Ticks) -> u32
+    ensures { λ r. ⌜ r ≡ hundredthsOf t ⌝ }
+{
+    ((t.0 as u64) * 100 / 32768) as u32
+}
+
+pub fn seconds_word(c: Clock) -> u32
+    ensures { λ r. ⌜ r ≡ word30 c ⌝ }
+{
+    let t = c.ticks;
+    let parts = hundredths(t);
+    (two_digits(parts) as u32) * 256 + (two_digits(c.second) as u32)
+}
+
+pub fn time_word(c: Clock) -> u32
+    ensures { λ r. ⌜ r ≡ word31 c ⌝ }
+{
+    (two_digits(c.minute) as u32) * 256 + (two_digits(c.hour) as u32)
+}
+
+pub fn date_word(c: Clock) -> u32
+    ensures { λ r. ⌜ r ≡ word32 c ⌝ }
+{
+    c.weekday % 8 * 256 + (two_digits(c.date) as u32)
+}
+
+pub fn year_word(c: Clock) -> u32
+    ensures { λ r. ⌜ r ≡ word33 c ⌝ }
+{
+    (two_digits(c.month) as u32) * 256 + (two_digits(c.year) as u32)
+}
+
+pub fn minute_in(w: u32) -> u32
+    ensures { λ r. ⌜ r ≡ minuteIn w ⌝ }
+{
+    w / 4096 % 8 * 10 + w / 256 % 16
+}
+
+pub fn hour_in(w: u32) -> u32
+    ensures { λ r. ⌜ r ≡ hourIn w ⌝ }
+{
+    w / 16 % 4 * 10 + w % 16
+}
+
+// The ticks at which a second first reads the hundredths of a word of 30h.
+pub fn ticks_in(w: u32) -> Ticks
+    ensures { λ r. ⌜ r ≡ ticksIn w ⌝ }
+{
+    let centiseconds = w / 4096 % 16 * 10 + w / 256 % 16;
+    Ticks((centiseconds * 32768 + 99) / 100)
+}
+
+pub fn clock_from(w30: u32, w31: u32, w32: u32, w33: u32, ticks: Ticks) -> Clock
+    ensures { λ r. ⌜ r ≡ clockFrom w30 w31 w32 w33 ticks ⌝ }
+{
+    let minute = minute_in(w31);
+    let hour = hour_in(w31);
+    Clock {
+        year: w33 / 16 % 16 * 10 + w33 % 16,
+        month: w33 / 4096 % 2 * 10 + w33 / 256 % 16,
+        date: w32 / 16 % 4 * 10 + w32 % 16,
+        weekday: w32 / 256 % 8,
+        hour,
+        minute,
+        second: w30 / 16 % 8 * 10 + w30 % 16,
+        ticks,
+    }
+}
+
+// The 24-hour form, and decimal digits of minutes and hours.
+pub fn time_digits(w: u32) -> bool
+    ensures { λ r. ⌜ r ≡ timeDigits w ⌝ }
+{
+    if w / 64 % 2 == 1 {
+        return false;
+    }
+    if 9 < w / 256 % 16 {
+        return false;
+    }
+    if 9 < w % 16 {
+        return false;
+    }
+    true
+}
+
+pub fn digits_fit(w30: u32, w31: u32, w32: u32, w33: u32) -> bool
+    ensures { λ r. ⌜ r ≡ digitsFit w30 w31 w32 w33 ⌝ }
+{
+    if 9 < w30 / 4096 % 16 {
+        return false;
+    }
+    if 9 < w30 / 256 % 16 {
+        return false;
+    }
+    if 9 < w30 % 16 {
+        return false;
+    }
+    if 9 < w32 % 16 {
+        return false;
+    }
+    if 9 < w33 / 256 % 16 {
+        return false;
+    }
+    if 9 < w33 / 16 % 16 {
+        return false;
+    }
+    if 9 < w33 % 16 {
+        return false;
+    }
+    time_digits(w31)
+}
+
+// Whether the four words give a valid clock at these ticks.
+pub fn words_valid(w30: u32, w31: u32, w32: u32, w33: u32, ticks: Ticks) -> bool
+    ensures { λ r. ⌜ r ≡ wordsValid w30 w31 w32 w33 ticks ⌝ }
+{
+    if digits_fit(w30, w31, w32, w33) {
+        valid(clock_from(w30, w31, w32, w33, ticks))
+    } else {
+        false
+    }
+}
+
+pub fn alarm_valid(w: u32) -> bool
+    ensures { λ r. ⌜ r ≡ alarmValid w ⌝ }
+{
+    if time_digits(w) {
+        if 59 < minute_in(w) {
+            return false;
+        }
+        if 23 < hour_in(w) {
+            return false;
+        }
+        return true;
+    }
+    false
+}

@@ -1,0 +1,27 @@
+// The two units of time, and choices between values.
+ghost use mathlib.Core.Path.{_≡_};
+ghost use Rattle.unit.specs.Choice.{pick, either};
+
+// Periods of the 32,768 Hz clock. Never stands for quanta.
+pub struct Ticks(pub u32);
+
+// 65,536ths of a 4 MHz period. Never stands for ticks.
+pub struct Quanta(pub u32);
+
+pub fn choose(test: bool, yes: u32, no: u32) -> u32
+    ensures { λ r. ⌜ r ≡ pick test yes no ⌝ }
+{
+    if test { yes } else { no }
+}
+
+pub fn choose_wide(test: bool, yes: u64, no: u64) -> u64
+    ensures { λ r. ⌜ r ≡ pick test yes no ⌝ }
+{
+    if test { yes } else { no }
+}
+
+pub fn any_of(a: bool, b: bool) -> bool
+    ensures { λ r. ⌜ r ≡ either a b ⌝ }
+{
+    if a { true } else { b }
+}

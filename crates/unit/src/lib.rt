@@ -5,8 +5,8 @@ ghost use Rattle.unit.specs.Choice.{pick, either};
 // Periods of the 32,768 Hz clock. Never stands for quanta.
 pub struct Ticks(pub u32);
 
-// 65,536ths of a 4 MHz period. Never stands for ticks.
-pub struct Quanta(pub u32);
+// 65,536ths of a 4 MHz period; wide enough for sums of hit words. Never stands for ticks.
+pub struct Quanta(pub u64);
 
 pub fn choose(test: bool, yes: u32, no: u32) -> u32
     ensures { λ r. ⌜ r ≡ pick test yes no ⌝ }

@@ -1,0 +1,80 @@
+use Rattle.unit.specs.Tests.{tests}
+use Rattle.frame.specs.Frame.{decodeFrame}
+use borrow.Author.Needs.{needs}
+use Rattle.frame.proofs.decode.Statement.{statement}
+use Rattle.frame.proofs.decode.Tie as tie
+use Rattle.frame.proofs.decode.Reads as reads
+use Rattle.frame.proofs.decode.Lts as lts
+use Rattle.frame.proofs.byte.Reads as byte-reads
+use Rattle.frame.proofs.decode_read.Reads as decode-read-reads
+use Rattle.frame.proofs.decode_write.Reads as decode-write-reads
+use Rattle.frame.proofs.is_command.Reads as is-command-reads
+use Rattle.frame.proofs.is_read.Reads as is-read-reads
+use Rattle.frame.proofs.is_write.Reads as is-write-reads
+
+returns : tie.Need-returns
+unfolding decodeFrame
+returns c = search (needs, tests)
+
+shared-slice-read-byte : tie.Need-shared-slice-read-byte
+shared-slice-read-byte c = search needs
+
+byte-requires : tie.Need-byte-requires
+byte-requires c κs = search needs
+
+sub-further : tie.Need-sub-further
+sub-further c = search needs
+
+is-command-requires : tie.Need-is-command-requires
+is-command-requires c κs = search needs
+
+returns-2 : tie.Need-returns-2
+unfolding decodeFrame
+returns-2 c = search (needs, tests, c .if3 .taken, c .before .if2 .taken, ← c .before .before .is-command .ensures, ← c .before .before .before .byte .ensures .0, c .before .before .before .before .before .if1 .left)
+
+returns-3 : tie.Need-returns-3
+unfolding decodeFrame
+returns-3 c = search (needs, tests, c .if3 .left, c .before .if2 .taken, ← c .before .before .is-command .ensures, ← c .before .before .before .byte .ensures .0, c .before .before .before .before .before .if1 .left)
+
+is-write-requires : tie.Need-is-write-requires
+is-write-requires c κs = search needs
+
+decode-write-requires : tie.Need-decode-write-requires
+decode-write-requires c κs = search needs
+
+returns-4 : tie.Need-returns-4
+unfolding decodeFrame
+returns-4 c = search (needs, tests, ← c .decode-write .ensures, c .before .if4 .taken, ← c .before .before .is-write .ensures, c .before .before .before .if2 .left, ← c .before .before .before .before .is-command .ensures, ← c .before .before .before .before .before .byte .ensures .0, c .before .before .before .before .before .before .before .if1 .left)
+
+is-read-requires : tie.Need-is-read-requires
+is-read-requires c κs = search needs
+
+decode-read-requires : tie.Need-decode-read-requires
+decode-read-requires c κs = search needs
+
+returns-5 : tie.Need-returns-5
+unfolding decodeFrame
+returns-5 c = search (needs, tests, ← c .decode-read .ensures, c .before .if5 .taken, ← c .before .before .is-read .ensures, c .before .before .before .if4 .left, ← c .before .before .before .before .is-write .ensures, c .before .before .before .before .before .if2 .left, ← c .before .before .before .before .before .before .is-command .ensures, ← c .before .before .before .before .before .before .before .byte .ensures .0, c .before .before .before .before .before .before .before .before .before .if1 .left)
+
+returns-6 : tie.Need-returns-6
+unfolding decodeFrame
+returns-6 c = search (needs, tests, c .if5 .left, ← c .before .is-read .ensures, c .before .before .if4 .left, ← c .before .before .before .is-write .ensures, c .before .before .before .before .if2 .left, ← c .before .before .before .before .before .is-command .ensures, ← c .before .before .before .before .before .before .byte .ensures .0, c .before .before .before .before .before .before .before .before .if1 .left)
+
+pub decode-spec : {M : Type 1} → statement M
+decode-spec =
+    tie.close
+    (tie.spec
+    returns
+    shared-slice-read-byte
+    byte-requires
+    sub-further
+    is-command-requires
+    returns-2
+    returns-3
+    is-write-requires
+    decode-write-requires
+    returns-4
+    is-read-requires
+    decode-read-requires
+    returns-5
+    returns-6)

@@ -1,0 +1,39 @@
+use Rattle.unit.specs.Tests.{tests}
+use Rattle.frame.specs.Frame.{readFrame}
+use borrow.Author.Needs.{needs}
+use Rattle.frame.proofs.decode_read.Statement.{statement}
+use Rattle.frame.proofs.decode_read.Tie as tie
+use Rattle.frame.proofs.decode_read.Reads as reads
+use Rattle.frame.proofs.decode_read.Lts as lts
+use Rattle.frame.proofs.not_whole.Reads as not-whole-reads
+use Rattle.frame.proofs.past.Reads as past-reads
+
+not-whole-requires : tie.Need-not-whole-requires
+not-whole-requires c κs = search needs
+
+returns : tie.Need-returns
+unfolding readFrame
+returns c = search (needs, tests, c .if1 .taken, ← c .before .not-whole .ensures)
+
+past-requires : tie.Need-past-requires
+past-requires c κs = search needs
+
+returns-2 : tie.Need-returns-2
+unfolding readFrame
+returns-2 c = search (needs, tests, c .if2 .taken, ← c .before .past .ensures, c .before .before .if1 .left, ← c .before .before .before .not-whole .ensures)
+
+mul-if3 : tie.Need-mul-if3
+mul-if3 c = search needs
+
+returns-3 : tie.Need-returns-3
+unfolding readFrame
+returns-3 c = search (needs, tests, c .if3 .taken, c .before .if2 .left, ← c .before .before .past .ensures, c .before .before .before .if1 .left, ← c .before .before .before .before .not-whole .ensures)
+
+returns-4 : tie.Need-returns-4
+unfolding readFrame
+returns-4 c = search (needs, tests, c .if3 .left, c .before .if2 .left, ← c .before .before .past .ensures, c .before .before .before .if1 .left, ← c .before .before .before .before .not-whole .ensures)
+
+pub decode-read-spec : {M : Type 1} → statement M
+decode-read-spec =
+    tie.close
+    (tie.spec not-whole-requires returns past-requires returns-2 mul-if3 returns-3 returns-4)

@@ -1,0 +1,22 @@
+use borrow.Author.Needs.{needs}
+use Rattle.unit.specs.Tests.{tests}
+use Rattle.frame.specs.Frame.{isCommand}
+use Rattle.frame.proofs.is_command.Statement.{statement}
+use Rattle.frame.proofs.is_command.Tie as tie
+use Rattle.frame.proofs.is_command.Reads as reads
+use Rattle.frame.proofs.is_command.Lts as lts
+
+returns : tie.Need-returns
+unfolding isCommand
+returns c = search (needs, tests)
+
+returns-2 : tie.Need-returns-2
+unfolding isCommand
+returns-2 c = search (needs, tests)
+
+returns-3 : tie.Need-returns-3
+unfolding isCommand
+returns-3 c = search (needs, tests)
+
+pub is-command-spec : {M : Type 1} → statement M
+is-command-spec = tie.close (tie.spec returns returns-2 returns-3)

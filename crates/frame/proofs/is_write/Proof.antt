@@ -1,0 +1,22 @@
+use borrow.Author.Needs.{needs}
+use Rattle.unit.specs.Tests.{tests}
+use Rattle.frame.specs.Frame.{isWrite}
+use Rattle.frame.proofs.is_write.Statement.{statement}
+use Rattle.frame.proofs.is_write.Tie as tie
+use Rattle.frame.proofs.is_write.Reads as reads
+use Rattle.frame.proofs.is_write.Lts as lts
+
+returns : tie.Need-returns
+unfolding isWrite
+returns c = search (needs, tests)
+
+returns-2 : tie.Need-returns-2
+unfolding isWrite
+returns-2 c = search (needs, tests)
+
+returns-3 : tie.Need-returns-3
+unfolding isWrite
+returns-3 c = search (needs, tests)
+
+pub is-write-spec : {M : Type 1} → statement M
+is-write-spec = tie.close (tie.spec returns returns-2 returns-3)

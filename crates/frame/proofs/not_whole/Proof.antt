@@ -1,0 +1,22 @@
+use borrow.Author.Needs.{needs}
+use Rattle.unit.specs.Tests.{tests}
+use Rattle.frame.specs.Frame.{notWhole}
+use Rattle.frame.proofs.not_whole.Statement.{statement}
+use Rattle.frame.proofs.not_whole.Tie as tie
+use Rattle.frame.proofs.not_whole.Reads as reads
+use Rattle.frame.proofs.not_whole.Lts as lts
+
+returns : tie.Need-returns
+unfolding notWhole
+returns c = search (needs, tests)
+
+returns-2 : tie.Need-returns-2
+unfolding notWhole
+returns-2 c = search (needs, tests)
+
+returns-3 : tie.Need-returns-3
+unfolding notWhole
+returns-3 c = search (needs, tests)
+
+pub not-whole-spec : {M : Type 1} → statement M
+not-whole-spec = tie.close (tie.spec returns returns-2 returns-3)

@@ -1,0 +1,132 @@
+// One bus transaction's bytes: decoding the opcode and the lengths, and reading words.
+ghost use mathlib.Core.Path.{_≡_};
+ghost use Prim.Native.Nat.{_+_, _*_, _<_};
+ghost use lib.ListN.{length};
+ghost use Rattle.frame.specs.Frame.{isCommand, isWrite, isRead, notWhole, pastEnd, writeFrame, readFrame, decodeFrame, wordAt};
+
+// What the bytes ask for. A read or a write names its first register, as in the opcode, and how many words follow.
+// A refusal holds its number.
+pub enum Decoded {
+    Command(u32),
+    Read(u32, usize),
+    Write(u32, usize),
+    Refusal(u32),
+}
+
+fn byte(x: u8) -> u32
+    ensures { λ r. ⌜ (r ≡ x) × (r < 256) ⌝ }
+{
+    x as u32
+}
+
+fn is_command(op: u32) -> bool
+    ensures { λ r. ⌜ r ≡ isCommand op ⌝ }
+{
+    if 10 < op {
+        return false;
+    }
+    if op == 6 { false } else { true }
+}
+
+fn is_write(op: u32) -> bool
+    ensures { λ r. ⌜ r ≡ isWrite op ⌝ }
+{
+    if op < 0x30 {
+        return false;
+    }
+    if 0x43 < op { false } else { true }
+}
+
+fn is_read(op: u32) -> bool
+    ensures { λ r. ⌜ r ≡ isRead op ⌝ }
+{
+    if op < 0xb0 {
+        return false;
+    }
+    if 0xff < op { false } else { true }
+}
+
+// Whether the bytes after the opcode are other than one or more whole words.
+fn not_whole(further: usize) -> bool
+    ensures { λ r. ⌜ r ≡ notWhole further ⌝ }
+{
+    if further == 0 {
+        return true;
+    }
+    if further % 2 == 1 { true } else { false }
+}
+
+// Whether so many words from a register on go past the register before the end.
+fn past(op: u32, words: usize, end: u32) -> bool
+    ensures { λ r. ⌜ r ≡ pastEnd op words end ⌝ }
+{
+    if (end as usize) < words {
+        return true;
+    }
+    if (end as usize) - words < op as usize {
+        true
+    } else {
+        false
+    }
+}
+
+fn decode_write(op: u32, further: usize) -> Decoded
+    ensures { λ r. ⌜ r ≡ writeFrame op further ⌝ }
+{
+    if not_whole(further) {
+        return Decoded::Refusal(3);
+    }
+    let words = further / 2;
+    if past(op, words, 0x44) {
+        return Decoded::Refusal(4);
+    }
+    Decoded::Write(op, words)
+}
+
+fn decode_read(op: u32, further: usize, room: usize) -> Decoded
+    ensures { λ r. ⌜ r ≡ readFrame op further room ⌝ }
+{
+    if not_whole(further) {
+        return Decoded::Refusal(3);
+    }
+    let words = further / 2;
+    if past(op, words, 0x100) {
+        return Decoded::Refusal(4);
+    }
+    if room < 2 * words {
+        return Decoded::Refusal(5);
+    }
+    Decoded::Read(op, words)
+}
+
+// Decodes a transaction, given the room in the output buffer. A frame is judged by its first byte and its length alone.
+pub fn decode(frame: &[u8], room: usize) -> Decoded
+    ensures { λ r. ⌜ r ≡ decodeFrame (now (frame .entry)) room ⌝ }
+{
+    if frame.len() == 0 {
+        return Decoded::Refusal(1);
+    }
+    let op = byte(frame[0]);
+    let further = frame.len() - 1;
+    if is_command(op) {
+        if further == 0 {
+            return Decoded::Command(op);
+        }
+        return Decoded::Refusal(3);
+    }
+    if is_write(op) {
+        return decode_write(op, further);
+    }
+    if is_read(op) {
+        return decode_read(op, further, room);
+    }
+    Decoded::Refusal(2)
+}
+
+// The i-th word of some bytes, high byte first.
+pub fn word(bytes: &[u8], i: usize) -> u32
+    requires { ⌜ 2 * i + 1 < length (now bytes) ⌝ }
+    ensures { λ r. ⌜ r ≡ wordAt (now (bytes .entry)) i ⌝ }
+{
+    byte(bytes[2 * i]) * 256 + byte(bytes[2 * i + 1])
+}

@@ -1,0 +1,25 @@
+use Rattle.measurement.proofs.Limits.{quotient-below}
+use Rattle.unit.specs.Tests.{tests}
+use Rattle.measurement.specs.Words.{average}
+use borrow.Author.Needs.{needs}
+use Rattle.measurement.proofs.words.average_of.Statement.{statement}
+use Rattle.measurement.proofs.words.average_of.Tie as tie
+use Rattle.measurement.proofs.words.average_of.Reads as reads
+use Rattle.measurement.proofs.words.average_of.Lts as lts
+use Rattle.measurement.proofs.words.total.Reads as total-reads
+
+total-requires : tie.Need-total-requires
+total-requires c κs = search needs
+
+div-t5 : tie.Need-div-t5
+div-t5 c = search needs
+
+returns : tie.Need-returns
+unfolding average
+returns c = (
+  cc,
+  quotient-below (c .total .result) (c .before .args .n) 2147483648 (rw (c .total .ensures) (c .before .pre)),
+)
+
+pub average-of-spec : {M : Type 1} → statement M
+average-of-spec = tie.close (tie.spec total-requires div-t5 returns)

@@ -1,0 +1,14 @@
+use borrow.Author.Needs.{needs}
+use Rattle.unit.specs.Tests.{tests}
+use Rattle.measurement.specs.Words.{lostFour}
+use Rattle.measurement.proofs.words.lost_four.Statement.{statement}
+use Rattle.measurement.proofs.words.lost_four.Tie as tie
+use Rattle.measurement.proofs.words.lost_four.Reads as reads
+use Rattle.measurement.proofs.words.lost_four.Lts as lts
+
+returns : tie.Need-returns
+unfolding lostFour
+returns c = search (needs, tests)
+
+pub lost-four-spec : {M : Type 1} → statement M
+lost-four-spec = tie.close (tie.spec returns)

@@ -1,0 +1,14 @@
+use borrow.Author.Needs.{needs}
+use Rattle.unit.specs.Tests.{tests}
+use Rattle.measurement.specs.Words.{lost}
+use Rattle.measurement.proofs.words.lost_pairs.Statement.{statement}
+use Rattle.measurement.proofs.words.lost_pairs.Tie as tie
+use Rattle.measurement.proofs.words.lost_pairs.Reads as reads
+use Rattle.measurement.proofs.words.lost_pairs.Lts as lts
+
+returns : tie.Need-returns
+unfolding lost
+returns c = search (needs, tests)
+
+pub lost-pairs-spec : {M : Type 1} → statement M
+lost-pairs-spec = tie.close (tie.spec returns)

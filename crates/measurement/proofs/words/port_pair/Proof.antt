@@ -1,0 +1,18 @@
+use borrow.Author.Needs.{needs}
+use Rattle.unit.specs.Tests.{tests}
+use Rattle.measurement.specs.Words.{portPair}
+use Rattle.measurement.proofs.words.port_pair.Statement.{statement}
+use Rattle.measurement.proofs.words.port_pair.Tie as tie
+use Rattle.measurement.proofs.words.port_pair.Reads as reads
+use Rattle.measurement.proofs.words.port_pair.Lts as lts
+
+returns : tie.Need-returns
+unfolding portPair
+returns c = search (needs, tests)
+
+returns-2 : tie.Need-returns-2
+unfolding portPair
+returns-2 c = search (needs, tests)
+
+pub port-pair-spec : {M : Type 1} → statement M
+port-pair-spec = tie.close (tie.spec returns returns-2)

@@ -1,0 +1,18 @@
+use Rattle.unit.specs.Tests.{tests}
+use Rattle.register.specs.Setup.{alarmWord}
+use borrow.Author.Needs.{needs}
+use Rattle.register.proofs.alarm_word.Statement.{statement}
+use Rattle.register.proofs.alarm_word.Tie as tie
+use Rattle.register.proofs.alarm_word.Reads as reads
+use Rattle.register.proofs.alarm_word.Lts as lts
+use Rattle.register.proofs.word.Reads as word-reads
+
+word-requires : tie.Need-word-requires
+word-requires c κs = search needs
+
+returns : tie.Need-returns
+unfolding alarmWord
+returns c = search (needs, tests)
+
+pub alarm-word-spec : {M : Type 1} → statement M
+alarm-word-spec = tie.close (tie.spec word-requires returns)

@@ -1,0 +1,21 @@
+use Rattle.unit.specs.Tests.{tests}
+use Rattle.register.specs.Setup.{differenceCount}
+use borrow.Author.Needs.{needs}
+use Rattle.register.proofs.difference_count.Statement.{statement}
+use Rattle.register.proofs.difference_count.Tie as tie
+use Rattle.register.proofs.difference_count.Reads as reads
+use Rattle.register.proofs.difference_count.Lts as lts
+use Rattle.register.proofs.word.Reads as word-reads
+
+word-requires : tie.Need-word-requires
+word-requires c κs = search needs
+
+add-result : tie.Need-add-result
+add-result c = search needs
+
+returns : tie.Need-returns
+unfolding differenceCount
+returns c = search (needs, tests)
+
+pub difference-count-spec : {M : Type 1} → statement M
+difference-count-spec = tie.close (tie.spec word-requires add-result returns)

@@ -1,0 +1,22 @@
+use Rattle.unit.specs.Tests.{tests}
+use Rattle.register.specs.Setup.{eachInterrupt}
+use borrow.Author.Needs.{needs}
+use Rattle.register.proofs.each_interrupt.Statement.{statement}
+use Rattle.register.proofs.each_interrupt.Tie as tie
+use Rattle.register.proofs.each_interrupt.Reads as reads
+use Rattle.register.proofs.each_interrupt.Lts as lts
+use Rattle.register.proofs.word.Reads as word-reads
+
+word-requires : tie.Need-word-requires
+word-requires c κs = search needs
+
+returns : tie.Need-returns
+unfolding eachInterrupt
+returns c = search (needs, tests, c .if1 .taken, ← c .before .word .ensures)
+
+returns-2 : tie.Need-returns-2
+unfolding eachInterrupt
+returns-2 c = search (needs, tests, c .if1 .left, ← c .before .word .ensures)
+
+pub each-interrupt-spec : {M : Type 1} → statement M
+each-interrupt-spec = tie.close (tie.spec word-requires returns returns-2)

@@ -1,0 +1,21 @@
+use Rattle.unit.specs.Tests.{tests}
+use Rattle.register.specs.Setup.{temperatureCount}
+use borrow.Author.Needs.{needs}
+use Rattle.register.proofs.temperature_count.Statement.{statement}
+use Rattle.register.proofs.temperature_count.Tie as tie
+use Rattle.register.proofs.temperature_count.Reads as reads
+use Rattle.register.proofs.temperature_count.Lts as lts
+use Rattle.register.proofs.word.Reads as word-reads
+
+word-requires : tie.Need-word-requires
+word-requires c κs = search needs
+
+add-result : tie.Need-add-result
+add-result c = search needs
+
+returns : tie.Need-returns
+unfolding temperatureCount
+returns c = search (needs, tests)
+
+pub temperature-count-spec : {M : Type 1} → statement M
+temperature-count-spec = tie.close (tie.spec word-requires add-result returns)

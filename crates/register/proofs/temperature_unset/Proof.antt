@@ -1,0 +1,22 @@
+use Rattle.unit.specs.Tests.{tests}
+use Rattle.register.specs.Setup.{temperatureUnset}
+use borrow.Author.Needs.{needs}
+use Rattle.register.proofs.temperature_unset.Statement.{statement}
+use Rattle.register.proofs.temperature_unset.Tie as tie
+use Rattle.register.proofs.temperature_unset.Reads as reads
+use Rattle.register.proofs.temperature_unset.Lts as lts
+use Rattle.register.proofs.word.Reads as word-reads
+
+word-requires : tie.Need-word-requires
+word-requires c κs = search needs
+
+returns : tie.Need-returns
+unfolding temperatureUnset
+returns c = search (needs, tests, c .if1 .taken, ← c .before .word .ensures)
+
+returns-2 : tie.Need-returns-2
+unfolding temperatureUnset
+returns-2 c = search (needs, tests, c .if1 .left, ← c .before .word .ensures)
+
+pub temperature-unset-spec : {M : Type 1} → statement M
+temperature-unset-spec = tie.close (tie.spec word-requires returns returns-2)

@@ -1,0 +1,18 @@
+use Rattle.unit.specs.Tests.{tests}
+use Rattle.register.specs.Setup.{timeout}
+use borrow.Author.Needs.{needs}
+use Rattle.register.proofs.timeout_code.Statement.{statement}
+use Rattle.register.proofs.timeout_code.Tie as tie
+use Rattle.register.proofs.timeout_code.Reads as reads
+use Rattle.register.proofs.timeout_code.Lts as lts
+use Rattle.register.proofs.word.Reads as word-reads
+
+word-requires : tie.Need-word-requires
+word-requires c κs = search needs
+
+returns : tie.Need-returns
+unfolding timeout
+returns c = search (needs, tests)
+
+pub timeout-code-spec : {M : Type 1} → statement M
+timeout-code-spec = tie.close (tie.spec word-requires returns)

@@ -1,0 +1,151 @@
+// The bit fields of the set-up registers 34h to 43h. A set-up is the sixteen words, 34h first.
+ghost use mathlib.Core.Path.{_≡_};
+ghost use Prim.Native.Nat.{_<_};
+ghost use lib.ListN.{getD};
+ghost use Rattle.register.specs.Setup.{factory, alarmWord, hitCount, timeout, portCycle, flightUnset, temperatureUnset, eventUnset, differencePeriod, differenceCount, temperaturePeriod, temperatureCount, interruptEnabled, eachInterrupt, clockStands, alarmMode};
+use unit::Ticks;
+
+// The word at a place of the set-up.
+fn word(s: [u16; 16], i: usize) -> u32
+    requires { ⌜ i < 16 ⌝ }
+    ensures { λ r. ⌜ r ≡ getD s i 0 ⌝ }
+{
+    wide(s[i])
+}
+
+fn wide(x: u16) -> u32
+    ensures { λ r. ⌜ r ≡ x ⌝ }
+{
+    x as u32
+}
+
+// The factory values.
+pub fn factory_setup() -> [u16; 16]
+    ensures { λ r. ⌜ r ≡ factory ⌝ }
+{
+    [0, 0, 0, 0, 16, 0, 0, 0, 0, 0, 0, 0, 0, 0, 0, 0]
+}
+
+pub fn alarm_word(s: [u16; 16]) -> u32
+    ensures { λ r. ⌜ r ≡ alarmWord s ⌝ }
+{
+    word(s, 1)
+}
+
+// H, the number of hits of each measured direction.
+pub fn hits(s: [u16; 16]) -> u32
+    ensures { λ r. ⌜ r ≡ hitCount s ⌝ }
+{
+    let n = word(s, 5) / 8192 % 8 + 1;
+    if 6 < n { 6 } else { n }
+}
+
+// TIMOUT.
+pub fn timeout_code(s: [u16; 16]) -> u32
+    ensures { λ r. ⌜ r ≡ timeout s ⌝ }
+{
+    word(s, 5) % 8
+}
+
+// PORTCYC.
+pub fn port_cycle(s: [u16; 16]) -> u32
+    ensures { λ r. ⌜ r ≡ portCycle s ⌝ }
+{
+    word(s, 12) % 4
+}
+
+// PL or DPL is zero.
+pub fn flight_unset(s: [u16; 16]) -> bool
+    ensures { λ r. ⌜ r ≡ flightUnset s ⌝ }
+{
+    let w = word(s, 4);
+    if w / 256 % 256 == 0 {
+        return true;
+    }
+    if w / 16 % 16 == 0 { true } else { false }
+}
+
+// TP does not select all four ports.
+pub fn temperature_unset(s: [u16; 16]) -> bool
+    ensures { λ r. ⌜ r ≡ temperatureUnset s ⌝ }
+{
+    if word(s, 12) / 32 % 4 == 3 {
+        false
+    } else {
+        true
+    }
+}
+
+// EOSC.
+pub fn clock_stands(s: [u16; 16]) -> bool
+    ensures { λ r. ⌜ r ≡ clockStands s ⌝ }
+{
+    if word(s, 15) / 16 % 2 == 1 {
+        true
+    } else {
+        false
+    }
+}
+
+// ET_CONT or EOSC is one.
+pub fn event_unset(s: [u16; 16]) -> bool
+    ensures { λ r. ⌜ r ≡ eventUnset s ⌝ }
+{
+    if word(s, 14) / 256 % 2 == 1 {
+        return true;
+    }
+    clock_stands(s)
+}
+
+pub fn difference_period(s: [u16; 16]) -> Ticks
+    ensures { λ r. ⌜ r ≡ differencePeriod s ⌝ }
+{
+    Ticks(16384 * (word(s, 11) / 4096 % 16 + 1))
+}
+
+pub fn difference_count(s: [u16; 16]) -> u32
+    ensures { λ r. ⌜ r ≡ differenceCount s ⌝ }
+{
+    word(s, 11) / 128 % 32 + 1
+}
+
+pub fn temperature_period(s: [u16; 16]) -> Ticks
+    ensures { λ r. ⌜ r ≡ temperaturePeriod s ⌝ }
+{
+    Ticks(32768 * (word(s, 11) / 2 % 64 + 1))
+}
+
+pub fn temperature_count(s: [u16; 16]) -> u32
+    ensures { λ r. ⌜ r ≡ temperatureCount s ⌝ }
+{
+    word(s, 12) / 2048 % 32 + 1
+}
+
+// INT_EN.
+pub fn interrupt_enabled(s: [u16; 16]) -> bool
+    ensures { λ r. ⌜ r ≡ interruptEnabled s ⌝ }
+{
+    if word(s, 14) / 512 % 2 == 1 {
+        true
+    } else {
+        false
+    }
+}
+
+// CONT_INT.
+pub fn each_interrupt(s: [u16; 16]) -> bool
+    ensures { λ r. ⌜ r ≡ eachInterrupt s ⌝ }
+{
+    if word(s, 14) / 128 % 2 == 1 {
+        true
+    } else {
+        false
+    }
+}
+
+// AM.
+pub fn alarm_mode(s: [u16; 16]) -> u32
+    ensures { λ r. ⌜ r ≡ alarmMode s ⌝ }
+{
+    word(s, 15) / 4 % 4
+}

@@ -1,3 +1,4 @@
 pub mod Calendar
 pub mod Words
 pub mod Alarm
+pub mod Moment

@@ -1,6 +1,6 @@
 // The clock one tick later. Each unit carries into the next larger one.
 ghost use mathlib.Core.Path.{_≡_};
-ghost use Rattle.calendar.specs.Calendar.{tickClock, nextSecond, nextMinute, nextHour, nextDate, nextMonth, nextYear};
+ghost use Rattle.calendar.specs.Calendar.{tickClock, nextSecond, nextMinute, nextHour, nextDate, nextMonth, nextYear, nextWeekday};
 use crate::Clock;
 use crate::date::length_of_month;
 use unit::Ticks;
@@ -44,7 +44,7 @@ fn next_date(c: Clock) -> Clock
 }
 
 fn next_weekday(weekday: u32) -> u32
-    ensures { λ r. ⌜ r ≡ Rattle.calendar.specs.Calendar.nextWeekday weekday ⌝ }
+    ensures { λ r. ⌜ r ≡ nextWeekday weekday ⌝ }
 {
     if 7 <= weekday { 1 } else { weekday + 1 }
 }

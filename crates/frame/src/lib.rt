@@ -126,7 +126,7 @@ pub fn decode(frame: &[u8], room: usize) -> Decoded
 // The i-th word of some bytes, high byte first.
 pub fn word(bytes: &[u8], i: usize) -> u32
     requires { ⌜ 2 * i + 1 < length (now bytes) ⌝ }
-    ensures { λ r. ⌜ r ≡ wordAt (now (bytes .entry)) i ⌝ }
+    ensures { λ r. ⌜ (r ≡ wordAt (now (bytes .entry)) i) × (r < 65536) ⌝ }
 {
     byte(bytes[2 * i]) * 256 + byte(bytes[2 * i + 1])
 }

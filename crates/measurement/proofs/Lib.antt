@@ -1,1 +1,6 @@
 pub mod Limits
+pub mod Sum
+pub mod Integer
+pub mod Mean
+pub mod Ports
+pub mod Meaning

@@ -1,3 +1,4 @@
 pub mod Limit
 pub mod Words
 pub mod Difference
+pub mod Mean

@@ -14,7 +14,7 @@ pub fn difference_word(up: Quanta, down: Quanta) -> u32
 
 pub fn biased_difference(up: Quanta, down: Quanta) -> u64
     requires { ⌜ (up .0 < 2147483648) × (down .0 < 2147483648) ⌝ }
-    ensures { λ r. ⌜ r ≡ biased up down ⌝ }
+    ensures { λ r. ⌜ (r ≡ biased up down) × (r < 4294967296) ⌝ }
 {
     up.0 + 2147483648 - down.0
 }

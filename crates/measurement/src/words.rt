@@ -2,7 +2,7 @@
 ghost use mathlib.Core.Path.{_≡_};
 ghost use Prim.Native.Nat.{_<_, _≤_, _*_, _/_, _+_};
 ghost use lib.ListN.{getD};
-ghost use Rattle.measurement.specs.Words.{wordOrZero, six, four, sixTotal, average, filled, lost, lostFour, plusEach};
+ghost use Rattle.measurement.specs.Words.{wordOrZero, six, four, sixTotal, average, filled, lost, lostFour, plusEach, portPair, portPairs};
 use unit::Quanta;
 
 fn word_or_zero(words: &[u32], i: usize) -> u32
@@ -81,7 +81,7 @@ pub fn lost_pairs() -> [u32; 7]
 
 // A port's pair: FFFFh FFFFh where the word is open.
 pub fn port_pair(limit: Quanta, word: u32) -> u32
-    ensures { λ r. ⌜ r ≡ Rattle.measurement.specs.Words.portPair limit word ⌝ }
+    ensures { λ r. ⌜ r ≡ portPair limit word ⌝ }
 {
     if limit.0 <= word as u64 {
         4294967295
@@ -91,7 +91,7 @@ pub fn port_pair(limit: Quanta, word: u32) -> u32
 }
 
 pub fn port_pairs(limit: Quanta, w: [u32; 4]) -> [u32; 4]
-    ensures { λ r. ⌜ r ≡ Rattle.measurement.specs.Words.portPairs limit w ⌝ }
+    ensures { λ r. ⌜ r ≡ portPairs limit w ⌝ }
 {
     let a = port_pair(limit, w[0]);
     let b = port_pair(limit, w[1]);

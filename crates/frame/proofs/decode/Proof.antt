@@ -3,14 +3,6 @@ use Rattle.frame.specs.Frame.{decodeFrame}
 use borrow.Author.Needs.{needs}
 use Rattle.frame.proofs.decode.Statement.{statement}
 use Rattle.frame.proofs.decode.Tie as tie
-use Rattle.frame.proofs.decode.Reads as reads
-use Rattle.frame.proofs.decode.Lts as lts
-use Rattle.frame.proofs.byte.Reads as byte-reads
-use Rattle.frame.proofs.decode_read.Reads as decode-read-reads
-use Rattle.frame.proofs.decode_write.Reads as decode-write-reads
-use Rattle.frame.proofs.is_command.Reads as is-command-reads
-use Rattle.frame.proofs.is_read.Reads as is-read-reads
-use Rattle.frame.proofs.is_write.Reads as is-write-reads
 
 returns : tie.Need-returns
 unfolding decodeFrame

@@ -3,10 +3,6 @@ use Rattle.frame.specs.Frame.{readFrame}
 use borrow.Author.Needs.{needs}
 use Rattle.frame.proofs.decode_read.Statement.{statement}
 use Rattle.frame.proofs.decode_read.Tie as tie
-use Rattle.frame.proofs.decode_read.Reads as reads
-use Rattle.frame.proofs.decode_read.Lts as lts
-use Rattle.frame.proofs.not_whole.Reads as not-whole-reads
-use Rattle.frame.proofs.past.Reads as past-reads
 
 not-whole-requires : tie.Need-not-whole-requires
 not-whole-requires c κs = search needs

@@ -3,10 +3,6 @@ use Rattle.frame.specs.Frame.{writeFrame}
 use borrow.Author.Needs.{needs}
 use Rattle.frame.proofs.decode_write.Statement.{statement}
 use Rattle.frame.proofs.decode_write.Tie as tie
-use Rattle.frame.proofs.decode_write.Reads as reads
-use Rattle.frame.proofs.decode_write.Lts as lts
-use Rattle.frame.proofs.not_whole.Reads as not-whole-reads
-use Rattle.frame.proofs.past.Reads as past-reads
 
 not-whole-requires : tie.Need-not-whole-requires
 not-whole-requires c κs = search needs

@@ -3,8 +3,6 @@ use Rattle.unit.specs.Tests.{tests}
 use Rattle.frame.specs.Frame.{isCommand}
 use Rattle.frame.proofs.is_command.Statement.{statement}
 use Rattle.frame.proofs.is_command.Tie as tie
-use Rattle.frame.proofs.is_command.Reads as reads
-use Rattle.frame.proofs.is_command.Lts as lts
 
 returns : tie.Need-returns
 unfolding isCommand

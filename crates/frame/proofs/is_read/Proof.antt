@@ -3,8 +3,6 @@ use Rattle.unit.specs.Tests.{tests}
 use Rattle.frame.specs.Frame.{isRead}
 use Rattle.frame.proofs.is_read.Statement.{statement}
 use Rattle.frame.proofs.is_read.Tie as tie
-use Rattle.frame.proofs.is_read.Reads as reads
-use Rattle.frame.proofs.is_read.Lts as lts
 
 returns : tie.Need-returns
 unfolding isRead

@@ -3,8 +3,6 @@ use Rattle.unit.specs.Tests.{tests}
 use Rattle.frame.specs.Frame.{isWrite}
 use Rattle.frame.proofs.is_write.Statement.{statement}
 use Rattle.frame.proofs.is_write.Tie as tie
-use Rattle.frame.proofs.is_write.Reads as reads
-use Rattle.frame.proofs.is_write.Lts as lts
 
 returns : tie.Need-returns
 unfolding isWrite

@@ -3,8 +3,6 @@ use Rattle.unit.specs.Tests.{tests}
 use Rattle.frame.specs.Frame.{notWhole}
 use Rattle.frame.proofs.not_whole.Statement.{statement}
 use Rattle.frame.proofs.not_whole.Tie as tie
-use Rattle.frame.proofs.not_whole.Reads as reads
-use Rattle.frame.proofs.not_whole.Lts as lts
 
 returns : tie.Need-returns
 unfolding notWhole

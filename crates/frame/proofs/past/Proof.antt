@@ -3,8 +3,6 @@ use Rattle.frame.specs.Frame.{pastEnd}
 use borrow.Author.Needs.{needs}
 use Rattle.frame.proofs.past.Statement.{statement}
 use Rattle.frame.proofs.past.Tie as tie
-use Rattle.frame.proofs.past.Reads as reads
-use Rattle.frame.proofs.past.Lts as lts
 
 returns : tie.Need-returns
 unfolding pastEnd

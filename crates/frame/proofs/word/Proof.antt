@@ -3,9 +3,6 @@ use Rattle.frame.specs.Frame.{wordAt}
 use borrow.Author.Needs.{needs}
 use Rattle.frame.proofs.word.Statement.{statement}
 use Rattle.frame.proofs.word.Tie as tie
-use Rattle.frame.proofs.word.Reads as reads
-use Rattle.frame.proofs.word.Lts as lts
-use Rattle.frame.proofs.byte.Reads as byte-reads
 
 mul-byte : tie.Need-mul-byte
 mul-byte c = search needs

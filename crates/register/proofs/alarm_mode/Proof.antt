@@ -3,9 +3,6 @@ use Rattle.register.specs.Setup.{alarmMode}
 use borrow.Author.Needs.{needs}
 use Rattle.register.proofs.alarm_mode.Statement.{statement}
 use Rattle.register.proofs.alarm_mode.Tie as tie
-use Rattle.register.proofs.alarm_mode.Reads as reads
-use Rattle.register.proofs.alarm_mode.Lts as lts
-use Rattle.register.proofs.word.Reads as word-reads
 
 word-requires : tie.Need-word-requires
 word-requires c κs = search needs

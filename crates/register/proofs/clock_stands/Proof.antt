@@ -3,9 +3,6 @@ use Rattle.register.specs.Setup.{clockStands}
 use borrow.Author.Needs.{needs}
 use Rattle.register.proofs.clock_stands.Statement.{statement}
 use Rattle.register.proofs.clock_stands.Tie as tie
-use Rattle.register.proofs.clock_stands.Reads as reads
-use Rattle.register.proofs.clock_stands.Lts as lts
-use Rattle.register.proofs.word.Reads as word-reads
 
 word-requires : tie.Need-word-requires
 word-requires c κs = search needs

@@ -3,9 +3,6 @@ use Rattle.register.specs.Setup.{differencePeriod}
 use borrow.Author.Needs.{needs}
 use Rattle.register.proofs.difference_period.Statement.{statement}
 use Rattle.register.proofs.difference_period.Tie as tie
-use Rattle.register.proofs.difference_period.Reads as reads
-use Rattle.register.proofs.difference_period.Lts as lts
-use Rattle.register.proofs.word.Reads as word-reads
 
 word-requires : tie.Need-word-requires
 word-requires c κs = search needs

@@ -3,9 +3,6 @@ use Rattle.register.specs.Setup.{eachInterrupt}
 use borrow.Author.Needs.{needs}
 use Rattle.register.proofs.each_interrupt.Statement.{statement}
 use Rattle.register.proofs.each_interrupt.Tie as tie
-use Rattle.register.proofs.each_interrupt.Reads as reads
-use Rattle.register.proofs.each_interrupt.Lts as lts
-use Rattle.register.proofs.word.Reads as word-reads
 
 word-requires : tie.Need-word-requires
 word-requires c κs = search needs

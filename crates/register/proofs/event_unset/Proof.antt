@@ -3,10 +3,6 @@ use Rattle.register.specs.Setup.{eventUnset}
 use borrow.Author.Needs.{needs}
 use Rattle.register.proofs.event_unset.Statement.{statement}
 use Rattle.register.proofs.event_unset.Tie as tie
-use Rattle.register.proofs.event_unset.Reads as reads
-use Rattle.register.proofs.event_unset.Lts as lts
-use Rattle.register.proofs.clock_stands.Reads as clock-stands-reads
-use Rattle.register.proofs.word.Reads as word-reads
 
 word-requires : tie.Need-word-requires
 word-requires c κs = search needs

@@ -3,8 +3,6 @@ use Rattle.unit.specs.Tests.{tests}
 use Rattle.register.specs.Setup.{factory}
 use Rattle.register.proofs.factory_setup.Statement.{statement}
 use Rattle.register.proofs.factory_setup.Tie as tie
-use Rattle.register.proofs.factory_setup.Reads as reads
-use Rattle.register.proofs.factory_setup.Lts as lts
 
 returns : tie.Need-returns
 unfolding factory

@@ -3,9 +3,6 @@ use Rattle.register.specs.Setup.{flightUnset}
 use borrow.Author.Needs.{needs}
 use Rattle.register.proofs.flight_unset.Statement.{statement}
 use Rattle.register.proofs.flight_unset.Tie as tie
-use Rattle.register.proofs.flight_unset.Reads as reads
-use Rattle.register.proofs.flight_unset.Lts as lts
-use Rattle.register.proofs.word.Reads as word-reads
 
 word-requires : tie.Need-word-requires
 word-requires c κs = search needs

@@ -3,9 +3,6 @@ use Rattle.register.specs.Setup.{hitCount}
 use borrow.Author.Needs.{needs}
 use Rattle.register.proofs.hits.Statement.{statement}
 use Rattle.register.proofs.hits.Tie as tie
-use Rattle.register.proofs.hits.Reads as reads
-use Rattle.register.proofs.hits.Lts as lts
-use Rattle.register.proofs.word.Reads as word-reads
 
 word-requires : tie.Need-word-requires
 word-requires c κs = search needs

@@ -3,9 +3,6 @@ use Rattle.register.specs.Setup.{interruptEnabled}
 use borrow.Author.Needs.{needs}
 use Rattle.register.proofs.interrupt_enabled.Statement.{statement}
 use Rattle.register.proofs.interrupt_enabled.Tie as tie
-use Rattle.register.proofs.interrupt_enabled.Reads as reads
-use Rattle.register.proofs.interrupt_enabled.Lts as lts
-use Rattle.register.proofs.word.Reads as word-reads
 
 word-requires : tie.Need-word-requires
 word-requires c κs = search needs

@@ -3,9 +3,6 @@ use Rattle.register.specs.Setup.{portCycle}
 use borrow.Author.Needs.{needs}
 use Rattle.register.proofs.port_cycle.Statement.{statement}
 use Rattle.register.proofs.port_cycle.Tie as tie
-use Rattle.register.proofs.port_cycle.Reads as reads
-use Rattle.register.proofs.port_cycle.Lts as lts
-use Rattle.register.proofs.word.Reads as word-reads
 
 word-requires : tie.Need-word-requires
 word-requires c κs = search needs

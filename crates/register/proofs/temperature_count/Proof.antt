@@ -3,9 +3,6 @@ use Rattle.register.specs.Setup.{temperatureCount}
 use borrow.Author.Needs.{needs}
 use Rattle.register.proofs.temperature_count.Statement.{statement}
 use Rattle.register.proofs.temperature_count.Tie as tie
-use Rattle.register.proofs.temperature_count.Reads as reads
-use Rattle.register.proofs.temperature_count.Lts as lts
-use Rattle.register.proofs.word.Reads as word-reads
 
 word-requires : tie.Need-word-requires
 word-requires c κs = search needs

@@ -3,9 +3,6 @@ use Rattle.register.specs.Setup.{temperatureUnset}
 use borrow.Author.Needs.{needs}
 use Rattle.register.proofs.temperature_unset.Statement.{statement}
 use Rattle.register.proofs.temperature_unset.Tie as tie
-use Rattle.register.proofs.temperature_unset.Reads as reads
-use Rattle.register.proofs.temperature_unset.Lts as lts
-use Rattle.register.proofs.word.Reads as word-reads
 
 word-requires : tie.Need-word-requires
 word-requires c κs = search needs

@@ -3,9 +3,6 @@ use Rattle.register.specs.Setup.{timeout}
 use borrow.Author.Needs.{needs}
 use Rattle.register.proofs.timeout_code.Statement.{statement}
 use Rattle.register.proofs.timeout_code.Tie as tie
-use Rattle.register.proofs.timeout_code.Reads as reads
-use Rattle.register.proofs.timeout_code.Lts as lts
-use Rattle.register.proofs.word.Reads as word-reads
 
 word-requires : tie.Need-word-requires
 word-requires c κs = search needs

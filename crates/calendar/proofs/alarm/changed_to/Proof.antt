@@ -3,8 +3,6 @@ use Rattle.unit.specs.Tests.{tests}
 use Rattle.calendar.specs.Alarm.{reaches}
 use Rattle.calendar.proofs.alarm.changed_to.Statement.{statement}
 use Rattle.calendar.proofs.alarm.changed_to.Tie as tie
-use Rattle.calendar.proofs.alarm.changed_to.Reads as reads
-use Rattle.calendar.proofs.alarm.changed_to.Lts as lts
 
 returns : tie.Need-returns
 unfolding reaches

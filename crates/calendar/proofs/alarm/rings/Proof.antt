@@ -4,11 +4,6 @@ use Rattle.calendar.specs.Alarm.{alarmRings}
 use borrow.Author.Needs.{needs}
 use Rattle.calendar.proofs.alarm.rings.Statement.{statement}
 use Rattle.calendar.proofs.alarm.rings.Tie as tie
-use Rattle.calendar.proofs.alarm.rings.Reads as reads
-use Rattle.calendar.proofs.alarm.rings.Lts as lts
-use Rattle.calendar.proofs.alarm.changed_to.Reads as changed-to-reads
-use Rattle.calendar.proofs.words.hour_in.Reads as hour-in-reads
-use Rattle.calendar.proofs.words.minute_in.Reads as minute-in-reads
 
 minute-in-requires : tie.Need-minute-in-requires
 minute-in-requires c κs = search needs

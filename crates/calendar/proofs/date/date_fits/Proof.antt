@@ -3,9 +3,6 @@ use Rattle.calendar.specs.Calendar.{dateFits}
 use borrow.Author.Needs.{needs}
 use Rattle.calendar.proofs.date.date_fits.Statement.{statement}
 use Rattle.calendar.proofs.date.date_fits.Tie as tie
-use Rattle.calendar.proofs.date.date_fits.Reads as reads
-use Rattle.calendar.proofs.date.date_fits.Lts as lts
-use Rattle.calendar.proofs.date.length_of_month.Reads as length-of-month-reads
 
 returns : tie.Need-returns
 unfolding dateFits

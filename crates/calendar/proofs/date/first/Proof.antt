@@ -3,8 +3,6 @@ use Rattle.unit.specs.Tests.{tests}
 use Rattle.calendar.specs.Calendar.{start}
 use Rattle.calendar.proofs.date.first.Statement.{statement}
 use Rattle.calendar.proofs.date.first.Tie as tie
-use Rattle.calendar.proofs.date.first.Reads as reads
-use Rattle.calendar.proofs.date.first.Lts as lts
 
 returns : tie.Need-returns
 unfolding start

@@ -3,8 +3,6 @@ use Rattle.unit.specs.Tests.{tests}
 use Rattle.calendar.specs.Calendar.{leap}
 use Rattle.calendar.proofs.date.leap_year.Statement.{statement}
 use Rattle.calendar.proofs.date.leap_year.Tie as tie
-use Rattle.calendar.proofs.date.leap_year.Reads as reads
-use Rattle.calendar.proofs.date.leap_year.Lts as lts
 
 returns : tie.Need-returns
 unfolding leap

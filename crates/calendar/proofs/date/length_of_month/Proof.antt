@@ -3,9 +3,6 @@ use Rattle.calendar.specs.Calendar.{monthLength}
 use borrow.Author.Needs.{needs}
 use Rattle.calendar.proofs.date.length_of_month.Statement.{statement}
 use Rattle.calendar.proofs.date.length_of_month.Tie as tie
-use Rattle.calendar.proofs.date.length_of_month.Reads as reads
-use Rattle.calendar.proofs.date.length_of_month.Lts as lts
-use Rattle.calendar.proofs.date.leap_year.Reads as leap-year-reads
 
 leap-year-requires : tie.Need-leap-year-requires
 leap-year-requires c κs = search needs

@@ -3,8 +3,6 @@ use Rattle.unit.specs.Tests.{tests}
 use Rattle.calendar.specs.Calendar.{timeFits}
 use Rattle.calendar.proofs.date.time_fits.Statement.{statement}
 use Rattle.calendar.proofs.date.time_fits.Tie as tie
-use Rattle.calendar.proofs.date.time_fits.Reads as reads
-use Rattle.calendar.proofs.date.time_fits.Lts as lts
 
 returns : tie.Need-returns
 unfolding timeFits

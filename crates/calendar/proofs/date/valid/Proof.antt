@@ -3,10 +3,6 @@ use Rattle.calendar.specs.Calendar.{clockValid}
 use borrow.Author.Needs.{needs}
 use Rattle.calendar.proofs.date.valid.Statement.{statement}
 use Rattle.calendar.proofs.date.valid.Tie as tie
-use Rattle.calendar.proofs.date.valid.Reads as reads
-use Rattle.calendar.proofs.date.valid.Lts as lts
-use Rattle.calendar.proofs.date.date_fits.Reads as date-fits-reads
-use Rattle.calendar.proofs.date.time_fits.Reads as time-fits-reads
 
 date-fits-requires : tie.Need-date-fits-requires
 date-fits-requires c κs = search needs

@@ -3,11 +3,6 @@ use Rattle.calendar.specs.Calendar.{nextDate}
 use borrow.Author.Needs.{needs}
 use Rattle.calendar.proofs.step.next_date.Statement.{statement}
 use Rattle.calendar.proofs.step.next_date.Tie as tie
-use Rattle.calendar.proofs.step.next_date.Reads as reads
-use Rattle.calendar.proofs.step.next_date.Lts as lts
-use Rattle.calendar.proofs.date.length_of_month.Reads as length-of-month-reads
-use Rattle.calendar.proofs.step.next_month.Reads as next-month-reads
-use Rattle.calendar.proofs.step.next_weekday.Reads as next-weekday-reads
 
 next-weekday-requires : tie.Need-next-weekday-requires
 next-weekday-requires c κs = search needs

@@ -3,9 +3,6 @@ use Rattle.calendar.specs.Calendar.{nextHour}
 use borrow.Author.Needs.{needs}
 use Rattle.calendar.proofs.step.next_hour.Statement.{statement}
 use Rattle.calendar.proofs.step.next_hour.Tie as tie
-use Rattle.calendar.proofs.step.next_hour.Reads as reads
-use Rattle.calendar.proofs.step.next_hour.Lts as lts
-use Rattle.calendar.proofs.step.next_date.Reads as next-date-reads
 
 next-date-requires : tie.Need-next-date-requires
 next-date-requires c κs = search needs

@@ -3,9 +3,6 @@ use Rattle.calendar.specs.Calendar.{nextMinute}
 use borrow.Author.Needs.{needs}
 use Rattle.calendar.proofs.step.next_minute.Statement.{statement}
 use Rattle.calendar.proofs.step.next_minute.Tie as tie
-use Rattle.calendar.proofs.step.next_minute.Reads as reads
-use Rattle.calendar.proofs.step.next_minute.Lts as lts
-use Rattle.calendar.proofs.step.next_hour.Reads as next-hour-reads
 
 next-hour-requires : tie.Need-next-hour-requires
 next-hour-requires c κs = search needs

@@ -3,9 +3,6 @@ use Rattle.calendar.specs.Calendar.{nextMonth}
 use borrow.Author.Needs.{needs}
 use Rattle.calendar.proofs.step.next_month.Statement.{statement}
 use Rattle.calendar.proofs.step.next_month.Tie as tie
-use Rattle.calendar.proofs.step.next_month.Reads as reads
-use Rattle.calendar.proofs.step.next_month.Lts as lts
-use Rattle.calendar.proofs.step.next_year.Reads as next-year-reads
 
 next-year-requires : tie.Need-next-year-requires
 next-year-requires c κs = search needs

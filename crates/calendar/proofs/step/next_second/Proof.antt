@@ -3,9 +3,6 @@ use Rattle.calendar.specs.Calendar.{nextSecond}
 use borrow.Author.Needs.{needs}
 use Rattle.calendar.proofs.step.next_second.Statement.{statement}
 use Rattle.calendar.proofs.step.next_second.Tie as tie
-use Rattle.calendar.proofs.step.next_second.Reads as reads
-use Rattle.calendar.proofs.step.next_second.Lts as lts
-use Rattle.calendar.proofs.step.next_minute.Reads as next-minute-reads
 
 next-minute-requires : tie.Need-next-minute-requires
 next-minute-requires c κs = search needs

@@ -3,8 +3,6 @@ use Rattle.calendar.specs.Calendar.{nextWeekday}
 use borrow.Author.Needs.{needs}
 use Rattle.calendar.proofs.step.next_weekday.Statement.{statement}
 use Rattle.calendar.proofs.step.next_weekday.Tie as tie
-use Rattle.calendar.proofs.step.next_weekday.Reads as reads
-use Rattle.calendar.proofs.step.next_weekday.Lts as lts
 
 add-result : tie.Need-add-result
 add-result c = search needs

@@ -3,8 +3,6 @@ use Rattle.calendar.specs.Calendar.{nextYear}
 use borrow.Author.Needs.{needs}
 use Rattle.calendar.proofs.step.next_year.Statement.{statement}
 use Rattle.calendar.proofs.step.next_year.Tie as tie
-use Rattle.calendar.proofs.step.next_year.Reads as reads
-use Rattle.calendar.proofs.step.next_year.Lts as lts
 
 returns : tie.Need-returns
 unfolding nextYear

@@ -3,9 +3,6 @@ use Rattle.calendar.specs.Calendar.{tickClock}
 use borrow.Author.Needs.{needs}
 use Rattle.calendar.proofs.step.tick.Statement.{statement}
 use Rattle.calendar.proofs.step.tick.Tie as tie
-use Rattle.calendar.proofs.step.tick.Reads as reads
-use Rattle.calendar.proofs.step.tick.Lts as lts
-use Rattle.calendar.proofs.step.next_second.Reads as next-second-reads
 
 next-second-requires : tie.Need-next-second-requires
 next-second-requires c κs = search needs

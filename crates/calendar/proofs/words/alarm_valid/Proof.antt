@@ -3,11 +3,6 @@ use Rattle.calendar.specs.Words.{alarmValid}
 use borrow.Author.Needs.{needs}
 use Rattle.calendar.proofs.words.alarm_valid.Statement.{statement}
 use Rattle.calendar.proofs.words.alarm_valid.Tie as tie
-use Rattle.calendar.proofs.words.alarm_valid.Reads as reads
-use Rattle.calendar.proofs.words.alarm_valid.Lts as lts
-use Rattle.calendar.proofs.words.hour_in.Reads as hour-in-reads
-use Rattle.calendar.proofs.words.minute_in.Reads as minute-in-reads
-use Rattle.calendar.proofs.words.time_digits.Reads as time-digits-reads
 
 time-digits-requires : tie.Need-time-digits-requires
 time-digits-requires c κs = search needs

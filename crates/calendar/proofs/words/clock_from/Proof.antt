@@ -3,10 +3,6 @@ use Rattle.calendar.specs.Words.{clockFrom}
 use borrow.Author.Needs.{needs}
 use Rattle.calendar.proofs.words.clock_from.Statement.{statement}
 use Rattle.calendar.proofs.words.clock_from.Tie as tie
-use Rattle.calendar.proofs.words.clock_from.Reads as reads
-use Rattle.calendar.proofs.words.clock_from.Lts as lts
-use Rattle.calendar.proofs.words.hour_in.Reads as hour-in-reads
-use Rattle.calendar.proofs.words.minute_in.Reads as minute-in-reads
 
 minute-in-requires : tie.Need-minute-in-requires
 minute-in-requires c κs = search needs

@@ -3,9 +3,6 @@ use Rattle.calendar.specs.Words.{word32}
 use borrow.Author.Needs.{needs}
 use Rattle.calendar.proofs.words.date_word.Statement.{statement}
 use Rattle.calendar.proofs.words.date_word.Tie as tie
-use Rattle.calendar.proofs.words.date_word.Reads as reads
-use Rattle.calendar.proofs.words.date_word.Lts as lts
-use Rattle.calendar.proofs.words.two_digits.Reads as two-digits-reads
 
 mul-result : tie.Need-mul-result
 mul-result c = search needs

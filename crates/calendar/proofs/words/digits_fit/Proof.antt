@@ -3,9 +3,6 @@ use Rattle.calendar.specs.Words.{digitsFit}
 use borrow.Author.Needs.{needs}
 use Rattle.calendar.proofs.words.digits_fit.Statement.{statement}
 use Rattle.calendar.proofs.words.digits_fit.Tie as tie
-use Rattle.calendar.proofs.words.digits_fit.Reads as reads
-use Rattle.calendar.proofs.words.digits_fit.Lts as lts
-use Rattle.calendar.proofs.words.time_digits.Reads as time-digits-reads
 
 returns : tie.Need-returns
 unfolding digitsFit

@@ -3,8 +3,6 @@ use Rattle.calendar.specs.Words.{hourIn}
 use borrow.Author.Needs.{needs}
 use Rattle.calendar.proofs.words.hour_in.Statement.{statement}
 use Rattle.calendar.proofs.words.hour_in.Tie as tie
-use Rattle.calendar.proofs.words.hour_in.Reads as reads
-use Rattle.calendar.proofs.words.hour_in.Lts as lts
 
 mul-result : tie.Need-mul-result
 mul-result c = search needs

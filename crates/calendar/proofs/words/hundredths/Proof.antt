@@ -3,8 +3,6 @@ use Rattle.calendar.specs.Words.{hundredthsOf}
 use borrow.Author.Needs.{needs}
 use Rattle.calendar.proofs.words.hundredths.Statement.{statement}
 use Rattle.calendar.proofs.words.hundredths.Tie as tie
-use Rattle.calendar.proofs.words.hundredths.Reads as reads
-use Rattle.calendar.proofs.words.hundredths.Lts as lts
 
 cast-result : tie.Need-cast-result
 cast-result c = search needs

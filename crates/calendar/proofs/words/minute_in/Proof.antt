@@ -3,8 +3,6 @@ use Rattle.calendar.specs.Words.{minuteIn}
 use borrow.Author.Needs.{needs}
 use Rattle.calendar.proofs.words.minute_in.Statement.{statement}
 use Rattle.calendar.proofs.words.minute_in.Tie as tie
-use Rattle.calendar.proofs.words.minute_in.Reads as reads
-use Rattle.calendar.proofs.words.minute_in.Lts as lts
 
 mul-result : tie.Need-mul-result
 mul-result c = search needs

@@ -3,10 +3,6 @@ use Rattle.calendar.specs.Words.{word30}
 use borrow.Author.Needs.{needs}
 use Rattle.calendar.proofs.words.seconds_word.Statement.{statement}
 use Rattle.calendar.proofs.words.seconds_word.Tie as tie
-use Rattle.calendar.proofs.words.seconds_word.Reads as reads
-use Rattle.calendar.proofs.words.seconds_word.Lts as lts
-use Rattle.calendar.proofs.words.hundredths.Reads as hundredths-reads
-use Rattle.calendar.proofs.words.two_digits.Reads as two-digits-reads
 
 hundredths-requires : tie.Need-hundredths-requires
 hundredths-requires c κs = search needs

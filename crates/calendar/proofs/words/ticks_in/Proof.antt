@@ -3,8 +3,6 @@ use Rattle.calendar.specs.Words.{ticksIn}
 use borrow.Author.Needs.{needs}
 use Rattle.calendar.proofs.words.ticks_in.Statement.{statement}
 use Rattle.calendar.proofs.words.ticks_in.Tie as tie
-use Rattle.calendar.proofs.words.ticks_in.Reads as reads
-use Rattle.calendar.proofs.words.ticks_in.Lts as lts
 
 mul-centiseconds : tie.Need-mul-centiseconds
 mul-centiseconds c = search needs

@@ -3,8 +3,6 @@ use Rattle.unit.specs.Tests.{tests}
 use Rattle.calendar.specs.Words.{timeDigits}
 use Rattle.calendar.proofs.words.time_digits.Statement.{statement}
 use Rattle.calendar.proofs.words.time_digits.Tie as tie
-use Rattle.calendar.proofs.words.time_digits.Reads as reads
-use Rattle.calendar.proofs.words.time_digits.Lts as lts
 
 returns : tie.Need-returns
 unfolding timeDigits

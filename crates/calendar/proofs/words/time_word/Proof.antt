@@ -3,9 +3,6 @@ use Rattle.calendar.specs.Words.{word31}
 use borrow.Author.Needs.{needs}
 use Rattle.calendar.proofs.words.time_word.Statement.{statement}
 use Rattle.calendar.proofs.words.time_word.Tie as tie
-use Rattle.calendar.proofs.words.time_word.Reads as reads
-use Rattle.calendar.proofs.words.time_word.Lts as lts
-use Rattle.calendar.proofs.words.two_digits.Reads as two-digits-reads
 
 two-digits-requires : tie.Need-two-digits-requires
 two-digits-requires c κs = search needs

@@ -3,8 +3,6 @@ use Rattle.calendar.specs.Words.{bcd}
 use borrow.Author.Needs.{needs}
 use Rattle.calendar.proofs.words.two_digits.Statement.{statement}
 use Rattle.calendar.proofs.words.two_digits.Tie as tie
-use Rattle.calendar.proofs.words.two_digits.Reads as reads
-use Rattle.calendar.proofs.words.two_digits.Lts as lts
 
 mul-result : tie.Need-mul-result
 mul-result c = search needs

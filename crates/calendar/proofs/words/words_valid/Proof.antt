@@ -3,11 +3,6 @@ use Rattle.calendar.specs.Words.{wordsValid}
 use borrow.Author.Needs.{needs}
 use Rattle.calendar.proofs.words.words_valid.Statement.{statement}
 use Rattle.calendar.proofs.words.words_valid.Tie as tie
-use Rattle.calendar.proofs.words.words_valid.Reads as reads
-use Rattle.calendar.proofs.words.words_valid.Lts as lts
-use Rattle.calendar.proofs.date.valid.Reads as valid-reads
-use Rattle.calendar.proofs.words.clock_from.Reads as clock-from-reads
-use Rattle.calendar.proofs.words.digits_fit.Reads as digits-fit-reads
 
 digits-fit-requires : tie.Need-digits-fit-requires
 digits-fit-requires c κs = search needs

@@ -3,8 +3,6 @@ use Rattle.measurement.specs.Difference.{biased}
 use borrow.Author.Needs.{needs}
 use Rattle.measurement.proofs.difference.biased_difference.Statement.{statement}
 use Rattle.measurement.proofs.difference.biased_difference.Tie as tie
-use Rattle.measurement.proofs.difference.biased_difference.Reads as reads
-use Rattle.measurement.proofs.difference.biased_difference.Lts as lts
 
 add-result : tie.Need-add-result
 add-result c = search needs

@@ -3,8 +3,6 @@ use Rattle.measurement.specs.Difference.{differenceMean}
 use borrow.Author.Needs.{needs}
 use Rattle.measurement.proofs.difference.difference_mean.Statement.{statement}
 use Rattle.measurement.proofs.difference.difference_mean.Tie as tie
-use Rattle.measurement.proofs.difference.difference_mean.Reads as reads
-use Rattle.measurement.proofs.difference.difference_mean.Lts as lts
 
 returns : tie.Need-returns
 unfolding differenceMean

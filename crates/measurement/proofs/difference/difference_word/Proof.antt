@@ -3,8 +3,6 @@ use Rattle.measurement.specs.Difference.{differenceWord}
 use borrow.Author.Needs.{needs}
 use Rattle.measurement.proofs.difference.difference_word.Statement.{statement}
 use Rattle.measurement.proofs.difference.difference_word.Tie as tie
-use Rattle.measurement.proofs.difference.difference_word.Reads as reads
-use Rattle.measurement.proofs.difference.difference_word.Lts as lts
 
 add-result : tie.Need-add-result
 add-result c = search needs

@@ -3,8 +3,6 @@ use Rattle.measurement.specs.Difference.{portMean}
 use borrow.Author.Needs.{needs}
 use Rattle.measurement.proofs.difference.port_mean.Statement.{statement}
 use Rattle.measurement.proofs.difference.port_mean.Tie as tie
-use Rattle.measurement.proofs.difference.port_mean.Reads as reads
-use Rattle.measurement.proofs.difference.port_mean.Lts as lts
 
 returns : tie.Need-returns
 unfolding portMean

@@ -9,9 +9,6 @@ use Rattle.unit.specs.Tests.{tests}
 use Rattle.measurement.specs.Limit.{anyFrom}
 use Rattle.measurement.proofs.limit.any_from.Statement.{statement}
 use Rattle.measurement.proofs.limit.any_from.Tie as tie
-use Rattle.measurement.proofs.limit.any_from.Reads as reads
-use Rattle.measurement.proofs.limit.any_from.Lts as lts
-use Rattle.measurement.proofs.limit.wide.Reads as wide-reads
 
 abbrev Inv-loop : tie.InvT-loop
 Inv-loop limit words i₀ i = (i ≤ length words) × (anyFrom limit words ≡ anyFrom limit (drop i words))

@@ -3,8 +3,6 @@ use Rattle.measurement.specs.Limit.{openFrom}
 use borrow.Author.Needs.{needs}
 use Rattle.measurement.proofs.limit.open_from.Statement.{statement}
 use Rattle.measurement.proofs.limit.open_from.Tie as tie
-use Rattle.measurement.proofs.limit.open_from.Reads as reads
-use Rattle.measurement.proofs.limit.open_from.Lts as lts
 
 add-t3 : tie.Need-add-t3
 add-t3 c = search needs

@@ -4,9 +4,6 @@ use Rattle.measurement.specs.Words.{average}
 use borrow.Author.Needs.{needs}
 use Rattle.measurement.proofs.words.average_of.Statement.{statement}
 use Rattle.measurement.proofs.words.average_of.Tie as tie
-use Rattle.measurement.proofs.words.average_of.Reads as reads
-use Rattle.measurement.proofs.words.average_of.Lts as lts
-use Rattle.measurement.proofs.words.total.Reads as total-reads
 
 total-requires : tie.Need-total-requires
 total-requires c κs = search needs

@@ -3,8 +3,6 @@ use Rattle.unit.specs.Tests.{tests}
 use Rattle.measurement.specs.Words.{lostFour}
 use Rattle.measurement.proofs.words.lost_four.Statement.{statement}
 use Rattle.measurement.proofs.words.lost_four.Tie as tie
-use Rattle.measurement.proofs.words.lost_four.Reads as reads
-use Rattle.measurement.proofs.words.lost_four.Lts as lts
 
 returns : tie.Need-returns
 unfolding lostFour

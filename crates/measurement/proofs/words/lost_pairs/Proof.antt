@@ -3,8 +3,6 @@ use Rattle.unit.specs.Tests.{tests}
 use Rattle.measurement.specs.Words.{lost}
 use Rattle.measurement.proofs.words.lost_pairs.Statement.{statement}
 use Rattle.measurement.proofs.words.lost_pairs.Tie as tie
-use Rattle.measurement.proofs.words.lost_pairs.Reads as reads
-use Rattle.measurement.proofs.words.lost_pairs.Lts as lts
 
 returns : tie.Need-returns
 unfolding lost

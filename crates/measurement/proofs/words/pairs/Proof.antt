@@ -3,8 +3,6 @@ use Rattle.measurement.specs.Words.{filled}
 use borrow.Author.Needs.{needs}
 use Rattle.measurement.proofs.words.pairs.Statement.{statement}
 use Rattle.measurement.proofs.words.pairs.Tie as tie
-use Rattle.measurement.proofs.words.pairs.Reads as reads
-use Rattle.measurement.proofs.words.pairs.Lts as lts
 
 cast-avg : tie.Need-cast-avg
 cast-avg c = search needs

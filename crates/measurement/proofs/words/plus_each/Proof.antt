@@ -3,9 +3,6 @@ use Rattle.measurement.specs.Words.{plusEach}
 use borrow.Author.Needs.{needs}
 use Rattle.measurement.proofs.words.plus_each.Statement.{statement}
 use Rattle.measurement.proofs.words.plus_each.Tie as tie
-use Rattle.measurement.proofs.words.plus_each.Reads as reads
-use Rattle.measurement.proofs.words.plus_each.Lts as lts
-use Rattle.measurement.proofs.words.plus.Reads as plus-reads
 
 array-read-plus : tie.Need-array-read-plus
 array-read-plus c = search needs

@@ -3,8 +3,6 @@ use Rattle.unit.specs.Tests.{tests}
 use Rattle.measurement.specs.Words.{portPair}
 use Rattle.measurement.proofs.words.port_pair.Statement.{statement}
 use Rattle.measurement.proofs.words.port_pair.Tie as tie
-use Rattle.measurement.proofs.words.port_pair.Reads as reads
-use Rattle.measurement.proofs.words.port_pair.Lts as lts
 
 returns : tie.Need-returns
 unfolding portPair

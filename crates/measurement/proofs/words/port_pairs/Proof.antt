@@ -3,9 +3,6 @@ use Rattle.measurement.specs.Words.{portPairs}
 use borrow.Author.Needs.{needs}
 use Rattle.measurement.proofs.words.port_pairs.Statement.{statement}
 use Rattle.measurement.proofs.words.port_pairs.Tie as tie
-use Rattle.measurement.proofs.words.port_pairs.Reads as reads
-use Rattle.measurement.proofs.words.port_pairs.Lts as lts
-use Rattle.measurement.proofs.words.port_pair.Reads as port-pair-reads
 
 array-read-port-pair : tie.Need-array-read-port-pair
 array-read-port-pair c = search needs

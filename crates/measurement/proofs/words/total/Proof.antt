@@ -3,9 +3,6 @@ use Rattle.measurement.specs.Words.{sixTotal}
 use borrow.Author.Needs.{needs}
 use Rattle.measurement.proofs.words.total.Statement.{statement}
 use Rattle.measurement.proofs.words.total.Tie as tie
-use Rattle.measurement.proofs.words.total.Reads as reads
-use Rattle.measurement.proofs.words.total.Lts as lts
-use Rattle.measurement.proofs.words.wide.Reads as wide-reads
 
 array-read-wide : tie.Need-array-read-wide
 array-read-wide c = search needs

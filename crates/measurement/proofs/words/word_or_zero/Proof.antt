@@ -3,8 +3,6 @@ use Rattle.measurement.specs.Words.{wordOrZero}
 use borrow.Author.Needs.{needs}
 use Rattle.measurement.proofs.words.word_or_zero.Statement.{statement}
 use Rattle.measurement.proofs.words.word_or_zero.Tie as tie
-use Rattle.measurement.proofs.words.word_or_zero.Reads as reads
-use Rattle.measurement.proofs.words.word_or_zero.Lts as lts
 
 mul-result : tie.Need-mul-result
 mul-result c = search needs

@@ -1,0 +1,80 @@
+use Prim.Native.Nat.{ℕ, _+_, _≤_, _-_}
+use native.Mathlib.Omega.{arith}
+use native.Mathlib.Numerals.{add-one}
+use mathlib.Core.Path.{_≡_, refl, _∙_, ap}
+use mathlib.Core.List.{List}
+use denote.Ref.{now}
+use Rattle.frame.specs.Frame.{wordAt}
+use borrow.Author.Needs.{needs}
+use Rattle.unit.specs.Tests.{tests}
+use Rattle.device.specs.Write.{setupAfter, withWord}
+use Rattle.access.proofs.write.setup_after.Statement.{statement}
+use Rattle.access.proofs.write.setup_after.Tie as tie
+
+-- one word more
+extended :
+    (bytes : List ℕ) (op i w : ℕ) (start s next : List ℕ) →
+    s ≡ setupAfter bytes op start i →
+    w ≡ wordAt bytes i →
+    next ≡ withWord s (op + i) w →
+    next ≡ setupAfter bytes op start (i + 1)
+unfolding setupAfter
+extended bytes op i w start s next e r x = rw (add-one i) (cc)
+
+abbrev Inv-loop : tie.InvT-loop
+Inv-loop words op n s₀ i₀ s i = (i ≤ n) × (s ≡ setupAfter words op s₀ i)
+
+abbrev μ-loop : tie.MeasureT-loop
+μ-loop words op n s₀ i₀ s i = n - i
+
+loop-holds : tie.Need-loop-holds Inv-loop μ-loop
+unfolding setupAfter
+loop-holds c = (omega arith, refl)
+
+word-requires : tie.Need-word-requires Inv-loop μ-loop
+word-requires c κs = search needs
+
+cast-w : tie.Need-cast-w Inv-loop μ-loop
+cast-w c = search needs
+
+add-with-word : tie.Need-add-with-word Inv-loop μ-loop
+add-with-word c = search needs
+
+with-word-requires : tie.Need-with-word-requires Inv-loop μ-loop
+with-word-requires c κs = search needs
+
+add-i : tie.Need-add-i Inv-loop μ-loop
+add-i c = search needs
+
+loop-less : tie.Need-loop-less Inv-loop μ-loop
+loop-less c = search needs
+
+loop-again : tie.Need-loop-again Inv-loop μ-loop
+loop-again c =
+    let start = c .before .before .before .before .before .args in
+    let head = c .before .before .before .loop in (
+      omega arith,
+      extended (now (start .words)) (start .op) (head .i) (c .before .word .result) (start .setup) (head .s)
+          (c .with-word .result) (head .inv .1) (c .before .word .ensures .0) (c .with-word .ensures),
+    )
+
+returns : tie.Need-returns Inv-loop μ-loop
+returns c =
+    let start = c .before .before .before .args in
+    c .before .loop .inv .1 ∙ ap (setupAfter (now (start .words)) (start .op) (start .setup)) (omega arith)
+
+pub setup-after-spec : {M : Type 1} → statement M
+setup-after-spec =
+    tie.close
+    (tie.spec
+    Inv-loop
+    μ-loop
+    loop-holds
+    word-requires
+    cast-w
+    add-with-word
+    with-word-requires
+    add-i
+    loop-less
+    loop-again
+    returns)

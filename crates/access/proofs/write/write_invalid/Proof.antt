@@ -1,0 +1,77 @@
+use Rattle.unit.specs.Tests.{tests}
+use Rattle.device.specs.Write.{writeInvalid}
+use borrow.Author.Needs.{needs}
+use Rattle.access.proofs.write.write_invalid.Statement.{statement}
+use Rattle.access.proofs.write.write_invalid.Tie as tie
+
+calendar-word-requires : tie.Need-calendar-word-requires
+calendar-word-requires c κs = search needs
+
+word-after-requires : tie.Need-word-after-requires
+word-after-requires c κs = search needs
+
+calendar-word-requires-2 : tie.Need-calendar-word-requires-2
+calendar-word-requires-2 c κs = search needs
+
+word-after-requires-2 : tie.Need-word-after-requires-2
+word-after-requires-2 c κs = search needs
+
+calendar-word-requires-3 : tie.Need-calendar-word-requires-3
+calendar-word-requires-3 c κs = search needs
+
+word-after-requires-3 : tie.Need-word-after-requires-3
+word-after-requires-3 c κs = search needs
+
+calendar-word-requires-4 : tie.Need-calendar-word-requires-4
+calendar-word-requires-4 c κs = search needs
+
+word-after-requires-4 : tie.Need-word-after-requires-4
+word-after-requires-4 c κs = search needs
+
+ticks-after-requires : tie.Need-ticks-after-requires
+ticks-after-requires c κs = search needs
+
+words-valid-requires : tie.Need-words-valid-requires
+words-valid-requires c κs = search needs
+
+setup-after-requires : tie.Need-setup-after-requires
+setup-after-requires c κs = search needs
+
+alarm-word-requires : tie.Need-alarm-word-requires
+alarm-word-requires c κs = search needs
+
+alarm-valid-requires : tie.Need-alarm-valid-requires
+alarm-valid-requires c κs = search needs
+
+returns : tie.Need-returns
+unfolding writeInvalid
+returns c = simp (c .if2 .taken, ← c .before .alarm-valid .ensures, ← c .before .before .alarm-word .ensures, ← c .before .before .before .setup-after .ensures, c .before .before .before .before .before .if1 .taken, ← c .before .before .before .before .before .before .words-valid .ensures, ← c .before .before .before .before .before .before .before .ticks-after .ensures, ← c .before .before .before .before .before .before .before .before .word-after4 .ensures, ← c .before .before .before .before .before .before .before .before .before .calendar-word4 .ensures, ← c .before .before .before .before .before .before .before .before .before .before .word-after3 .ensures, ← c .before .before .before .before .before .before .before .before .before .before .before .calendar-word3 .ensures, ← c .before .before .before .before .before .before .before .before .before .before .before .before .word-after2 .ensures, ← c .before .before .before .before .before .before .before .before .before .before .before .before .before .calendar-word2 .ensures, ← c .before .before .before .before .before .before .before .before .before .before .before .before .before .before .word-after .ensures, ← c .before .before .before .before .before .before .before .before .before .before .before .before .before .before .before .calendar-word .ensures)
+
+returns-2 : tie.Need-returns-2
+unfolding writeInvalid
+returns-2 c = simp (c .if2 .left, ← c .before .alarm-valid .ensures, ← c .before .before .alarm-word .ensures, ← c .before .before .before .setup-after .ensures, c .before .before .before .before .before .if1 .taken, ← c .before .before .before .before .before .before .words-valid .ensures, ← c .before .before .before .before .before .before .before .ticks-after .ensures, ← c .before .before .before .before .before .before .before .before .word-after4 .ensures, ← c .before .before .before .before .before .before .before .before .before .calendar-word4 .ensures, ← c .before .before .before .before .before .before .before .before .before .before .word-after3 .ensures, ← c .before .before .before .before .before .before .before .before .before .before .before .calendar-word3 .ensures, ← c .before .before .before .before .before .before .before .before .before .before .before .before .word-after2 .ensures, ← c .before .before .before .before .before .before .before .before .before .before .before .before .before .calendar-word2 .ensures, ← c .before .before .before .before .before .before .before .before .before .before .before .before .before .before .word-after .ensures, ← c .before .before .before .before .before .before .before .before .before .before .before .before .before .before .before .calendar-word .ensures)
+
+returns-3 : tie.Need-returns-3
+unfolding writeInvalid
+returns-3 c = simp (c .if1 .left, ← c .before .words-valid .ensures, ← c .before .before .ticks-after .ensures, ← c .before .before .before .word-after4 .ensures, ← c .before .before .before .before .calendar-word4 .ensures, ← c .before .before .before .before .before .word-after3 .ensures, ← c .before .before .before .before .before .before .calendar-word3 .ensures, ← c .before .before .before .before .before .before .before .word-after2 .ensures, ← c .before .before .before .before .before .before .before .before .calendar-word2 .ensures, ← c .before .before .before .before .before .before .before .before .before .word-after .ensures, ← c .before .before .before .before .before .before .before .before .before .before .calendar-word .ensures)
+
+pub write-invalid-spec : {M : Type 1} → statement M
+write-invalid-spec =
+    tie.close
+    (tie.spec
+    calendar-word-requires
+    word-after-requires
+    calendar-word-requires-2
+    word-after-requires-2
+    calendar-word-requires-3
+    word-after-requires-3
+    calendar-word-requires-4
+    word-after-requires-4
+    ticks-after-requires
+    words-valid-requires
+    setup-after-requires
+    alarm-word-requires
+    alarm-valid-requires
+    returns
+    returns-2
+    returns-3)

@@ -1,0 +1,3 @@
+// Register reads and writes.
+pub mod read;
+pub mod write;

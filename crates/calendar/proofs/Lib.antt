@@ -1,0 +1,4 @@
+-- Laws of the definitions, for this crate and those above it.
+pub mod Laws
+pub mod RoundTrip
+pub mod Facts

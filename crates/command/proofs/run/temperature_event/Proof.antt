@@ -1,0 +1,23 @@
+use Rattle.unit.specs.Tests.{tests}
+use Rattle.device.specs.Bus.{temperatureEvent}
+use borrow.Author.Needs.{needs}
+use Rattle.command.proofs.run.temperature_event.Statement.{statement}
+use Rattle.command.proofs.run.temperature_event.Tie as tie
+
+temperature-period-requires : tie.Need-temperature-period-requires
+temperature-period-requires c κs = search needs
+
+temperature-count-requires : tie.Need-temperature-count-requires
+temperature-count-requires c κs = search needs
+
+start-event-requires : tie.Need-start-event-requires
+start-event-requires c κs = search needs
+
+returns : tie.Need-returns
+unfolding temperatureEvent
+returns c = simp (← c .before .start-event .ensures, ← c .before .before .temperature-count .ensures, ← c .before .before .before .temperature-period .ensures)
+
+pub temperature-event-spec : {M : Type 1} → statement M
+temperature-event-spec =
+    tie.close
+    (tie.spec temperature-period-requires temperature-count-requires start-event-requires returns)

@@ -1,0 +1,15 @@
+use Rattle.unit.specs.Tests.{tests}
+use Rattle.device.specs.Model.{noFlight}
+use borrow.Author.Needs.{needs}
+use Rattle.command.proofs.state.no_flight.Statement.{statement}
+use Rattle.command.proofs.state.no_flight.Tie as tie
+
+no-schedule-requires : tie.Need-no-schedule-requires
+no-schedule-requires c κs = search needs
+
+returns : tie.Need-returns
+unfolding noFlight
+returns c = simp (← c .no-schedule .ensures)
+
+pub no-flight-spec : {M : Type 1} → statement M
+no-flight-spec = tie.close (tie.spec no-schedule-requires returns)

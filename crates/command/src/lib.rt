@@ -1,0 +1,3 @@
+// Fresh and sound models, and the commands.
+pub mod run;
+pub mod state;

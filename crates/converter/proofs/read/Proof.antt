@@ -1,0 +1,93 @@
+use Rattle.device.proofs.Decode.{read-bounds}
+use Rattle.device.specs.Call.{refuse, accept, refusalNumber}
+use Rattle.device.specs.Bus.{readModel}
+use Rattle.device.specs.Registers.{fill}
+use Rattle.device.specs.declared.Model.{Model}
+use Rattle.frame.proofs.Decoded.{the-type}
+use Rattle.frame.specs.declared.Decoded.the-variants.{Command, Read, Write, Refusal}
+use Rattle.frame.specs.declared.Decoded.{Decoded}
+use types.Run.{OneOf, miss}
+use denote.Enum.Declared.{tagOf}
+use denote.Ref.{now}
+use lib.ListN.{length}
+use mathlib.Core.List.{List, [], _∷_}
+use mathlib.Core.Bool.{true, false}
+use mathlib.Core.Path.{_≡_, refl, _∙_, ap}
+use Prim.Native.Nat.{ℕ}
+use Rattle.unit.specs.Tests.{tests}
+use Rattle.device.specs.Call.{readReply, readOutput}
+use borrow.Author.Needs.{needs}
+use Rattle.converter.proofs.read.Statement.{statement}
+use Rattle.converter.proofs.read.Tie as tie
+
+-- what decoding gives but a read: the refusal's number, and nothing written
+not-a-read :
+    (m : Model) (d : Decoded) (o : List ℕ) →
+    OneOf (0 ∷ 2 ∷ 3 ∷ []) (tagOf the-type d) →
+    (refuse (refusalNumber d) m ≡ readReply m d) × (o ≡ readOutput m d o)
+unfolding readReply readOutput refusalNumber
+not-a-read m (Command op) o h = (refl, refl)
+not-a-read m (Read op n) o h = absurd (miss (0 ∷ 2 ∷ 3 ∷ []) 1 tt h)
+not-a-read m (Write op n) o h = (refl, refl)
+not-a-read m (Refusal n) o h = (refl, refl)
+
+-- a read: the registers' words written
+a-read :
+    (m : Model) (d : Decoded) (op n : ℕ) (o : List ℕ) →
+    d ≡ Read op n →
+    (accept false false (readModel m op n) ≡ readReply m d) × (fill m op o n ≡ readOutput m d o)
+unfolding readReply readOutput
+a-read m d op n o e = (rw e, rw e)
+
+enum-known-d : tie.Need-enum-known-d
+enum-known-d c = search needs
+
+refusal-number-requires : tie.Need-refusal-number-requires
+refusal-number-requires c κs = search needs
+
+refused-requires : tie.Need-refused-requires
+refused-requires c κs = search needs
+
+returns : tie.Need-returns
+returns c =
+    let start = c .before .before .before .before .args in
+    let other = not-a-read (start .m) (start .d) (now (start .out)) (c .before .before .match .keys2) in
+    (c .refused .ensures ∙ ap (λ (n : ℕ). refuse n (start .m)) (c .before .refusal-number .ensures) ∙ other .0, other .1)
+
+fill-words-requires : tie.Need-fill-words-requires
+fill-words-requires c κs =
+    let start = c .before .before .before .before .before .args in
+    let b = read-bounds (start .d) (c .before .before .d .given .0 .0) (c .before .before .d .given .0 .1 .0) (length (now (start .out))) (c .before .before .d .given .1) (c .before .before .before .before .before .pre) in
+    b
+
+after-read-requires : tie.Need-after-read-requires
+after-read-requires c κs =
+    let start = c .before .before .before .before .before .before .before .before .args in
+    let b = read-bounds (start .d) (c .before .before .before .before .before .d .given .0 .0) (c .before .before .before .before .before .d .given .0 .1 .0) (length (now (start .out))) (c .before .before .before .before .before .d .given .1) (c .before .before .before .before .before .before .before .before .pre) in
+    b .1
+
+accepted-requires : tie.Need-accepted-requires
+accepted-requires c κs = search needs
+
+same-length : tie.Need-same-length
+same-length c = search needs
+
+returns-2 : tie.Need-returns-2
+returns-2 c =
+    let start = c .before .before .before .before .before .before .before .before .before .before .args in
+    let r = a-read (start .m) (start .d) (c .before .before .before .before .before .before .before .d .given .0 .0) (c .before .before .before .before .before .before .before .d .given .0 .1 .0) (now (start .out)) (c .before .before .before .before .before .before .before .d .given .1) in
+    (c .accepted .ensures ∙ ap (accept false false) (c .before .after-read .ensures) ∙ r .0, c .before .before .before .before .fill-words .ensures ∙ r .1)
+
+pub read-spec : {M : Type 1} → statement M
+read-spec =
+    tie.close
+    (tie.spec
+    enum-known-d
+    refusal-number-requires
+    refused-requires
+    returns
+    fill-words-requires
+    after-read-requires
+    accepted-requires
+    same-length
+    returns-2)

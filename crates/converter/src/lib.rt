@@ -1,0 +1,309 @@
+// The calls of the MAX35101 model. Each takes any model and any input; a refusal changes nothing.
+ghost use mathlib.Core.Path.{_≡_};
+ghost use Prim.Native.Nat.{_≤_, _+_, _*_};
+ghost use lib.ListN.{length, drop};
+ghost use Rattle.frame.specs.Frame.{decodeFrame};
+ghost use Rattle.frame.specs.declared.Decoded.{Decoded};
+ghost use Rattle.device.specs.Event.{yes};
+ghost use Rattle.device.specs.Model.{sound, freshModel};
+ghost use Rattle.device.specs.Call.{Call, reply, output, refuse, accept, commandReply, writeReply, readReply, readOutput, refusalNumber, interruptTold, awaitedTold, flightFits, flightReply, readFits, registerTold, temperatureReply};
+use access::read::fill_words;
+use access::write::write_invalid;
+use access::write::write_model;
+use command::run::after_read;
+use command::run::command_busy;
+use command::run::command_unset;
+use command::run::not_ready;
+use command::run::run;
+use command::run::starts_flight;
+use command::run::starts_temperature;
+use command::state::fresh_with;
+use command::state::is_busy;
+use command::state::is_sound;
+use device::Answer;
+use device::Model;
+use device::Reply;
+use device::Schedule;
+use device::Told;
+use event::interrupt::por_bit;
+use event::interrupt::status_word;
+use event::schedule::is_awaited;
+use frame::Decoded;
+use measurement::limit::any_from;
+use measurement::limit::late_from;
+use measurement::limit::open_from;
+use measurement::words::four_words;
+use measurement::words::six_words;
+use measuring::delivery::flight_failed;
+use measuring::delivery::flight_good;
+use measuring::delivery::flight_miscounted;
+use measuring::delivery::temperature_failed;
+use measuring::delivery::temperature_good;
+use measuring::tick::report_of;
+use measuring::tick::tick_model;
+
+pub fn fresh() -> Model
+    ensures { λ r. ⌜ r ≡ freshModel ⌝ }
+{
+    fresh_with(por_bit())
+}
+
+fn refused(m: Model, number: u32) -> Reply
+    ensures { λ r. ⌜ r ≡ refuse number m ⌝ }
+{
+    Reply {
+        answer: Answer::Refused(number),
+        model: m,
+    }
+}
+
+fn accepted(m: Model, flight: bool, temperature: bool) -> Reply
+    ensures { λ r. ⌜ r ≡ accept flight temperature m ⌝ }
+{
+    Reply {
+        answer: Answer::Accepted(flight, temperature),
+        model: m,
+    }
+}
+
+fn command(m: Model, op: u32) -> Reply
+    ensures { λ r. ⌜ r ≡ commandReply m op ⌝ }
+{
+    if command_busy(m, op) {
+        return refused(m, 6);
+    }
+    if not_ready(m, op) {
+        return refused(m, 8);
+    }
+    if command_unset(m, op) {
+        return refused(m, 9);
+    }
+    accepted(run(m, op), starts_flight(op), starts_temperature(op))
+}
+
+fn write(m: Model, words: &[u8], op: u32, n: usize) -> Reply
+    requires { ⌜ (48 ≤ op) × (op + n ≤ 68) × (2 * n ≤ length (now words)) ⌝ }
+    ensures { λ r. ⌜ r ≡ writeReply m (now (words .entry)) op n ⌝ }
+{
+    if is_busy(m) {
+        return refused(m, 6);
+    }
+    if write_invalid(m, words, op, n) {
+        return refused(m, 7);
+    }
+    accepted(write_model(m, words, op, n), false, false)
+}
+
+fn refusal_number(d: Decoded) -> u32
+    ensures { λ r. ⌜ r ≡ refusalNumber d ⌝ }
+{
+    match d {
+        Decoded::Refusal(number) => number,
+        Decoded::Command(_) => 2,
+        Decoded::Read(_, _) => 2,
+        Decoded::Write(_, _) => 2,
+    }
+}
+
+// A read, or the refusal that decoding found.
+fn read(m: Model, d: Decoded, out: &mut [u8]) -> Reply
+    requires { ⌜ readFits d (length (now out)) ≡ yes ⌝ }
+    ensures { λ r. ⌜ (r ≡ readReply m d) × (now (out .exit) ≡ readOutput m d (now (out .entry))) ⌝ }
+{
+    let Decoded::Read(op, n) = d else {
+        return refused(m, refusal_number(d));
+    };
+    fill_words(m, op, n, out);
+    accepted(after_read(m, op, n), false, false)
+}
+
+// One bus transaction: the bytes of a chip-enable window, and the output buffer.
+pub fn transaction(m: Model, frame: &[u8], out: &mut [u8]) -> Reply
+    ensures { λ r. ⌜ (r ≡ reply m (Call.transaction (now (frame .entry)) (now (out .entry)))) × (now (out .exit) ≡ output m (Call.transaction (now (frame .entry)) (now (out .entry)))) ⌝ }
+{
+    if is_sound(m) {
+        let d = frame::decode(frame, out.len());
+        match d {
+            Decoded::Command(op) => {
+                return command(m, op);
+            }
+            Decoded::Write(op, n) => {
+                return write(m, &frame[1..], op, n);
+            }
+            Decoded::Read(_, _) => {
+                return read(m, d, out);
+            }
+            Decoded::Refusal(_) => {
+                return read(m, d, out);
+            }
+        }
+    }
+    refused(m, 0)
+}
+
+// One period of the 32,768 Hz clock.
+pub fn tick(m: Model) -> Reply
+    ensures { λ r. ⌜ r ≡ reply m Call.tick ⌝ }
+{
+    if is_sound(m) {
+        let flight = m.flight;
+        let temperature = m.temperature;
+        let f = flight.schedule;
+        let t = temperature.schedule;
+        let answer = Answer::Ticked(report_of(f), report_of(t));
+        let model = tick_model(m);
+        return Reply { answer, model };
+    }
+    refused(m, 0)
+}
+
+// The hit words of an awaited flight measurement: the up list and the down list.
+pub fn flight_delivery(m: Model, up: &[u32], down: &[u32]) -> Reply
+    ensures { λ r. ⌜ r ≡ reply m (Call.flight (now (up .entry)) (now (down .entry))) ⌝ }
+{
+    if is_sound(m) {
+        let f = m.flight;
+        let setup = m.setup;
+        let k = f.schedule;
+        if is_awaited(k) {
+            let hits = register::hits(setup);
+            if flight_miscounted(f, hits, up.len(), down.len()) {
+                return refused(m, 11);
+            }
+            return flight_words(m, up, down);
+        }
+        return refused(m, 10);
+    }
+    refused(m, 0)
+}
+
+// A flight delivery of the right counts.
+fn flight_words(m: Model, up: &[u32], down: &[u32]) -> Reply
+    requires { ⌜ flightFits m (now up) (now down) ≡ yes ⌝ }
+    ensures { λ r. ⌜ r ≡ flightReply m (now (up .entry)) (now (down .entry)) ⌝ }
+{
+    let setup = m.setup;
+    let limit = late_from(register::timeout_code(setup));
+    if any_from(limit, up) {
+        let model = flight_failed(m);
+        return Reply {
+            answer: Answer::Failed,
+            model,
+        };
+    }
+    if any_from(limit, down) {
+        let model = flight_failed(m);
+        return Reply {
+            answer: Answer::Failed,
+            model,
+        };
+    }
+    let hits = register::hits(setup);
+    let model = flight_good(m, hits, six_words(up), six_words(down));
+    Reply {
+        answer: Answer::Good,
+        model,
+    }
+}
+
+// The words of an awaited temperature measurement, T1 to T4.
+pub fn temperature_delivery(m: Model, words: &[u32]) -> Reply
+    ensures { λ r. ⌜ r ≡ reply m (Call.temperature (now (words .entry))) ⌝ }
+{
+    if is_sound(m) {
+        let t = m.temperature;
+        let k = t.schedule;
+        if is_awaited(k) {
+            if words.len() == 4 {
+                return temperature_words(m, words);
+            }
+            return refused(m, 11);
+        }
+        return refused(m, 10);
+    }
+    refused(m, 0)
+}
+
+// A temperature delivery of four words.
+fn temperature_words(m: Model, words: &[u32]) -> Reply
+    requires { ⌜ sound m ≡ yes ⌝ }
+    ensures { λ r. ⌜ r ≡ temperatureReply m (now (words .entry)) ⌝ }
+{
+    let setup = m.setup;
+    let limit = open_from(register::port_cycle(setup));
+    let w = four_words(words);
+    if any_from(limit, words) {
+        let model = temperature_failed(m, limit, w);
+        return Reply {
+            answer: Answer::Failed,
+            model,
+        };
+    }
+    let model = temperature_good(m, w);
+    Reply {
+        answer: Answer::Good,
+        model,
+    }
+}
+
+// The INT answer: 1 for yes, 0 for no.
+pub fn interrupt_pending(m: Model) -> Told
+    ensures { λ r. ⌜ r ≡ interruptTold m ⌝ }
+{
+    if is_sound(m) {
+        let setup = m.setup;
+        let status = m.status;
+        if register::interrupt_enabled(setup) {
+            if status_word(status) == 0 {
+                return Told::Value(0);
+            }
+            return Told::Value(1);
+        }
+        return Told::Value(0);
+    }
+    Told::Refused(0)
+}
+
+fn told_awaited(m: Model, k: Schedule) -> Told
+    ensures { λ r. ⌜ r ≡ awaitedTold m k ⌝ }
+{
+    if is_sound(m) {
+        if is_awaited(k) {
+            return Told::Value(1);
+        }
+        return Told::Value(0);
+    }
+    Told::Refused(0)
+}
+
+// Whether a flight measurement is awaited: 1 or 0.
+pub fn flight_awaited(m: Model) -> Told
+    ensures { λ r. ⌜ r ≡ awaitedTold m (m .flight .schedule) ⌝ }
+{
+    let f = m.flight;
+    told_awaited(m, f.schedule)
+}
+
+// Whether a temperature measurement is awaited: 1 or 0.
+pub fn temperature_awaited(m: Model) -> Told
+    ensures { λ r. ⌜ r ≡ awaitedTold m (m .temperature .schedule) ⌝ }
+{
+    let t = m.temperature;
+    told_awaited(m, t.schedule)
+}
+
+// The word that a read at address a, B0h to FFh, would give, with nothing cleared.
+pub fn peek(m: Model, a: u32) -> Told
+    ensures { λ r. ⌜ r ≡ registerTold m a ⌝ }
+{
+    if is_sound(m) {
+        if a < 0xb0 {
+            return Told::Refused(4);
+        }
+        if 0xff < a {
+            return Told::Refused(4);
+        }
+        return Told::Value(access::read::register_word(m, a));
+    }
+    Told::Refused(0)
+}

@@ -1,0 +1,150 @@
+-- What one call of a sound model does, where an accepted transaction may only be a read.
+use Prim.Native.Nat.{ℕ, _+_, _≤_}
+use native.Mathlib.Omega.{arith}
+use mathlib.Core.Path.{_≡_, refl}
+use mathlib.Core.Bool.{true, false}
+use mathlib.Core.List.{List}
+use lib.Dec.{ltb, leb}
+use borrow.Author.Tests.{ltb-false, lt-ltb, le-ltb}
+use Rattle.unit.specs.Choice.{pick, either}
+use Rattle.unit.specs.Cases.{by-test}
+use Rattle.calendar.specs.Calendar.{tickClock}
+use Rattle.calendar.proofs.Laws.{passed}
+use Rattle.register.specs.Setup.{clockStands, hitCount, portCycle}
+use Rattle.frame.specs.Frame.{isCommand, isWrite, isRead}
+use Rattle.measurement.specs.Limit.{openFrom}
+use Rattle.measurement.specs.Words.{six, four}
+use Rattle.device.specs.declared.Status.{Status}
+use Rattle.device.specs.declared.Model.{Model}
+use Rattle.device.specs.declared.Reply.{Reply}
+use Rattle.device.specs.declared.Answer.the-variants.{Ticked, Good, Failed}
+use Rattle.device.specs.Status.{noBits}
+use Rattle.device.specs.Model.{sound, withStatus}
+use Rattle.device.specs.Tick.{clockTicked, tickModel, reportOf}
+use Rattle.device.specs.Delivery.{flightGood, flightFailed, temperatureGood, temperatureFailed}
+use Rattle.device.specs.Bus.{readModel}
+use Rattle.device.specs.Call.{Call, transaction, tick, flight, temperature, opcode, words}
+use Rattle.device.specs.Call.{noFrame, notCarried, wrongLength, pastRegisters, shortOutput, whileBusy}
+use Rattle.device.specs.Call.{badCalendar, notInitialised, badSetup, notAwaited, miscounted}
+use Rattle.device.specs.Call.{table, Verdict, accepted, refused, firstOf, verdict, anyLate, anyOpen}
+use Rattle.device.specs.Call.{acceptedAnswer, acceptedModel, refuse, accept, replyBy, reply}
+use Rattle.device.specs.Claim.{isRefusal, isReading, isTick}
+use Rattle.device.proofs.Table.{NoneHolds, none-holds}
+
+pub data Step (m : Model) : Call → Reply → Type 0 where
+  refusal : (c : Call) (n : ℕ) → isTick c ≡ false → Step m c (refuse n m)
+  -- a read leaves all but the status
+  reading : (f o : List ℕ) (s : Status) → Step m (transaction f o) (accept false false (withStatus m s))
+  ticking :
+      Step m tick
+      (record {
+        answer = Ticked (reportOf (m .flight .schedule)) (reportOf (m .temperature .schedule));
+        model = tickModel m;
+      })
+  flight-failed :
+      (u d : List ℕ) →
+      NoneHolds m (flight u d) →
+      anyLate m u d ≡ true →
+      Step m (flight u d) (record { answer = Failed; model = flightFailed m })
+  flight-good :
+      (u d : List ℕ) →
+      NoneHolds m (flight u d) →
+      anyLate m u d ≡ false →
+      Step m (flight u d) (record { answer = Good; model = flightGood m (hitCount (m .setup)) (six u) (six d) })
+  ports-failed :
+      (w : List ℕ) →
+      NoneHolds m (temperature w) →
+      anyOpen m w ≡ true →
+      Step m (temperature w)
+      (record { answer = Failed; model = temperatureFailed m (openFrom (portCycle (m .setup))) (four w) })
+  ports-good :
+      (w : List ℕ) →
+      NoneHolds m (temperature w) →
+      anyOpen m w ≡ false →
+      Step m (temperature w) (record { answer = Good; model = temperatureGood m (four w) })
+
+read-alone : (op : ℕ) → isRead op ≡ true → (isCommand op ≡ false) × (isWrite op ≡ false)
+unfolding isRead isCommand isWrite
+read-alone op r =
+    let l : 0xB0 ≤ op = ltb-false op 0xB0 (passed (ltb op 0xB0) r .0) in
+    (rw (lt-ltb 0x0A op (omega arith)), rw (le-ltb op 0x30 (omega arith), lt-ltb 0x43 op (omega arith)))
+
+-- an accepted transaction is no refusal
+no-refusal : (m : Model) (f o : List ℕ) → isRefusal (acceptedAnswer m (transaction f o)) ≡ false
+unfolding isRefusal acceptedAnswer
+no-refusal m f o =
+    by-test (isCommand (opcode f)) (λ c. rw c) (λ c. rw c (by-test (isWrite (opcode f)) (λ w. rw w) (λ w. rw w)))
+
+read-step : (m : Model) (f o : List ℕ) → Step m (transaction f o) (accept false false (readModel m (opcode f) (words f)))
+unfolding readModel
+read-step m f o =
+    by-test (ltb 0xFE (opcode f)) (λ e. rw e (reading f o (m .status)))
+    (λ e. rw e
+    (by-test (leb (opcode f + words f) 0xFE) (λ l. rw l (reading f o (m .status))) (λ l. rw l (reading f o noBits))))
+
+accepted-step :
+    (m : Model) (c : Call) →
+    NoneHolds m c →
+    either (isRefusal (acceptedAnswer m c)) (isReading c) ≡ true →
+    Step m c (record { answer = acceptedAnswer m c; model = acceptedModel m c })
+unfolding acceptedAnswer acceptedModel isReading
+accepted-step m (transaction f o) n p =
+    let (c, w) = read-alone (opcode f) (rw (no-refusal m f o) at p) in rw (c, w) (read-step m f o)
+accepted-step m tick n p = ticking
+accepted-step m (flight u d) n p =
+    by-test (anyLate m u d) (λ l. rw l (flight-failed u d n l)) (λ l. rw l (flight-good u d n l))
+accepted-step m (temperature w) n p =
+    by-test (anyOpen m w) (λ l. rw l (ports-failed w n l)) (λ l. rw l (ports-good w n l))
+
+-- a sound model refuses no tick
+tick-accepted : (m : Model) → sound m ≡ true → verdict m tick ≡ accepted
+unfolding verdict firstOf table noFrame notCarried wrongLength pastRegisters shortOutput whileBusy badCalendar notInitialised badSetup notAwaited miscounted
+tick-accepted m v = rw v
+
+refused-other : (m : Model) (c : Call) (n : ℕ) → sound m ≡ true → verdict m c ≡ refused n → isTick c ≡ false
+unfolding isTick
+refused-other m (transaction f o) n v e = refl
+refused-other m tick n v e = cc (tick-accepted m v)
+refused-other m (flight u d) n v e = refl
+refused-other m (temperature w) n v e = refl
+
+pub stepped :
+    (m : Model) (c : Call) →
+    sound m ≡ true →
+    either (isRefusal (reply m c .answer)) (isReading c) ≡ true →
+    Step m c (reply m c)
+unfolding reply replyBy
+stepped m c v = go (verdict m c) refl
+  where
+    go :
+        (t : Verdict) →
+        verdict m c ≡ t →
+        either (isRefusal (replyBy t m c .answer)) (isReading c) ≡ true →
+        Step m c (replyBy t m c)
+    go accepted e p = accepted-step m c (none-holds m c e) p
+    go (refused n) e p = refusal c n (refused-other m c n v e)
+
+-- no such call changes the set-up, and only a tick moves the clock
+pub setup-kept : (m : Model) {c : Call} {r : Reply} → Step m c r → r .model .setup ≡ m .setup
+unfolding tickModel flightFailed flightGood temperatureFailed temperatureGood
+setup-kept m (refusal c n t) = refl
+setup-kept m (reading f o s) = refl
+setup-kept m ticking = refl
+setup-kept m (flight-failed u d n l) = refl
+setup-kept m (flight-good u d n l) = refl
+setup-kept m (ports-failed w n l) = refl
+setup-kept m (ports-good w n l) = refl
+
+pub clock-step :
+    (m : Model) {c : Call} {r : Reply} →
+    Step m c r →
+    clockStands (m .setup) ≡ false →
+    r .model .clock ≡ pick (isTick c) (tickClock (m .clock)) (m .clock)
+unfolding tickModel clockTicked flightFailed flightGood temperatureFailed temperatureGood isTick
+clock-step m (refusal c n t) e = rw t
+clock-step m (reading f o s) e = refl
+clock-step m ticking e = rw e
+clock-step m (flight-failed u d n l) e = refl
+clock-step m (flight-good u d n l) e = refl
+clock-step m (ports-failed w n l) e = refl
+clock-step m (ports-good w n l) e = refl

@@ -1,0 +1,279 @@
+-- What a kind holds after each call of an event: its schedule, and the sums of what was good so far.
+use Prim.Native.Nat.{ℕ, zero, suc, _+_, _/_, _%_, _<_}
+use native.Mathlib.Omega.{arith}
+use mathlib.Core.Path.{_≡_, ap}
+use mathlib.Core.Bool.{true, false}
+use mathlib.Core.List.{List, [], _∷_, _++_, map, map-append}
+use lib.ListN.{length, length-map, getD}
+use lib.Dec.{ltb}
+use borrow.Author.Tests.{ltb-true, lt-ltb}
+use Rattle.unit.specs.Choice.{negate}
+use Rattle.unit.specs.Cases.{by-test}
+use Rattle.calendar.proofs.Laws.{held}
+use Rattle.register.specs.Setup.{hitCount, differencePeriod, differenceCount, temperaturePeriod, temperatureCount}
+use Rattle.register.proofs.Laws.{hits-bounds}
+use Rattle.measurement.specs.Words.{six, four, average, plusEach}
+use Rattle.measurement.specs.Difference.{biased, differenceMean, portMean}
+use Rattle.measurement.specs.Mean.{All, sum, Averages, InRange, biasedTotal, differenceBits, meanAverages, floorMeanWords}
+use Rattle.measurement.proofs.Limits.{quotient-below}
+use Rattle.measurement.proofs.Sum.{six-total}
+use Rattle.measurement.proofs.Mean.{mean-word, port-mean-words}
+use Rattle.device.specs.declared.Schedule.{Schedule}
+use Rattle.device.specs.declared.Flight.{Flight}
+use Rattle.device.specs.declared.Temperature.{Temperature}
+use Rattle.device.specs.declared.Model.{Model}
+use Rattle.device.specs.declared.Reply.{Reply}
+use Rattle.device.specs.declared.Answer.the-variants.{Refused}
+use Rattle.device.specs.Event.{awaits, begins, fails, settle}
+use Rattle.device.specs.Registers.{half, flightWord, temperatureWord, registerWord}
+use Rattle.device.specs.Tick.{lostFlight, flightAfter, temperatureAfter, tickModel, reportOf}
+use Rattle.device.specs.Delivery.{goodSum, goodFlight, goodSums, flightGood, flightFailed, temperatureGood, temperatureFailed}
+use Rattle.device.specs.Call.{Call, flight, temperature, notAwaited, miscounted, anyLate, anyOpen}
+use Rattle.device.specs.Claim.{Kind, differences, temperatures, periodOf, countOf, History, noteTick, noteGood, noteFailed, note}
+use Rattle.device.specs.Claim.{isTick, isDelivery, isGood, isFailed, startReported, failureReported, noneLost}
+use Rattle.device.specs.Claim.{averagesOf, portWord, awaitedNow, deliveryOf, KindClaim}
+use Rattle.device.proofs.Table.{NoneHolds, negated, picked}
+use Rattle.device.proofs.Sound.{hits-counted, hits-below}
+use Rattle.device.proofs.Sound
+use Rattle.device.proofs.Going.{Going, all-append, going-tick, going-good, going-failed, unsettled, all-reached, balanced, recent}
+use Rattle.device.proofs.Calls.{Step, refusal, reading, ticking, flight-failed, flight-good, ports-failed, ports-good}
+
+pub record FlightHeld (s : List ℕ) (h : History) (f : Flight) : Type 0 where
+  pub going : Going (differencePeriod s .0) (differenceCount s) h (f .schedule)
+  pub sum : f .sum ≡ biasedTotal (map (averagesOf s) (h .good))
+  pub range : All InRange (map (averagesOf s) (h .good))
+
+abbrev portSum : ℕ → List Call → ℕ
+portSum i good = sum (map (portWord i) good)
+
+abbrev Below : ℕ → Type 0
+Below w = w < 2147483648
+
+pub record TemperatureHeld (s : List ℕ) (h : History) (t : Temperature) : Type 0 where
+  pub going : Going (temperaturePeriod s .0) (temperatureCount s) h (t .schedule)
+  pub sums :
+      t .sums ≡ portSum 0 (h .good) ∷ portSum 1 (h .good) ∷ portSum 2 (h .good) ∷ portSum 3 (h .good) ∷ []
+  pub below : (i : ℕ) → All Below (map (portWord i) (h .good))
+
+abbrev pub KindHeld : Kind → List ℕ → History → Model → Type 0
+KindHeld differences s h m = FlightHeld s h (m .flight)
+KindHeld temperatures s h m = TemperatureHeld s h (m .temperature)
+
+-- one more at a list's end
+total-more :
+    (good : List Averages) (a : Averages) →
+    biasedTotal (good ++ (a ∷ [])) ≡ biasedTotal good + biased (record { 0 = a .up }) (record { 0 = a .down })
+unfolding biasedTotal
+total-more [] a = omega arith
+total-more (b ∷ good) a = omega (arith, total-more good a)
+
+sum-more : (ws : List ℕ) (w : ℕ) → sum (ws ++ (w ∷ [])) ≡ sum ws + w
+unfolding sum
+sum-more [] w = omega arith
+sum-more (v ∷ ws) w = omega (arith, sum-more ws w)
+
+port-more : (i : ℕ) (good : List Call) (c : Call) → portSum i (good ++ (c ∷ [])) ≡ portSum i good + portWord i c
+port-more i good c = rw (map-append, sum-more)
+
+below-at : (ws : List ℕ) (i : ℕ) → All Below ws → Below (getD ws i 0)
+below-at [] i b = omega arith
+below-at (w ∷ ws) zero b = b .0
+below-at (w ∷ ws) (suc i) b = below-at ws i (b .1)
+
+-- a delivery is accepted only while its kind is awaited
+left-some : (k : Schedule) → negate (awaits k) ≡ false → 0 < k .left .0
+unfolding awaits
+left-some k a = ltb-true 0 (k .left .0) (held (ltb 0 (k .left .0)) (negated (awaits k) a) .0)
+
+module _ (m : Model) (h : History) (i : FlightHeld (m .setup) h (m .flight)) where
+  flight-ticks :
+      FlightHeld (m .setup) (noteTick (begins (m .flight .schedule)) (fails (m .flight .schedule)) h)
+      (flightAfter (m .flight))
+  unfolding flightAfter lostFlight noteTick
+  flight-ticks =
+      let k : Schedule = m .flight .schedule in
+      let g = going-tick _ _ h k (i .going) in
+      picked (FlightHeld (m .setup) (noteTick (begins k) (fails k) h)) (fails k)
+      (λ _. record { going = g; sum = i .sum; range = i .range })
+      (λ _. record { going = g; sum = i .sum; range = i .range })
+
+  flight-fails :
+      (u d : List ℕ) →
+      NoneHolds m (flight u d) →
+      anyLate m u d ≡ true →
+      FlightHeld (m .setup) (noteFailed (m .setup) (flight u d) h)
+      (lostFlight (m .flight) (settle (m .flight .schedule) false))
+  unfolding lostFlight noteFailed notAwaited anyLate noneLost
+  flight-fails u d n l =
+      let k : Schedule = m .flight .schedule in
+      record {
+        going = going-failed _ _ h k (i .going) (m .setup) (flight u d) (left-some k (n .row10)) (rw l);
+        sum = i .sum;
+        range = i .range;
+      }
+
+  flight-adds :
+      (u d : List ℕ) →
+      NoneHolds m (flight u d) →
+      anyLate m u d ≡ false →
+      FlightHeld (m .setup) (noteGood (m .setup) (flight u d) h)
+      (goodFlight (m .flight) (hitCount (m .setup)) (six u) (six d))
+  unfolding goodFlight goodSum average averagesOf noteGood noneLost notAwaited miscounted anyLate
+  flight-adds u d n l =
+      let k : Schedule = m .flight .schedule in
+      let w = left-some k (n .row10) in
+      let hits : ℕ = hitCount (m .setup) in
+      let b = hits-bounds (m .setup) in
+      let c = hits-counted (m .flight) hits (length u) (length d) (n .row11) in
+      let tu = six-total u (omega arith) in
+      let td = six-total d (omega arith) in
+      let r = rw (tu, td) at (hits-below m u d (n .row11) l) in
+      record {
+        going = going-good _ _ h k (i .going) (m .setup) (flight u d) w (rw l);
+        sum =
+            rw (lt-ltb (k .settled) (k .planned) (unsettled _ _ h k (i .going) w), tu, td, map-append, total-more)
+            (omega arith);
+        range =
+            rw map-append
+            (all-append InRange (map (averagesOf (m .setup)) (h .good)) (averagesOf (m .setup) (flight u d)) (i .range)
+            (quotient-below (sum u) hits 2147483648 (r .0), quotient-below (sum d) hits 2147483648 (r .1)));
+      }
+
+module _ (m : Model) (h : History) (i : TemperatureHeld (m .setup) h (m .temperature)) where
+  ports-tick :
+      TemperatureHeld (m .setup)
+      (noteTick (begins (m .temperature .schedule)) (fails (m .temperature .schedule)) h)
+      (temperatureAfter (m .temperature))
+  unfolding temperatureAfter noteTick
+  ports-tick =
+      let k : Schedule = m .temperature .schedule in
+      let g = going-tick _ _ h k (i .going) in
+      picked (TemperatureHeld (m .setup) (noteTick (begins k) (fails k) h)) (fails k)
+      (λ _. record { going = g; sums = i .sums; below = i .below })
+      (λ _. record { going = g; sums = i .sums; below = i .below })
+
+  ports-fail :
+      (w ports : List ℕ) →
+      NoneHolds m (temperature w) →
+      anyOpen m w ≡ true →
+      TemperatureHeld (m .setup) (noteFailed (m .setup) (temperature w) h)
+      (record { schedule = settle (m .temperature .schedule) false; sums = m .temperature .sums; ports = ports })
+  unfolding noteFailed notAwaited anyOpen noneLost
+  ports-fail w ports n l =
+      let k : Schedule = m .temperature .schedule in
+      record {
+        going = going-failed _ _ h k (i .going) (m .setup) (temperature w) (left-some k (n .row10)) (rw l);
+        sums = i .sums;
+        below = i .below;
+      }
+
+  ports-add :
+      (w : List ℕ) →
+      NoneHolds m (temperature w) →
+      anyOpen m w ≡ false →
+      TemperatureHeld (m .setup) (noteGood (m .setup) (temperature w) h)
+      (record {
+        schedule = settle (m .temperature .schedule) true;
+        sums = goodSums (m .temperature) (four w);
+        ports = four w;
+      })
+  unfolding goodSums plusEach portWord noteGood noneLost notAwaited anyOpen
+  ports-add w n l =
+      let k : Schedule = m .temperature .schedule in
+      let p = Sound.ports-good m w (n .row11) l in
+      let a = left-some k (n .row10) in
+      record {
+        going = going-good _ _ h k (i .going) (m .setup) (temperature w) a (rw l);
+        sums =
+            rw (
+              lt-ltb (k .settled) (k .planned) (unsettled _ _ h k (i .going) a),
+              p .whole,
+              i .sums,
+              port-more 0 (h .good) (temperature w),
+              port-more 1 (h .good) (temperature w),
+              port-more 2 (h .good) (temperature w),
+              port-more 3 (h .good) (temperature w),
+            );
+        below =
+            λ j.
+            rw map-append
+            (all-append Below (map (portWord j) (h .good)) (getD w j 0) (i .below j) (below-at w j (p .each)));
+      }
+
+-- a refused call tells nothing
+note-refused :
+    (k : Kind) (s : List ℕ) (c : Call) (n : ℕ) (h : History) →
+    isTick c ≡ false →
+    note k s (record { call = c; answer = Refused n }) h ≡ h
+unfolding note isGood isFailed
+note-refused k s c n h t = rw t (by-test (isDelivery k c) (λ e. rw e) (λ e. rw e))
+
+pub held-step :
+    (k : Kind) (m : Model) (h : History) {c : Call} {r : Reply} →
+    Step m c r →
+    KindHeld k (m .setup) h m →
+    KindHeld k (m .setup) (note k (m .setup) (record { call = c; answer = r .answer }) h) (r .model)
+unfolding note isTick isDelivery isGood isFailed startReported failureReported reportOf tickModel flightFailed flightGood temperatureFailed temperatureGood
+held-step differences m h (refusal c n t) i = rw (note-refused differences (m .setup) c n h t) i
+held-step differences m h (reading f o s) i = i
+held-step differences m h ticking i = flight-ticks m h i
+held-step differences m h (flight-failed u d n l) i = flight-fails m h i u d n l
+held-step differences m h (flight-good u d n l) i = flight-adds m h i u d n l
+held-step differences m h (ports-failed w n l) i = i
+held-step differences m h (ports-good w n l) i = i
+held-step temperatures m h (refusal c n t) i = rw (note-refused temperatures (m .setup) c n h t) i
+held-step temperatures m h (reading f o s) i = i
+held-step temperatures m h ticking i = ports-tick m h i
+held-step temperatures m h (flight-failed u d n l) i = i
+held-step temperatures m h (flight-good u d n l) i = i
+held-step temperatures m h (ports-failed w n l) i = ports-fail m h i w _ n l
+held-step temperatures m h (ports-good w n l) i = ports-add m h i w n l
+
+-- "The averages are what E5h, E6h and F0h to F7h hold."
+difference-average :
+    (s : List ℕ) (h : History) (f : Flight) →
+    FlightHeld s h f →
+    differenceMean (f .sum) (f .schedule .good) ≡ differenceBits (meanAverages (map (averagesOf s) (h .good)))
+difference-average s h f i =
+    rw (i .sum, i .going .counted .good, ← (length-map (h .good) (averagesOf s)))
+    (mean-word (map (averagesOf s) (h .good)) (i .range))
+
+port-average :
+    (s : List ℕ) (h : History) (t : Temperature) (i : ℕ) →
+    TemperatureHeld s h t →
+    getD (t .sums) i 0 ≡ portSum i (h .good) →
+    portMean (getD (t .sums) i 0) (t .schedule .good) ≡ floorMeanWords (map (portWord i) (h .good))
+port-average s h t i j e =
+    rw (e, j .going .counted .good, ← (length-map (h .good) (portWord i)))
+    (port-mean-words (map (portWord i) (h .good)) (j .below i))
+
+pub held-claim : (k : Kind) (s : List ℕ) (h : History) (m : Model) → KindHeld k s h m → KindClaim k s h m
+unfolding periodOf countOf awaitedNow deliveryOf notAwaited registerWord flightWord temperatureWord half
+held-claim differences s h m i =
+    let a = difference-average s h (m .flight) i in
+    record {
+      starts = all-reached _ _ h (m .flight .schedule) (i .going);
+      balance = balanced _ _ h (m .flight .schedule) (i .going);
+      timely = i .going .counted .timely;
+      recent = recent _ _ h (m .flight .schedule) (i .going);
+      judged = i .going .counted .judged;
+      averages = record { high = ap (λ w. w / 65536) a; low = ap (λ w. w % 65536) a };
+    }
+held-claim temperatures s h m i =
+    let a = port-average s h (m .temperature) 0 i (ap (λ l. getD l 0 0) (i .sums)) in
+    let b = port-average s h (m .temperature) 1 i (ap (λ l. getD l 1 0) (i .sums)) in
+    let c = port-average s h (m .temperature) 2 i (ap (λ l. getD l 2 0) (i .sums)) in
+    let d = port-average s h (m .temperature) 3 i (ap (λ l. getD l 3 0) (i .sums)) in
+    record {
+      starts = all-reached _ _ h (m .temperature .schedule) (i .going);
+      balance = balanced _ _ h (m .temperature .schedule) (i .going);
+      timely = i .going .counted .timely;
+      recent = recent _ _ h (m .temperature .schedule) (i .going);
+      judged = i .going .counted .judged;
+      averages = (
+        record { high = ap (λ w. w / 65536) a; low = ap (λ w. w % 65536) a },
+        record { high = ap (λ w. w / 65536) b; low = ap (λ w. w % 65536) b },
+        record { high = ap (λ w. w / 65536) c; low = ap (λ w. w % 65536) c },
+        record { high = ap (λ w. w / 65536) d; low = ap (λ w. w % 65536) d },
+      );
+    }

@@ -1,0 +1,10 @@
+-- Laws of the definitions, for this crate and those above it.
+pub mod Table
+pub mod Sound
+pub mod Decode
+pub mod Facts
+pub mod Bench
+pub mod Going
+pub mod Calls
+pub mod Held
+pub mod Third

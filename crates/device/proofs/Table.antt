@@ -1,0 +1,99 @@
+-- The table of refusals: which number is given, and what is known where none is.
+use Prim.Native.Nat.{ℕ}
+use native.Mathlib.Omega.{arith}
+use mathlib.Core.Bool.{Bool, true, false}
+use mathlib.Core.List.{List, [], _∷_, map}
+use mathlib.Core.Logic.{_↔_, _⊎_, inl, inr, ⊎-elim}
+use mathlib.Core.Path.{_≡_, refl, sym}
+use Rattle.unit.specs.Choice.{pick, negate}
+use Rattle.unit.specs.Cases.{by-test}
+use Rattle.measurement.specs.Mean.{All}
+use Rattle.device.specs.declared.Model.{Model}
+use Rattle.device.specs.Model.{sound}
+use Rattle.device.specs.Call.{Call, Row, accepted, refused, verdict, firstOf, table, reply, replyBy, output, outputBy, bufferOf}
+use Rattle.device.specs.Call.{noFrame, notCarried, wrongLength, pastRegisters, shortOutput, whileBusy, badCalendar}
+use Rattle.device.specs.Call.{notInitialised, badSetup, notAwaited, miscounted}
+
+-- Whichever is picked, with what the test showed.
+pub picked : {A : Type 0} (P : A → Type 0) (t : Bool) {x y : A} → (t ≡ true → P x) → (t ≡ false → P y) → P (pick t x y)
+picked P true p q = p refl
+picked P false p q = q refl
+
+pub negated : (b : Bool) → negate b ≡ false → b ≡ true
+negated true e = refl
+negated false e = sym e
+
+-- "Checked in this order"
+pub numbers :
+    (m : Model) (c : Call) →
+    map (λ (r : Row). r .number) (table m c) ≡ 0 ∷ 1 ∷ 2 ∷ 3 ∷ 4 ∷ 5 ∷ 6 ∷ 7 ∷ 8 ∷ 9 ∷ 10 ∷ 11 ∷ []
+unfolding table
+numbers m c = refl
+
+-- "the first whose condition holds is given"
+abbrev pub First : List Row → ℕ → Type 0
+First [] n = ⊥
+First (r ∷ rs) n = ((r .holds ≡ true) × (r .number ≡ n)) ⊎ ((r .holds ≡ false) × First rs n)
+
+abbrev pub None : List Row → Type 0
+None rs = All (λ (r : Row). r .holds ≡ false) rs
+
+pub refused-means : (rs : List Row) (n : ℕ) → (firstOf rs ≡ refused n) ↔ First rs n
+unfolding firstOf
+refused-means [] n = (λ e. let z : _≡_ {A = ℕ} 0 1 = cc in absurd (omega arith), absurd)
+refused-means (r ∷ rs) n =
+    by-test (r .holds)
+    (λ h. rw h (λ e. inl (refl, cc), ⊎-elim (λ f. cc) (λ l. cc)))
+    (λ h. rw h (λ e. inr (refl, refused-means rs n .0 e), ⊎-elim (λ f. cc) (λ l. refused-means rs n .1 (l .1))))
+
+-- "none when none holds"
+pub accepted-means : (rs : List Row) → (firstOf rs ≡ accepted) ↔ None rs
+unfolding firstOf
+accepted-means [] = (λ e. tt, λ n. refl)
+accepted-means (r ∷ rs) =
+    by-test (r .holds)
+    (λ h. rw h (λ e. let z : _≡_ {A = ℕ} 0 1 = cc in absurd (omega arith), λ n. cc))
+    (λ h. rw h (λ e. (refl, accepted-means rs .0 e), λ n. accepted-means rs .1 (n .1)))
+
+-- The conditions of the table, by number, none of which holds.
+pub record NoneHolds (m : Model) (c : Call) : Type 0 where
+  pub row0 : sound m ≡ true
+  pub row1 : noFrame c ≡ false
+  pub row2 : notCarried c ≡ false
+  pub row3 : wrongLength c ≡ false
+  pub row4 : pastRegisters c ≡ false
+  pub row5 : shortOutput c ≡ false
+  pub row6 : whileBusy m c ≡ false
+  pub row7 : badCalendar m c ≡ false
+  pub row8 : notInitialised m c ≡ false
+  pub row9 : badSetup m c ≡ false
+  pub row10 : notAwaited m c ≡ false
+  pub row11 : miscounted m c ≡ false
+
+pub none-holds : (m : Model) (c : Call) → verdict m c ≡ accepted → NoneHolds m c
+unfolding verdict table
+none-holds m c e =
+    let n : None (table m c) = accepted-means (table m c) .0 e in
+    record {
+      row0 = negated (sound m) (search);
+      row1 = search;
+      row2 = search;
+      row3 = search;
+      row4 = search;
+      row5 = search;
+      row6 = search;
+      row7 = search;
+      row8 = search;
+      row9 = search;
+      row10 = search;
+      row11 = search;
+    }
+
+-- "A refusal answers its number; model and output buffer keep every value."
+pub refused-same : (m : Model) (c : Call) (n : ℕ) → verdict m c ≡ refused n → reply m c .model ≡ m
+unfolding reply replyBy
+refused-same m c n e = rw e
+
+pub refused-buffer : (m : Model) (c : Call) (n : ℕ) → verdict m c ≡ refused n → output m c ≡ bufferOf c
+unfolding output outputBy
+refused-buffer m c n e = rw e

@@ -1,0 +1,169 @@
+-- The third demand, over every list of calls.
+use Prim.Native.Nat.{ℕ, zero, suc, _/_, _%_}
+use native.Mathlib.Omega.{arith}
+use native.Mathlib.Numerals.{add-one}
+use mathlib.Core.Path.{_≡_, refl, ap, sym, subst, _∙_}
+use mathlib.Core.Bool.{Bool, true, false}
+use mathlib.Core.List.{List, [], _∷_}
+use lib.Dec.{ltb, eqb}
+use borrow.Author.Tests.{ltb-false}
+use Rattle.unit.specs.Choice.{pick, both}
+use Rattle.unit.specs.Cases.{by-test, by-eqb}
+use Rattle.calendar.specs.declared.Clock.{Clock}
+use Rattle.calendar.specs.Calendar.{tickClock}
+use Rattle.calendar.specs.Moment.{moment, afterTicks}
+use Rattle.calendar.proofs.Laws.{passed, after-moment, after-weekday}
+use Rattle.register.specs.Setup.{wordOf, clockStands, eventUnset, differencePeriod, differenceCount, temperaturePeriod, temperatureCount}
+use Rattle.register.proofs.Laws.{difference-period-bounds, difference-count-bounds, temperature-period-bounds, temperature-count-bounds}
+use Rattle.frame.specs.Frame.{isCommand}
+use Rattle.measurement.specs.Mean.{sum, biasedTotal}
+use Rattle.device.specs.declared.Model.{Model}
+use Rattle.device.specs.declared.Reply.{Reply}
+use Rattle.device.specs.Model.{sound, freshModel}
+use Rattle.device.specs.Bus.{startsFlight, startsTemperature, isEvent, eventSideUnset, commandUnset, flightEvent, temperatureEvent, eventFlight, eventTemperature, startedEvent, runModel}
+use Rattle.device.specs.Call.{Call, badSetup, accepted, verdict, acceptedAnswer, acceptedModel, accept, replyBy, reply}
+use Rattle.device.specs.Claim.{Kind, differences, temperatures, History, note, history, after, log, onlyReads, isTick}
+use Rattle.device.specs.Claim.{startReported, beginning, runs, tickCount, command, ThirdDemand}
+use Rattle.device.proofs.Table.{none-holds}
+use Rattle.device.proofs.Sound.{bounds-of, fresh-sound, keeps-sound}
+use Rattle.device.proofs.Going.{going-start}
+use Rattle.device.proofs.Calls.{stepped, setup-kept, clock-step}
+use Rattle.device.proofs.Held.{KindHeld, held-step, held-claim}
+
+both-true : (a b : Bool) → both a b ≡ true → (a ≡ true) × (b ≡ true)
+both-true true b e = (refl, e)
+both-true false b e = (e, cc)
+
+-- The whole list.
+all-held :
+    (k : Kind) (s : List ℕ) (cs : List Call) (m : Model) (h : History) →
+    m .setup ≡ s →
+    sound m ≡ true →
+    onlyReads (log m cs) ≡ true →
+    KindHeld k s h m →
+    KindHeld k s (history k s (log m cs) h) (after m cs)
+unfolding log onlyReads history after
+all-held k s [] m h e v p i = i
+all-held k s (c ∷ cs) m h e v p i =
+    let (now, rest) = both-true _ _ p in
+    let t = stepped m c v now in
+    all-held k s cs (reply m c .model) (note k s (record { call = c; answer = reply m c .answer }) h)
+    (setup-kept m t ∙ e) (keeps-sound m c v) rest
+    (subst
+    (λ (s : List ℕ).
+    KindHeld k s h m → KindHeld k s (note k s (record { call = c; answer = reply m c .answer }) h) (reply m c .model))
+    e (held-step k m h t) i)
+
+after-tick : (n : ℕ) (c : Clock) → afterTicks n (tickClock c) ≡ tickClock (afterTicks n c)
+unfolding afterTicks
+after-tick zero c = refl
+after-tick (suc n) c = ap tickClock (after-tick n c)
+
+all-ticks :
+    (cs : List Call) (m : Model) →
+    clockStands (m .setup) ≡ false →
+    sound m ≡ true →
+    onlyReads (log m cs) ≡ true →
+    (after m cs) .clock ≡ afterTicks (tickCount cs) (m .clock)
+unfolding log onlyReads after tickCount afterTicks
+all-ticks [] m e v p = refl
+all-ticks (c ∷ cs) m e v p =
+    let (now, rest) = both-true _ _ p in
+    let t = stepped m c v now in
+    all-ticks cs (reply m c .model) (ap clockStands (setup-kept m t) ∙ e) (keeps-sound m c v) rest ∙
+    ap (afterTicks (tickCount cs)) (clock-step m t e) ∙
+    by-test (isTick c) (λ d. rw (d, add-one (tickCount cs)) (after-tick (tickCount cs) (m .clock))) (λ d. rw d)
+
+sound-after : (cs : List Call) (m : Model) → sound m ≡ true → sound (after m cs) ≡ true
+unfolding after
+sound-after [] m v = v
+sound-after (c ∷ cs) m v = sound-after cs (reply m c .model) (keeps-sound m c v)
+
+-- Acceptance.
+by-event : (G : ℕ → Type 0) (op : ℕ) → isEvent op ≡ true → G 7 → G 8 → G 9 → G op
+unfolding isEvent
+by-event G op e x y z =
+    let (l, d) = passed (ltb op 7) e in
+    let (u, _) = passed (ltb 9 op) d in
+    by-eqb op 7 (λ e _. rw e x)
+    (λ n _. by-eqb op 8 (λ e _. rw e y)
+    (λ k _. let q : op ≡ 9 = omega (arith, ltb-false) in rw q z))
+
+accepted-event :
+    (m : Model) (op : ℕ) (o : List ℕ) →
+    isEvent op ≡ true →
+    verdict m (command op o) ≡ accepted →
+    reply m (command op o) ≡ accept (startsFlight op) (startsTemperature op) (startedEvent m op)
+unfolding reply replyBy acceptedAnswer acceptedModel isCommand runModel isEvent
+accepted-event m op o e =
+    by-event
+    (λ op. verdict m (command op o) ≡ accepted → reply m (command op o) ≡ accept (startsFlight op) (startsTemperature op) (startedEvent m op))
+    op e (λ v. rw v) (λ v. rw v) (λ v. rw v)
+
+neither-picked : (t : Bool) {r : Bool} → pick t true r ≡ false → (t ≡ false) × (r ≡ false)
+neither-picked true e = (e, cc)
+neither-picked false e = (refl, e)
+
+event-command : (op : ℕ) → isEvent op ≡ true → isCommand op ≡ true
+unfolding isCommand
+event-command op e = by-event (λ op. isCommand op ≡ true) op e refl refl refl
+
+-- an event command is refused while the clock stands
+clock-runs :
+    (m : Model) (op : ℕ) (o : List ℕ) →
+    isEvent op ≡ true →
+    verdict m (command op o) ≡ accepted →
+    clockStands (m .setup) ≡ false
+unfolding badSetup commandUnset eventSideUnset eventUnset
+clock-runs m op o e v =
+    let u = rw (event-command op e, e) at (none-holds m (command op o) v .row9) in
+    neither-picked (eqb (wordOf (m .setup) 0x42 / 256 % 2) 1) (neither-picked (eventUnset (m .setup)) u .0) .1
+
+held-start :
+    (k : Kind) (m : Model) (op : ℕ) →
+    runs k op ≡ true →
+    KindHeld k (m .setup) (beginning k (accept (startsFlight op) (startsTemperature op) (startedEvent m op) .answer)) (startedEvent m op)
+unfolding runs beginning startReported startedEvent eventFlight eventTemperature flightEvent temperatureEvent biasedTotal sum
+held-start differences m op r =
+    rw r
+    (record {
+      going =
+          going-start (differencePeriod (m .setup)) (differenceCount (m .setup))
+          (difference-period-bounds (m .setup) .0) (difference-count-bounds (m .setup) .0);
+      sum = refl;
+      range = tt;
+    })
+held-start temperatures m op r =
+    rw r
+    (record {
+      going =
+          going-start (temperaturePeriod (m .setup)) (temperatureCount (m .setup))
+          (omega (arith, temperature-period-bounds (m .setup))) (temperature-count-bounds (m .setup) .0);
+      sums = refl;
+      below = λ i. tt;
+    })
+
+pub third-demand : ThirdDemand
+unfolding startedEvent
+third-demand before op o later e v p =
+    let m : Model = after freshModel before in
+    let n : Model = reply m (command op o) .model in
+    let s : sound m ≡ true = sound-after before freshModel fresh-sound in
+    let k : sound n ≡ true = keeps-sound m (command op o) s in
+    let q = accepted-event m op o e v in
+    let c : (after n later) .clock ≡ afterTicks (tickCount later) (m .clock) =
+    all-ticks later n (ap (λ (r : Reply). clockStands (r .model .setup)) q ∙ clock-runs m op o e v) k p ∙
+    ap (λ (r : Reply). afterTicks (tickCount later) (r .model .clock)) q in
+    record {
+      kinds =
+          λ j r.
+          held-claim j _ _ _
+          (all-held j (m .setup) later n (beginning j (reply m (command op o) .answer))
+          (ap (λ (r : Reply). r .model .setup) q) k p
+          (subst (λ (r : Reply). KindHeld j (m .setup) (beginning j (r .answer)) (r .model)) (sym q) (held-start j m op r)));
+      clock =
+          record {
+            shown = ap moment c ∙ after-moment (tickCount later) (m .clock) (bounds-of m s .clock);
+            weekday = ap (λ (c : Clock). c .weekday) c ∙ after-weekday (tickCount later) (m .clock) (bounds-of m s .clock);
+          };
+    }

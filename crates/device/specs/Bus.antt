@@ -1,0 +1,162 @@
+-- Accepted commands and reads, and what may stand in a command's way.
+use Prim.Native.Nat.{ℕ, _+_}
+use mathlib.Core.Bool.{Bool, true, false}
+use mathlib.Core.List.{List, [], _∷_}
+use lib.Dec.{ltb, leb, eqb}
+use Rattle.unit.specs.Choice.{pick, negate}
+use Rattle.register.specs.Setup.{flightUnset, temperatureUnset, eventUnset, differencePeriod, differenceCount, temperaturePeriod, temperatureCount}
+use Rattle.device.specs.declared.Flight.{Flight}
+use Rattle.device.specs.declared.Temperature.{Temperature}
+use Rattle.device.specs.declared.Model.{Model}
+use Rattle.device.specs.Event.{single, eventStart, halted}
+use Rattle.device.specs.Status.{joined, initBit, haltBit, noBits}
+use Rattle.device.specs.Model.{busy, resetModel, withFlight, withTemperature, withStatus}
+
+-- "a command but HALT and Reset"
+unfoldable pub mustBeIdle : ℕ → Bool
+mustBeIdle op = pick (eqb op 4) false (pick (eqb op 10) false true)
+
+-- "TOF_Up (00h), TOF_Down (01h), TOF_Diff (02h) start a flight measurement, Temperature (03h) a temperature one"; "07h
+-- runs both kinds, 08h differences, 09h temperatures."
+unfoldable pub startsFlight : ℕ → Bool
+startsFlight op = pick (ltb op 3) true (pick (eqb op 7) true (pick (eqb op 8) true false))
+
+unfoldable pub startsTemperature : ℕ → Bool
+startsTemperature op = pick (eqb op 3) true (pick (eqb op 7) true (pick (eqb op 9) true false))
+
+unfoldable pub isEvent : ℕ → Bool
+isEvent op = pick (ltb op 7) false (pick (ltb 9 op) false true)
+
+-- "busy: .. a command but HALT and Reset, while a measurement is awaited or an event runs"
+unfoldable pub commandBusy : Model → ℕ → Bool
+commandBusy m op = pick (mustBeIdle op) (busy m) false
+
+-- "not initialised: 00h to 03h, 07h to 09h before Initialize"
+unfoldable pub notReady : Model → ℕ → Bool
+notReady m op = pick (m .ready) false (pick (startsFlight op) true (startsTemperature op))
+
+-- "Number 9: for flight, PL .. or DPL .. zero; for temperature, TP .. not 11b." "Number 9 also: ET_CONT .. or EOSC is 1;
+-- only the kinds run are judged for PL, DPL and TP."
+unfoldable pub flightSideUnset : List ℕ → ℕ → Bool
+flightSideUnset setup op = pick (startsFlight op) (flightUnset setup) false
+
+unfoldable pub temperatureSideUnset : List ℕ → ℕ → Bool
+temperatureSideUnset setup op = pick (startsTemperature op) (temperatureUnset setup) false
+
+unfoldable pub eventSideUnset : List ℕ → ℕ → Bool
+eventSideUnset setup op = pick (isEvent op) (eventUnset setup) false
+
+unfoldable pub commandUnset : Model → ℕ → Bool
+commandUnset m op =
+    pick (eventSideUnset (m .setup) op) true
+    (pick (flightSideUnset (m .setup) op) true (temperatureSideUnset (m .setup) op))
+
+unfoldable pub flightStarted : Flight → ℕ → Flight
+flightStarted f op =
+    record {
+      schedule = single (f .schedule);
+      up = negate (eqb op 1);
+      down = negate (eqb op 0);
+      sum = f .sum;
+      ups = f .ups;
+      downs = f .downs;
+      difference = f .difference;
+    }
+
+-- "Acceptance zeroes cycle counts (E4h, EFh) and averages (E5h, E6h; F0h to F7h) of the kinds run."
+unfoldable pub flightEvent : Flight → List ℕ → Flight
+flightEvent f setup =
+    record {
+      schedule = eventStart (differencePeriod setup) (differenceCount setup);
+      up = true;
+      down = true;
+      sum = 0;
+      ups = f .ups;
+      downs = f .downs;
+      difference = f .difference;
+    }
+
+unfoldable pub temperatureEvent : Temperature → List ℕ → Temperature
+temperatureEvent t setup =
+    record {
+      schedule = eventStart (temperaturePeriod setup) (temperatureCount setup);
+      sums = 0 ∷ 0 ∷ 0 ∷ 0 ∷ [];
+      ports = t .ports;
+    }
+
+unfoldable pub eventFlight : Model → ℕ → Flight
+eventFlight m op = pick (startsFlight op) (flightEvent (m .flight) (m .setup)) (m .flight)
+
+unfoldable pub eventTemperature : Model → ℕ → Temperature
+eventTemperature m op =
+    pick (startsTemperature op) (temperatureEvent (m .temperature) (m .setup)) (m .temperature)
+
+unfoldable pub startedEvent : Model → ℕ → Model
+startedEvent m op =
+    record {
+      clock = m .clock;
+      setup = m .setup;
+      status = m .status;
+      ready = m .ready;
+      flight = eventFlight m op;
+      temperature = eventTemperature m op;
+    }
+
+-- "05h Initialize makes the model initialised, until a Reset, and sets INIT."
+unfoldable pub initialised : Model → Model
+initialised m =
+    record {
+      clock = m .clock;
+      setup = m .setup;
+      status = joined (m .status) initBit;
+      ready = true;
+      flight = m .flight;
+      temperature = m .temperature;
+    }
+
+-- "0Ah HALT drops awaited measurements, ends the event, sets HALT, also when idle."
+unfoldable pub haltedModel : Model → Model
+haltedModel m =
+    record {
+      clock = m .clock;
+      setup = m .setup;
+      status = joined (m .status) haltBit;
+      ready = m .ready;
+      flight =
+          record {
+            schedule = halted (m .flight .schedule);
+            up = m .flight .up;
+            down = m .flight .down;
+            sum = m .flight .sum;
+            ups = m .flight .ups;
+            downs = m .flight .downs;
+            difference = m .flight .difference;
+          };
+      temperature =
+          record {
+            schedule = halted (m .temperature .schedule);
+            sums = m .temperature .sums;
+            ports = m .temperature .ports;
+          };
+    }
+
+unfoldable pub singleStarted : Model → ℕ → Model
+singleStarted m op =
+    pick (eqb op 3)
+    (withTemperature m
+    (record {
+      schedule = single (m .temperature .schedule);
+      sums = m .temperature .sums;
+      ports = m .temperature .ports;
+    }))
+    (withFlight m (flightStarted (m .flight) op))
+
+unfoldable pub runModel : Model → ℕ → Model
+runModel m op =
+    pick (eqb op 4) resetModel
+    (pick (eqb op 5) (initialised m)
+    (pick (eqb op 10) (haltedModel m) (pick (isEvent op) (startedEvent m op) (singleStarted m op))))
+
+-- "FEh is the interrupt status; reading it clears it after the word is taken."
+unfoldable pub readModel : Model → ℕ → ℕ → Model
+readModel m a n = pick (ltb 0xFE a) m (pick (leb (a + n) 0xFE) m (withStatus m noBits))

@@ -1,0 +1,288 @@
+-- Every call: its refusals in the order of 01's table, and what it leaves when none holds.
+use Prim.Native.Nat.{ℕ, _+_, _-_, _*_, _/_}
+use mathlib.Core.Bool.{Bool, true, false}
+use mathlib.Core.List.{List, [], _∷_}
+use lib.ListN.{length, getD, drop}
+use lib.Dec.{ltb, leb, eqb}
+use Rattle.unit.specs.Choice.{pick, either, both, negate}
+use Rattle.register.specs.Setup.{hitCount, timeout, portCycle, interruptEnabled}
+use Rattle.frame.specs.Frame.{isCommand, isWrite, isRead, notWhole, pastEnd}
+use Rattle.frame.specs.declared.Decoded.{Decoded}
+use Rattle.frame.specs.declared.Decoded.the-variants.{Command, Read, Write, Refusal}
+use Rattle.measurement.specs.Limit.{lateFrom, openFrom, anyFrom}
+use Rattle.measurement.specs.Words.{six, four}
+use Rattle.device.specs.declared.Schedule.{Schedule}
+use Rattle.device.specs.declared.Model.{Model}
+use Rattle.device.specs.declared.Reply.{Reply}
+use Rattle.device.specs.declared.Answer.{Answer}
+use Rattle.device.specs.declared.Answer.the-variants.{Refused, Accepted, Ticked, Good, Failed}
+use Rattle.device.specs.declared.Told.{Told}
+use Rattle.device.specs.declared.Told.the-variants.{Value, Refused as NotTold}
+use Rattle.device.specs.Event.{awaits}
+use Rattle.device.specs.Status.{statusWord}
+use Rattle.device.specs.Model.{sound, busy}
+use Rattle.device.specs.Registers.{registerWord, fill}
+use Rattle.device.specs.Write.{writeInvalid, writeModel}
+use Rattle.device.specs.Tick.{tickModel, reportOf}
+use Rattle.device.specs.Delivery.{flightMiscounted, flightGood, flightFailed, temperatureGood, temperatureFailed}
+use Rattle.device.specs.Bus.{startsFlight, startsTemperature, commandBusy, notReady, commandUnset, runModel, readModel}
+
+-- The calls that a list may hold: a transaction has its frame and the output buffer before it.
+pub data Call : Type 0 where
+  transaction : List ℕ → List ℕ → Call
+  tick : Call
+  flight : List ℕ → List ℕ → Call
+  temperature : List ℕ → Call
+
+-- "The opcode is the first byte"; the bytes after it; "n whole words"
+abbrev pub opcode : List ℕ → ℕ
+opcode f = getD f 0 0
+
+abbrev pub further : List ℕ → ℕ
+further f = length f - 1
+
+abbrev pub words : List ℕ → ℕ
+words f = further f / 2
+
+-- By the opcode's sort: a command, a write, or else a read.
+abbrev pub bySort : {A : Type 0} → List ℕ → A → A → A → A
+bySort f c w r = pick (isCommand (opcode f)) c (pick (isWrite (opcode f)) w r)
+
+-- The conditions of the table, one for each number.
+
+-- 1 "no bytes"
+unfoldable pub noFrame : Call → Bool
+noFrame (transaction f o) = eqb (length f) 0
+noFrame tick = false
+noFrame (flight u d) = false
+noFrame (temperature w) = false
+
+-- 2 "first byte not carried"
+unfoldable pub notCarried : Call → Bool
+notCarried (transaction f o) = bySort f false false (negate (isRead (opcode f)))
+notCarried tick = false
+notCarried (flight u d) = false
+notCarried (temperature w) = false
+
+-- 3 "a command with more bytes, or a read or write whose further bytes are not n ≥ 1 whole words"
+unfoldable pub wrongLength : Call → Bool
+wrongLength (transaction f o) = bySort f (negate (eqb (further f) 0)) (notWhole (further f)) (notWhole (further f))
+wrongLength tick = false
+wrongLength (flight u d) = false
+wrongLength (temperature w) = false
+
+-- 4 "a write past 43h or a read past FFh"
+unfoldable pub pastRegisters : Call → Bool
+pastRegisters (transaction f o) =
+    bySort f false (pastEnd (opcode f) (words f) 0x44) (pastEnd (opcode f) (words f) 0x100)
+pastRegisters tick = false
+pastRegisters (flight u d) = false
+pastRegisters (temperature w) = false
+
+-- 5 "a read with an output buffer below 2n bytes"
+unfoldable pub shortOutput : Call → Bool
+shortOutput (transaction f o) = bySort f false false (ltb (length o) (2 * words f))
+shortOutput tick = false
+shortOutput (flight u d) = false
+shortOutput (temperature w) = false
+
+-- 6 "a write, or a command but HALT and Reset, while a measurement is awaited or an event runs"
+unfoldable pub whileBusy : Model → Call → Bool
+whileBusy m (transaction f o) = bySort f (commandBusy m (opcode f)) (busy m) false
+whileBusy m tick = false
+whileBusy m (flight u d) = false
+whileBusy m (temperature w) = false
+
+-- 7 "the clock after the write, or the alarm, would be invalid"
+unfoldable pub badCalendar : Model → Call → Bool
+badCalendar m (transaction f o) = bySort f false (writeInvalid (drop 1 f) (opcode f) (words f) m) false
+badCalendar m tick = false
+badCalendar m (flight u d) = false
+badCalendar m (temperature w) = false
+
+-- 8 "00h to 03h, 07h to 09h before Initialize"
+unfoldable pub notInitialised : Model → Call → Bool
+notInitialised m (transaction f o) = bySort f (notReady m (opcode f)) false false
+notInitialised m tick = false
+notInitialised m (flight u d) = false
+notInitialised m (temperature w) = false
+
+-- 9 "see each command"
+unfoldable pub badSetup : Model → Call → Bool
+badSetup m (transaction f o) = bySort f (commandUnset m (opcode f)) false false
+badSetup m tick = false
+badSetup m (flight u d) = false
+badSetup m (temperature w) = false
+
+-- 10 "a delivery of a kind that is not awaited"
+unfoldable pub notAwaited : Model → Call → Bool
+notAwaited m (transaction f o) = false
+notAwaited m tick = false
+notAwaited m (flight u d) = negate (awaits (m .flight .schedule))
+notAwaited m (temperature w) = negate (awaits (m .temperature .schedule))
+
+-- 11 "a delivery with another number of words"
+unfoldable pub miscounted : Model → Call → Bool
+miscounted m (transaction f o) = false
+miscounted m tick = false
+miscounted m (flight u d) = flightMiscounted (m .flight) (hitCount (m .setup)) (length u) (length d)
+miscounted m (temperature w) = negate (eqb (length w) 4)
+
+-- The table: a number and whether its condition holds.
+pub record Row : Type 0 where
+  pub number : ℕ
+  pub holds : Bool
+
+abbrev pub row : ℕ → Bool → Row
+row n b = record { number = n; holds = b }
+
+unfoldable pub table : Model → Call → List Row
+table m c =
+    row 0 (negate (sound m)) ∷
+    row 1 (noFrame c) ∷
+    row 2 (notCarried c) ∷
+    row 3 (wrongLength c) ∷
+    row 4 (pastRegisters c) ∷
+    row 5 (shortOutput c) ∷
+    row 6 (whileBusy m c) ∷
+    row 7 (badCalendar m c) ∷
+    row 8 (notInitialised m c) ∷
+    row 9 (badSetup m c) ∷
+    row 10 (notAwaited m c) ∷
+    row 11 (miscounted m c) ∷
+    []
+
+-- "Checked in this order: the first whose condition holds is given, none when none holds."
+pub data Verdict : Type 0 where
+  accepted : Verdict
+  refused : ℕ → Verdict
+
+unfoldable pub firstOf : List Row → Verdict
+firstOf [] = accepted
+firstOf (r ∷ rs) = pick (r .holds) (refused (r .number)) (firstOf rs)
+
+unfoldable pub verdict : Model → Call → Verdict
+verdict m c = firstOf (table m c)
+
+-- What an accepted call answers: "An accepted transaction answers the kinds that it started, none for a read, a write or
+-- another command." "A delivery's answer says good or failed; a tick's answer says for each kind whether one started and
+-- whether one failed in it."
+unfoldable pub anyLate : Model → List ℕ → List ℕ → Bool
+anyLate m u d = either (anyFrom (lateFrom (timeout (m .setup))) u) (anyFrom (lateFrom (timeout (m .setup))) d)
+
+unfoldable pub anyOpen : Model → List ℕ → Bool
+anyOpen m w = anyFrom (openFrom (portCycle (m .setup))) w
+
+unfoldable pub acceptedAnswer : Model → Call → Answer
+acceptedAnswer m (transaction f o) =
+    bySort f (Accepted (startsFlight (opcode f)) (startsTemperature (opcode f))) (Accepted false false) (Accepted false false)
+acceptedAnswer m tick = Ticked (reportOf (m .flight .schedule)) (reportOf (m .temperature .schedule))
+acceptedAnswer m (flight u d) = pick (anyLate m u d) Failed Good
+acceptedAnswer m (temperature w) = pick (anyOpen m w) Failed Good
+
+-- The model that an accepted call leaves.
+unfoldable pub acceptedModel : Model → Call → Model
+acceptedModel m (transaction f o) =
+    bySort f (runModel m (opcode f)) (writeModel (drop 1 f) (opcode f) (words f) m) (readModel m (opcode f) (words f))
+acceptedModel m tick = tickModel m
+acceptedModel m (flight u d) =
+    pick (anyLate m u d) (flightFailed m) (flightGood m (hitCount (m .setup)) (six u) (six d))
+acceptedModel m (temperature w) =
+    pick (anyOpen m w) (temperatureFailed m (openFrom (portCycle (m .setup))) (four w)) (temperatureGood m (four w))
+
+-- The output buffer that an accepted transaction leaves.
+unfoldable pub acceptedOutput : Model → Call → List ℕ
+acceptedOutput m (transaction f o) = bySort f o o (fill m (opcode f) o (words f))
+acceptedOutput m tick = []
+acceptedOutput m (flight u d) = []
+acceptedOutput m (temperature w) = []
+
+-- "A refusal answers its number; model and output buffer keep every value."
+abbrev pub refuse : ℕ → Model → Reply
+refuse n m = record { answer = Refused n; model = m }
+
+unfoldable pub replyBy : Verdict → Model → Call → Reply
+replyBy accepted m c = record { answer = acceptedAnswer m c; model = acceptedModel m c }
+replyBy (refused n) m c = refuse n m
+
+unfoldable pub reply : Model → Call → Reply
+reply m c = replyBy (verdict m c) m c
+
+unfoldable pub bufferOf : Call → List ℕ
+bufferOf (transaction f o) = o
+bufferOf tick = []
+bufferOf (flight u d) = []
+bufferOf (temperature w) = []
+
+unfoldable pub outputBy : Verdict → Model → Call → List ℕ
+outputBy accepted m c = acceptedOutput m c
+outputBy (refused n) m c = bufferOf c
+
+unfoldable pub output : Model → Call → List ℕ
+output m c = outputBy (verdict m c) m c
+
+-- The answers of questions, which change nothing. "The INT answer is yes exactly when INT_EN .. is 1 and the status is not
+-- 0": 1 for yes, 0 for no.
+unfoldable pub interruptTold : Model → Told
+interruptTold m =
+    pick (sound m)
+    (pick (interruptEnabled (m .setup)) (pick (eqb (statusWord (m .status)) 0) (Value 0) (Value 1)) (Value 0))
+    (NotTold 0)
+
+-- "Awaited is then 1, exactly when number 10 would not be given for it, else 0."
+unfoldable pub awaitedTold : Model → Schedule → Told
+awaitedTold m k = pick (sound m) (pick (awaits k) (Value 1) (Value 0)) (NotTold 0)
+
+-- The word that a read of one register would give.
+unfoldable pub registerTold : Model → ℕ → Told
+registerTold m a =
+    pick (sound m) (pick (ltb a 0xB0) (NotTold 4) (pick (ltb 0xFF a) (NotTold 4) (Value (registerWord m a)))) (NotTold 0)
+
+-- The parts of a sound model's replies, as the code has them.
+abbrev pub accept : Bool → Bool → Model → Reply
+accept f t m = record { answer = Accepted f t; model = m }
+
+unfoldable pub commandReply : Model → ℕ → Reply
+commandReply m op =
+    pick (commandBusy m op) (refuse 6 m)
+    (pick (notReady m op) (refuse 8 m)
+    (pick (commandUnset m op) (refuse 9 m) (accept (startsFlight op) (startsTemperature op) (runModel m op))))
+
+unfoldable pub writeReply : Model → List ℕ → ℕ → ℕ → Reply
+writeReply m bytes op n =
+    pick (busy m) (refuse 6 m)
+    (pick (writeInvalid bytes op n m) (refuse 7 m) (accept false false (writeModel bytes op n m)))
+
+unfoldable pub refusalNumber : Decoded → ℕ
+refusalNumber (Command op) = 2
+refusalNumber (Read op n) = 2
+refusalNumber (Write op n) = 2
+refusalNumber (Refusal n) = n
+
+unfoldable pub readFits : Decoded → ℕ → Bool
+readFits (Command op) room = true
+readFits (Read op n) room = both (leb 0xB0 op) (both (leb (op + n) 0x100) (leb (2 * n) room))
+readFits (Write op n) room = true
+readFits (Refusal n) room = true
+
+unfoldable pub readReply : Model → Decoded → Reply
+readReply m (Command op) = refuse 2 m
+readReply m (Read op n) = accept false false (readModel m op n)
+readReply m (Write op n) = refuse 2 m
+readReply m (Refusal n) = refuse n m
+
+unfoldable pub readOutput : Model → Decoded → List ℕ → List ℕ
+readOutput m (Command op) out = out
+readOutput m (Read op n) out = fill m op out n
+readOutput m (Write op n) out = out
+readOutput m (Refusal n) out = out
+
+unfoldable pub flightFits : Model → List ℕ → List ℕ → Bool
+flightFits m u d =
+    both (sound m) (negate (flightMiscounted (m .flight) (hitCount (m .setup)) (length u) (length d)))
+
+unfoldable pub flightReply : Model → List ℕ → List ℕ → Reply
+flightReply m u d = record { answer = acceptedAnswer m (flight u d); model = acceptedModel m (flight u d) }
+
+unfoldable pub temperatureReply : Model → List ℕ → Reply
+temperatureReply m w = record { answer = acceptedAnswer m (temperature w); model = acceptedModel m (temperature w) }

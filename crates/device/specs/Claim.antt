@@ -1,0 +1,304 @@
+-- The third demand: what the calls after an accepted event command, and their answers, tell.
+use Prim.Native.Nat.{ℕ, zero, suc, _+_, _*_, _/_, _%_, _-_, _<_}
+use mathlib.Core.Bool.{Bool, true, false}
+use mathlib.Core.List.{List, [], _∷_, _++_, map}
+use mathlib.Core.Path.{_≡_}
+use lib.ListN.{length, getD}
+use lib.Dec.{leb}
+use Rattle.unit.specs.Choice.{pick, both, either, negate}
+use Rattle.calendar.specs.Moment.{moment, century, midnights}
+use Rattle.register.specs.Setup.{hitCount, timeout, portCycle, differencePeriod, differenceCount, temperaturePeriod, temperatureCount}
+use Rattle.frame.specs.Frame.{isRead}
+use Rattle.measurement.specs.Limit.{lateFrom, openFrom, anyFrom}
+use Rattle.measurement.specs.Mean.{All, sum, Averages, differenceBits, meanAverages, floorMeanWords}
+use Rattle.device.specs.declared.Schedule.{Schedule}
+use Rattle.device.specs.declared.Model.{Model}
+use Rattle.device.specs.declared.Reply.{Reply}
+use Rattle.device.specs.declared.Report.{Report}
+use Rattle.device.specs.declared.Answer.{Answer}
+use Rattle.device.specs.declared.Answer.the-variants.{Refused, Accepted, Ticked, Good, Failed}
+use Rattle.device.specs.Registers.{registerWord}
+use Rattle.device.specs.Bus.{startsFlight, startsTemperature, isEvent}
+use Rattle.device.specs.Model.{freshModel}
+use Rattle.device.specs.Call.{Call, transaction, tick, flight, temperature, opcode, reply, verdict, Verdict, accepted, notAwaited}
+
+-- "Both its lists run on one model: each call is handed the model that the call before it returned or left".
+unfoldable pub after : Model → List Call → Model
+after m [] = m
+after m (c ∷ cs) = after (reply m c .model) cs
+
+-- A call and its answer.
+pub record Entry : Type 0 where
+  pub call : Call
+  pub answer : Answer
+
+unfoldable pub log : Model → List Call → List Entry
+log m [] = []
+log m (c ∷ cs) = record { call = c; answer = reply m c .answer } ∷ log (reply m c .model) cs
+
+-- "After acceptance an accepted transaction stands in the list only if it is a register read."
+unfoldable pub isRefusal : Answer → Bool
+isRefusal (Refused n) = true
+isRefusal (Accepted f t) = false
+isRefusal (Ticked f t) = false
+isRefusal Good = false
+isRefusal Failed = false
+
+unfoldable pub isReading : Call → Bool
+isReading (transaction f o) = isRead (opcode f)
+isReading tick = true
+isReading (flight u d) = true
+isReading (temperature w) = true
+
+unfoldable pub onlyReads : List Entry → Bool
+onlyReads [] = true
+onlyReads (e ∷ es) = both (either (isRefusal (e .answer)) (isReading (e .call))) (onlyReads es)
+
+-- The two kinds, and P and N of each by the set-up.
+pub data Kind : Type 0 where
+  differences : Kind
+  temperatures : Kind
+
+unfoldable pub periodOf : Kind → List ℕ → ℕ
+periodOf differences s = differencePeriod s .0
+periodOf temperatures s = temperaturePeriod s .0
+
+unfoldable pub countOf : Kind → List ℕ → ℕ
+countOf differences s = differenceCount s
+countOf temperatures s = temperatureCount s
+
+-- "07h runs both kinds, 08h differences, 09h temperatures."
+unfoldable pub runs : Kind → ℕ → Bool
+runs differences op = startsFlight op
+runs temperatures op = startsTemperature op
+
+-- What an answer reports of a kind: "The start at 0 is reported by the command's answer, later ones by their tick."
+unfoldable pub startReported : Kind → Answer → Bool
+startReported k (Refused n) = false
+startReported differences (Accepted f t) = f
+startReported temperatures (Accepted f t) = t
+startReported differences (Ticked f t) = f .started
+startReported temperatures (Ticked f t) = t .started
+startReported k Good = false
+startReported k Failed = false
+
+unfoldable pub failureReported : Kind → Answer → Bool
+failureReported k (Refused n) = false
+failureReported k (Accepted f t) = false
+failureReported differences (Ticked f t) = f .failed
+failureReported temperatures (Ticked f t) = t .failed
+failureReported k Good = false
+failureReported k Failed = false
+
+unfoldable pub isGood : Answer → Bool
+isGood (Refused n) = false
+isGood (Accepted f t) = false
+isGood (Ticked f t) = false
+isGood Good = true
+isGood Failed = false
+
+unfoldable pub isFailed : Answer → Bool
+isFailed (Refused n) = false
+isFailed (Accepted f t) = false
+isFailed (Ticked f t) = false
+isFailed Good = false
+isFailed Failed = true
+
+unfoldable pub isTick : Call → Bool
+isTick (transaction f o) = false
+isTick tick = true
+isTick (flight u d) = false
+isTick (temperature w) = false
+
+unfoldable pub isDelivery : Kind → Call → Bool
+isDelivery k (transaction f o) = false
+isDelivery k tick = false
+isDelivery differences (flight u d) = true
+isDelivery temperatures (flight u d) = false
+isDelivery differences (temperature w) = false
+isDelivery temperatures (temperature w) = true
+
+-- "By the set-up at acceptance, an accepted flight delivery is answered good exactly when none of its words is late, a
+-- temperature one exactly when none is open."
+unfoldable pub noneLost : List ℕ → Call → Bool
+noneLost s (transaction f o) = false
+noneLost s tick = false
+noneLost s (flight u d) =
+    negate (either (anyFrom (lateFrom (timeout s)) u) (anyFrom (lateFrom (timeout s)) d))
+noneLost s (temperature w) = negate (anyFrom (openFrom (portCycle s)) w)
+
+-- "A flight delivery's difference is the up list's sum ÷ H rounded down, less the same of the down list"
+unfoldable pub averagesOf : List ℕ → Call → Averages
+averagesOf s (transaction f o) = record { up = 0; down = 0 }
+averagesOf s tick = record { up = 0; down = 0 }
+averagesOf s (flight u d) = record { up = sum u / hitCount s; down = sum d / hitCount s }
+averagesOf s (temperature w) = record { up = 0; down = 0 }
+
+-- "a temperature delivery's port words are the four delivered, each port with a mean of its own": port 0 to 3
+unfoldable pub portWord : ℕ → Call → ℕ
+portWord i (transaction f o) = 0
+portWord i tick = 0
+portWord i (flight u d) = 0
+portWord i (temperature w) = getD w i 0
+
+-- A failure that a tick reports: the kind's last start before it, and the tick.
+pub record Expiry : Type 0 where
+  pub start : ℕ
+  pub at : ℕ
+
+-- What a list of calls and answers tells of one kind.
+pub record History : Type 0 where
+  -- the ticks of the list
+  pub ticks : ℕ
+  -- the elapsed ticks at which starts were reported, in order of time, and the last of them
+  pub starts : List ℕ
+  pub last : ℕ
+  -- "good, the deliveries answered good", in order of time
+  pub good : List Call
+  -- "failed, those answered failed and the failures that ticks report"
+  pub lost : ℕ
+  pub expiries : List Expiry
+  -- deliveries answered good with a word late or open, or failed with none
+  pub misjudged : ℕ
+
+-- At acceptance, by the command's answer.
+unfoldable pub beginning : Kind → Answer → History
+beginning k a =
+    record {
+      ticks = 0;
+      starts = pick (startReported k a) (0 ∷ []) [];
+      last = 0;
+      good = [];
+      lost = 0;
+      expiries = [];
+      misjudged = 0;
+    }
+
+-- One tick more, with its reports.
+unfoldable pub noteTick : Bool → Bool → History → History
+noteTick started failed h =
+    record {
+      ticks = h .ticks + 1;
+      starts = pick started (h .starts ++ ((h .ticks + 1) ∷ [])) (h .starts);
+      last = pick started (h .ticks + 1) (h .last);
+      good = h .good;
+      lost = h .lost;
+      expiries = pick failed (h .expiries ++ (record { start = h .last; at = h .ticks + 1 } ∷ [])) (h .expiries);
+      misjudged = h .misjudged;
+    }
+
+-- A delivery answered good, or failed.
+unfoldable pub noteGood : List ℕ → Call → History → History
+noteGood s c h =
+    record {
+      ticks = h .ticks;
+      starts = h .starts;
+      last = h .last;
+      good = h .good ++ (c ∷ []);
+      lost = h .lost;
+      expiries = h .expiries;
+      misjudged = pick (noneLost s c) (h .misjudged) (h .misjudged + 1);
+    }
+
+unfoldable pub noteFailed : List ℕ → Call → History → History
+noteFailed s c h =
+    record {
+      ticks = h .ticks;
+      starts = h .starts;
+      last = h .last;
+      good = h .good;
+      lost = h .lost + 1;
+      expiries = h .expiries;
+      misjudged = pick (noneLost s c) (h .misjudged + 1) (h .misjudged);
+    }
+
+-- One entry more. A refused tick would be none, but a model that the calls made refuses no tick.
+unfoldable pub note : Kind → List ℕ → Entry → History → History
+note k s e h =
+    pick (isTick (e .call)) (noteTick (startReported k (e .answer)) (failureReported k (e .answer)) h)
+    (pick (both (isDelivery k (e .call)) (isGood (e .answer))) (noteGood s (e .call) h)
+    (pick (both (isDelivery k (e .call)) (isFailed (e .answer))) (noteFailed s (e .call) h) h))
+
+unfoldable pub history : Kind → List ℕ → List Entry → History → History
+history k s [] h = h
+history k s (e ∷ es) h = history k s es (note k s e h)
+
+-- "those elapsed ticks j × P, j below N, .. that the list reaches": "The list reaches an elapsed tick that is not above its
+-- number of ticks."
+unfoldable pub reached : ℕ → ℕ → ℕ → List ℕ
+reached P zero t = []
+reached P (suc n) t = reached P n t ++ pick (leb (n * P) t) (n * P ∷ []) []
+
+-- "Awaited is then 1, exactly when number 10 would not be given for it, else 0."
+unfoldable pub deliveryOf : Kind → Call
+deliveryOf differences = flight [] []
+deliveryOf temperatures = temperature []
+
+unfoldable pub awaitedNow : Kind → Model → ℕ
+awaitedNow k m = pick (notAwaited m (deliveryOf k)) 0 1
+
+-- The registers of a pair hold a word.
+pub record Holds (m : Model) (int : ℕ) (w : ℕ) : Type 0 where
+  pub high : registerWord m int ≡ w / 65536
+  pub low : registerWord m (int + 1) ≡ w % 65536
+
+-- "Each event average of the kind is the whole-number mean, rounded down, of exactly the differences or port words that 01
+-- gives for its good deliveries since acceptance, 0 if none." "The averages are what E5h, E6h and F0h to F7h hold."
+abbrev pub AveragesHeld : Kind → List ℕ → List Call → Model → Type 0
+AveragesHeld differences s good m = Holds m 0xE5 (differenceBits (meanAverages (map (averagesOf s) good)))
+AveragesHeld temperatures s good m =
+    Holds m 0xF0 (floorMeanWords (map (portWord 0) good)) ×
+    Holds m 0xF2 (floorMeanWords (map (portWord 1) good)) ×
+    Holds m 0xF4 (floorMeanWords (map (portWord 2) good)) ×
+    Holds m 0xF6 (floorMeanWords (map (portWord 3) good))
+
+-- The claim for one kind: s is the set-up at acceptance, h what the list tells, m the model at its end.
+pub record KindClaim (k : Kind) (s : List ℕ) (h : History) (m : Model) : Type 0 where
+  -- "Its starts were exactly at those elapsed ticks j × P, j below N, with its own P and N, that the list reaches."
+  pub starts : h .starts ≡ reached (periodOf k s) (countOf k s) (h .ticks)
+  -- "Since acceptance, started = good + failed + awaited, counted from the answers"
+  pub balance :
+      length (h .starts) ≡ length (h .good) + (h .lost + length (h .expiries)) + awaitedNow k m
+  -- "the failures that ticks report, each in the 8,192nd tick after its start"
+  pub timely : All (λ (e : Expiry). e .at ≡ e .start + 8192) (h .expiries)
+  -- "A kind is awaited only while its last start lies fewer than 8,192 ticks back."
+  pub recent : awaitedNow k m ≡ 1 → h .ticks < h .last + 8192
+  -- "answered good exactly when none of its words is late, .. open"
+  pub judged : h .misjudged ≡ 0
+  pub averages : AveragesHeld k s (h .good) m
+
+-- "And the clock shows the moment that lies as many ticks after acceptance as the list holds, 2000 following 2099." "Its
+-- weekday has stepped once for each midnight passed."
+unfoldable pub tickCount : List Call → ℕ
+tickCount [] = 0
+tickCount (c ∷ cs) = pick (isTick c) (tickCount cs + 1) (tickCount cs)
+
+pub record ClockClaim (m : Model) (n : ℕ) (end : Model) : Type 0 where
+  pub shown : moment (end .clock) ≡ (moment (m .clock) + n) % century
+  pub weekday : end .clock .weekday ≡ 1 + (m .clock .weekday - 1 + midnights (m .clock) n) % 7
+
+-- The whole claim: `m` accepted event command `op` (with output buffer `o`), and then the calls `later` were made.
+abbrev pub command : ℕ → List ℕ → Call
+command op o = transaction (op ∷ []) o
+
+abbrev pub toldOf : Kind → Model → ℕ → List ℕ → List Call → History
+toldOf k m op o later =
+    history k (m .setup) (log (reply m (command op o) .model) later) (beginning k (reply m (command op o) .answer))
+
+pub record EventClaim (m : Model) (op : ℕ) (o : List ℕ) (later : List Call) : Type 0 where
+  pub kinds :
+      (k : Kind) →
+      runs k op ≡ true →
+      KindClaim k (m .setup) (toldOf k m op o later) (after (reply m (command op o) .model) later)
+  pub clock : ClockClaim m (tickCount later) (after (reply m (command op o) .model) later)
+
+-- The third demand: "Let a model grow from a fresh one by any list of transactions, ticks and deliveries, refused ones among
+-- them, and then accept an event command. For every list of ticks, deliveries, register reads and refused calls that
+-- follows, whatever hit words are delivered, this holds at its end for each kind that the command runs."
+abbrev pub ThirdDemand : Type 0
+ThirdDemand =
+    (before : List Call) (op : ℕ) (o : List ℕ) (later : List Call) →
+    isEvent op ≡ true →
+    verdict (after freshModel before) (command op o) ≡ accepted →
+    onlyReads (log (reply (after freshModel before) (command op o) .model) later) ≡ true →
+    EventClaim (after freshModel before) op o later

@@ -1,0 +1,11 @@
+pub mod Event
+pub mod Status
+pub mod Model
+pub mod Registers
+pub mod Write
+pub mod Tick
+pub mod Delivery
+pub mod Bus
+pub mod Call
+pub mod Claim
+pub mod Bench

@@ -1,0 +1,121 @@
+-- The model: fresh, sound, busy.
+use Prim.Native.Nat.{ℕ, _*_}
+use mathlib.Core.Bool.{Bool, true, false}
+use mathlib.Core.List.{List, [], _∷_}
+use lib.ListN.{getD}
+use lib.Dec.{ltb}
+use Rattle.unit.specs.Choice.{pick}
+use Rattle.calendar.specs.declared.Clock.{Clock}
+use Rattle.calendar.specs.Calendar.{clockValid, start}
+use Rattle.register.specs.Setup.{factory}
+use Rattle.device.specs.declared.Schedule.{Schedule}
+use Rattle.device.specs.declared.Status.{Status}
+use Rattle.device.specs.declared.Flight.{Flight}
+use Rattle.device.specs.declared.Temperature.{Temperature}
+use Rattle.device.specs.declared.Model.{Model}
+use Rattle.device.specs.Event.{noSchedule, scheduleSound, awaits, inEvent}
+use Rattle.device.specs.Status.{porBit, noBits}
+
+-- Setters: the model with one part anew.
+abbrev pub withStatus : Model → Status → Model
+withStatus m s =
+    record {
+      clock = m .clock;
+      setup = m .setup;
+      status = s;
+      ready = m .ready;
+      flight = m .flight;
+      temperature = m .temperature;
+    }
+
+abbrev pub withFlight : Model → Flight → Model
+withFlight m f =
+    record {
+      clock = m .clock;
+      setup = m .setup;
+      status = m .status;
+      ready = m .ready;
+      flight = f;
+      temperature = m .temperature;
+    }
+
+abbrev pub withTemperature : Model → Temperature → Model
+withTemperature m t =
+    record {
+      clock = m .clock;
+      setup = m .setup;
+      status = m .status;
+      ready = m .ready;
+      flight = m .flight;
+      temperature = t;
+    }
+
+-- "results 0"
+unfoldable pub noFlight : Flight
+noFlight =
+    record {
+      schedule = noSchedule;
+      up = false;
+      down = false;
+      sum = 0;
+      ups = 0 ∷ 0 ∷ 0 ∷ 0 ∷ 0 ∷ 0 ∷ 0 ∷ [];
+      downs = 0 ∷ 0 ∷ 0 ∷ 0 ∷ 0 ∷ 0 ∷ 0 ∷ [];
+      difference = 0;
+    }
+
+unfoldable pub noTemperature : Temperature
+noTemperature =
+    record { schedule = noSchedule; sums = 0 ∷ 0 ∷ 0 ∷ 0 ∷ []; ports = 0 ∷ 0 ∷ 0 ∷ 0 ∷ [] }
+
+-- "Fresh: not initialised; configuration at the factory values ..; results 0; alarm 0; clock 2000-01-01 00:00:00.00,
+-- weekday 1"
+unfoldable pub freshWith : Status → Model
+freshWith s =
+    record {
+      clock = start;
+      setup = factory;
+      status = s;
+      ready = false;
+      flight = noFlight;
+      temperature = noTemperature;
+    }
+
+-- "status 0004h (POR)"
+unfoldable pub freshModel : Model
+freshModel = freshWith porBit
+
+-- "04h Reset gives the same with status 0000h."
+unfoldable pub resetModel : Model
+resetModel = freshWith noBits
+
+-- Sound: the clock is valid, the counts of each kind are in order, and each sum is at most the count times the largest
+-- value. The calls need it so that no field leaves its range.
+unfoldable pub sumFits : ℕ → ℕ → ℕ → Bool
+sumFits sum good most = pick (ltb (good * most) sum) false true
+
+unfoldable pub flightSound : Flight → Bool
+flightSound f =
+    pick (scheduleSound (f .schedule)) (sumFits (f .sum) (f .schedule .good) 4294967296) false
+
+unfoldable pub temperatureSound : Temperature → Bool
+temperatureSound t =
+    pick (scheduleSound (t .schedule))
+    (pick (sumFits (getD (t .sums) 0 0) (t .schedule .good) 2147483648)
+    (pick (sumFits (getD (t .sums) 1 0) (t .schedule .good) 2147483648)
+    (pick (sumFits (getD (t .sums) 2 0) (t .schedule .good) 2147483648)
+    (sumFits (getD (t .sums) 3 0) (t .schedule .good) 2147483648)
+    false)
+    false)
+    false)
+    false
+
+unfoldable pub sound : Model → Bool
+sound m =
+    pick (clockValid (m .clock)) (pick (flightSound (m .flight)) (temperatureSound (m .temperature)) false) false
+
+-- "while a measurement is awaited or an event runs"
+unfoldable pub kindBusy : Schedule → Bool
+kindBusy k = pick (awaits k) true (inEvent k)
+
+unfoldable pub busy : Model → Bool
+busy m = pick (kindBusy (m .flight .schedule)) true (kindBusy (m .temperature .schedule))

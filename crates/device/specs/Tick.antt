@@ -1,0 +1,85 @@
+-- One tick.
+use Prim.Native.Nat.{ℕ}
+use mathlib.Core.Bool.{Bool, true, false}
+use Rattle.unit.specs.Choice.{pick}
+use Rattle.calendar.specs.declared.Clock.{Clock}
+use Rattle.calendar.specs.Calendar.{tickClock}
+use Rattle.calendar.specs.Alarm.{alarmRings}
+use Rattle.register.specs.Setup.{clockStands, alarmWord, alarmMode, eachInterrupt}
+use Rattle.measurement.specs.Words.{lost, lostFour}
+use Rattle.device.specs.declared.Schedule.{Schedule}
+use Rattle.device.specs.declared.Status.{Status}
+use Rattle.device.specs.declared.Flight.{Flight}
+use Rattle.device.specs.declared.Temperature.{Temperature}
+use Rattle.device.specs.declared.Model.{Model}
+use Rattle.device.specs.declared.Report.{Report}
+use Rattle.device.specs.Event.{begins, fails, tickSchedule}
+use Rattle.device.specs.Status.{joined, flightBits, temperatureBits, alarmBit}
+
+-- "the measurement fails, every HIT and AVG of the measured directions and, for a difference, TOF_DIFF become FFFFh"
+unfoldable pub lostDifference : Flight → ℕ
+lostDifference f = pick (f .up) (pick (f .down) 0xFFFFFFFF (f .difference)) (f .difference)
+
+unfoldable pub lostFlight : Flight → Schedule → Flight
+lostFlight f k =
+    record {
+      schedule = k;
+      up = f .up;
+      down = f .down;
+      sum = f .sum;
+      ups = pick (f .up) lost (f .ups);
+      downs = pick (f .down) lost (f .downs);
+      difference = lostDifference f;
+    }
+
+-- "A measurement undelivered 8,192 ticks after its start fails in that tick, as if all its words were late or open."
+unfoldable pub flightAfter : Flight → Flight
+flightAfter f =
+    pick (fails (f .schedule)) (lostFlight f (tickSchedule (f .schedule)))
+    (record {
+      schedule = tickSchedule (f .schedule);
+      up = f .up;
+      down = f .down;
+      sum = f .sum;
+      ups = f .ups;
+      downs = f .downs;
+      difference = f .difference;
+    })
+
+unfoldable pub temperatureAfter : Temperature → Temperature
+temperatureAfter t =
+    pick (fails (t .schedule))
+    (record { schedule = tickSchedule (t .schedule); sums = t .sums; ports = lostFour })
+    (record { schedule = tickSchedule (t .schedule); sums = t .sums; ports = t .ports })
+
+-- "The clock stands while EOSC .. is 1."
+unfoldable pub clockTicked : Model → Clock
+clockTicked m = pick (clockStands (m .setup)) (m .clock) (tickClock (m .clock))
+
+unfoldable pub alarmRaised : Model → Clock → Bool
+alarmRaised m after = alarmRings (m .clock) after (alarmWord (m .setup)) (alarmMode (m .setup))
+
+unfoldable pub tickStatus : Model → Clock → Status
+tickStatus m after =
+    joined
+    (joined
+    (joined (m .status) (alarmBit (alarmRaised m after)))
+    (flightBits (m .flight .schedule) (eachInterrupt (m .setup)) (fails (m .flight .schedule))
+    (fails (m .flight .schedule))))
+    (temperatureBits (m .temperature .schedule) (eachInterrupt (m .setup)) (fails (m .temperature .schedule))
+    (fails (m .temperature .schedule)))
+
+unfoldable pub tickModel : Model → Model
+tickModel m =
+    record {
+      clock = clockTicked m;
+      setup = m .setup;
+      status = tickStatus m (clockTicked m);
+      ready = m .ready;
+      flight = flightAfter (m .flight);
+      temperature = temperatureAfter (m .temperature);
+    }
+
+-- "a tick's answer says for each kind whether one started and whether one failed in it"
+unfoldable pub reportOf : Schedule → Report
+reportOf k = record { started = begins k; failed = fails k }

@@ -1,0 +1,68 @@
+-- A write of n words from register op on: bytes are the frame from its second byte.
+use Prim.Native.Nat.{ℕ, zero, suc, _+_, _-_}
+use mathlib.Core.Bool.{Bool, true, false}
+use mathlib.Core.List.{List}
+use lib.ListN.{set}
+use lib.Dec.{ltb}
+use Rattle.unit.specs.Choice.{pick}
+use Rattle.unit.specs.declared.Ticks.{Ticks}
+use Rattle.calendar.specs.declared.Clock.{Clock}
+use Rattle.calendar.specs.Words.{ticksIn, clockFrom, wordsValid, alarmValid}
+use Rattle.register.specs.Setup.{alarmWord}
+use Rattle.frame.specs.Frame.{wordAt}
+use Rattle.device.specs.declared.Model.{Model}
+use Rattle.device.specs.Registers.{calendarWord}
+
+-- "n ≥ 1 words follow, to consecutive registers"
+unfoldable pub covers : ℕ → ℕ → ℕ → Bool
+covers op n a = pick (ltb a op) false (pick (ltb a (op + n)) true false)
+
+-- a register's word after the write, by the one it has
+unfoldable pub written : List ℕ → ℕ → ℕ → ℕ → ℕ → ℕ
+written bytes op n a current = pick (covers op n a) (wordAt bytes (a - op)) current
+
+-- 34h to 43h: "Reserved bits are kept as written"
+unfoldable pub withWord : List ℕ → ℕ → ℕ → List ℕ
+withWord s a w = pick (ltb a 0x34) s (set s (a - 0x34) w)
+
+unfoldable pub setupAfter : List ℕ → ℕ → List ℕ → ℕ → List ℕ
+setupAfter bytes op s zero = s
+setupAfter bytes op s (suc n) = withWord (setupAfter bytes op s n) (op + n) (wordAt bytes n)
+
+-- "A write that covers 30h sets s ..; any other write keeps s."
+unfoldable pub ticksAfter : List ℕ → ℕ → ℕ → Model → Ticks
+ticksAfter bytes op n m = pick (covers op n 0x30) (ticksIn (wordAt bytes (0x30 - op))) (m .clock .ticks)
+
+-- 30h to 33h after the whole write, those that it leaves out as they read
+unfoldable pub clockAfter : List ℕ → ℕ → ℕ → Model → Clock
+clockAfter bytes op n m =
+    clockFrom
+    (written bytes op n 0x30 (calendarWord m 0xB0))
+    (written bytes op n 0x31 (calendarWord m 0xB1))
+    (written bytes op n 0x32 (calendarWord m 0xB2))
+    (written bytes op n 0x33 (calendarWord m 0xB3))
+    (ticksAfter bytes op n m)
+
+-- "the clock after the write, or the alarm, would be invalid"; "30h to 33h are judged together after the whole write."
+unfoldable pub writeInvalid : List ℕ → ℕ → ℕ → Model → Bool
+writeInvalid bytes op n m =
+    pick
+    (wordsValid
+    (written bytes op n 0x30 (calendarWord m 0xB0))
+    (written bytes op n 0x31 (calendarWord m 0xB1))
+    (written bytes op n 0x32 (calendarWord m 0xB2))
+    (written bytes op n 0x33 (calendarWord m 0xB3))
+    (ticksAfter bytes op n m))
+    (pick (alarmValid (alarmWord (setupAfter bytes op (m .setup) n))) false true)
+    true
+
+unfoldable pub writeModel : List ℕ → ℕ → ℕ → Model → Model
+writeModel bytes op n m =
+    record {
+      clock = clockAfter bytes op n m;
+      setup = setupAfter bytes op (m .setup) n;
+      status = m .status;
+      ready = m .ready;
+      flight = m .flight;
+      temperature = m .temperature;
+    }

@@ -1,0 +1,91 @@
+// The MAX35101 model as one value that each call takes and gives back: its clock, registers, measurements and events.
+// What each call does with it is defined in specs/, and the laws of those definitions are in proofs/.
+use calendar::Clock;
+use unit::Ticks;
+
+// The measurements of one kind: the one awaited, and the event.
+pub struct Schedule {
+    // Ticks until the awaited measurement fails; 0 where none is awaited.
+    pub left: Ticks,
+    // Ticks until the event's next start.
+    pub wait: Ticks,
+    pub period: Ticks,
+    // How many measurements the event makes. It runs until as many are settled.
+    pub planned: u32,
+    pub started: u32,
+    pub settled: u32,
+    // Cycle count: good ones of the event.
+    pub good: u32,
+}
+
+pub struct Flight {
+    pub schedule: Schedule,
+    // The directions that the awaited or last measurement measures.
+    pub up: bool,
+    pub down: bool,
+    // Biased differences of the event's good measurements.
+    pub sum: u64,
+    // HIT 1 to 6, then AVG, as words of 32 bits.
+    pub ups: [u32; 7],
+    pub downs: [u32; 7],
+    pub difference: u32,
+}
+
+pub struct Temperature {
+    pub schedule: Schedule,
+    // Words of the event's good measurements, port by port.
+    pub sums: [u64; 4],
+    pub ports: [u32; 4],
+}
+
+// The interrupt status, a field a bit.
+pub struct Status {
+    pub timeout: bool,
+    pub alarm: bool,
+    pub tof: bool,
+    pub te: bool,
+    pub tofevtmg: bool,
+    pub tempevtmg: bool,
+    pub halt: bool,
+    pub init: bool,
+    pub por: bool,
+}
+
+pub struct Model {
+    pub clock: Clock,
+    // Registers 34h to 43h.
+    pub setup: [u16; 16],
+    pub status: Status,
+    pub ready: bool,
+    pub flight: Flight,
+    pub temperature: Temperature,
+}
+
+// What one tick did with the measurements of a kind.
+pub struct Report {
+    pub started: bool,
+    pub failed: bool,
+}
+
+pub enum Answer {
+    // The number of the refusal.
+    Refused(u32),
+    // A transaction, with the kinds that it started: flight, temperature.
+    Accepted(bool, bool),
+    // A tick: flight, temperature.
+    Ticked(Report, Report),
+    // A delivery.
+    Good,
+    Failed,
+}
+
+pub struct Reply {
+    pub answer: Answer,
+    pub model: Model,
+}
+
+// The answer of a question that changes nothing.
+pub enum Told {
+    Refused(u32),
+    Value(u32),
+}

@@ -1,0 +1,12 @@
+use borrow.Author.Needs.{needs}
+use Rattle.unit.specs.Tests.{tests}
+use Rattle.device.specs.Status.{noBits}
+use Rattle.event.proofs.interrupt.no_bits.Statement.{statement}
+use Rattle.event.proofs.interrupt.no_bits.Tie as tie
+
+returns : tie.Need-returns
+unfolding noBits
+returns c = search (needs, tests)
+
+pub no-bits-spec : {M : Type 1} → statement M
+no-bits-spec = tie.close (tie.spec returns)

@@ -1,0 +1,12 @@
+use borrow.Author.Needs.{needs}
+use Rattle.unit.specs.Tests.{tests}
+use Rattle.device.specs.Event.{noSchedule}
+use Rattle.event.proofs.schedule.no_schedule.Statement.{statement}
+use Rattle.event.proofs.schedule.no_schedule.Tie as tie
+
+returns : tie.Need-returns
+unfolding noSchedule
+returns c = search (needs, tests)
+
+pub no-schedule-spec : {M : Type 1} → statement M
+no-schedule-spec = tie.close (tie.spec returns)

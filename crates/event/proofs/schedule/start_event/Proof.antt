@@ -1,0 +1,12 @@
+use borrow.Author.Needs.{needs}
+use Rattle.unit.specs.Tests.{tests}
+use Rattle.device.specs.Event.{eventStart}
+use Rattle.event.proofs.schedule.start_event.Statement.{statement}
+use Rattle.event.proofs.schedule.start_event.Tie as tie
+
+returns : tie.Need-returns
+unfolding eventStart
+returns c = search (needs, tests)
+
+pub start-event-spec : {M : Type 1} → statement M
+start-event-spec = tie.close (tie.spec returns)

@@ -1,0 +1,3 @@
+// The schedule of one kind of measurement, and the interrupt status.
+pub mod interrupt;
+pub mod schedule;

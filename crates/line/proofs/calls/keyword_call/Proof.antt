@@ -1,0 +1,166 @@
+-- `line::calls::keyword_call` meets its contract.
+-- Assumes nothing.
+use borrow.Author.Needs.{needs}
+use Rattle.line.specs.Line.{keywordAnswer}
+use Rattle.line.proofs.calls.keyword_call.Statement.{statement}
+use Rattle.line.proofs.calls.keyword_call.Tie as tie
+
+enum-told : tie.Need-enum-told
+enum-told c = search needs
+
+item-call-requires : tie.Need-item-call-requires
+item-call-requires c κs = search needs
+
+enum-told-2 : tie.Need-enum-told-2
+enum-told-2 c = search needs
+
+bus-call-requires : tie.Need-bus-call-requires
+bus-call-requires c κs = search needs
+
+enum-told-3 : tie.Need-enum-told-3
+enum-told-3 c = search needs
+
+tick-call-requires : tie.Need-tick-call-requires
+tick-call-requires c κs = search needs
+
+enum-told-4 : tie.Need-enum-told-4
+enum-told-4 c = search needs
+
+flight-call-requires : tie.Need-flight-call-requires
+flight-call-requires c κs = search needs
+
+enum-told-5 : tie.Need-enum-told-5
+enum-told-5 c = search needs
+
+temperature-call-requires : tie.Need-temperature-call-requires
+temperature-call-requires c κs = search needs
+
+enum-told-6 : tie.Need-enum-told-6
+enum-told-6 c = search needs
+
+alone-requires : tie.Need-alone-requires
+alone-requires c κs = search needs
+
+enum-told-7 : tie.Need-enum-told-7
+enum-told-7 c = search needs
+
+alone-requires-2 : tie.Need-alone-requires-2
+alone-requires-2 c κs = search needs
+
+enum-told-8 : tie.Need-enum-told-8
+enum-told-8 c = search needs
+
+alone-requires-3 : tie.Need-alone-requires-3
+alone-requires-3 c κs = search needs
+
+enum-told-9 : tie.Need-enum-told-9
+enum-told-9 c = search needs
+
+expect-call-requires : tie.Need-expect-call-requires
+expect-call-requires c κs = search needs
+
+enum-told-10 : tie.Need-enum-told-10
+enum-told-10 c = search needs
+
+alone-requires-4 : tie.Need-alone-requires-4
+alone-requires-4 c κs = search needs
+
+enum-told-11 : tie.Need-enum-told-11
+enum-told-11 c = search needs
+
+returns : tie.Need-returns
+unfolding keywordAnswer
+returns c = rw (c .before .enum-told .given .1, ← c .item-call .ensures)
+
+same-length : tie.Need-same-length
+same-length c = search needs
+
+returns-2 : tie.Need-returns-2
+unfolding keywordAnswer
+returns-2 c = rw (c .before .before .before .before .enum-told2 .given .1) (c .before .before .bus-call .ensures)
+
+returns-3 : tie.Need-returns-3
+unfolding keywordAnswer
+returns-3 c = rw (c .before .enum-told3 .given .1, ← c .tick-call .ensures)
+
+same-length-2 : tie.Need-same-length-2
+same-length-2 c = search needs
+
+returns-4 : tie.Need-returns-4
+unfolding keywordAnswer
+returns-4 c = rw (c .before .before .before .before .enum-told4 .given .1) (c .before .before .flight-call .ensures)
+
+same-length-3 : tie.Need-same-length-3
+same-length-3 c = search needs
+
+returns-5 : tie.Need-returns-5
+unfolding keywordAnswer
+returns-5 c = rw (c .before .before .before .before .enum-told5 .given .1) (c .before .before .temperature-call .ensures)
+
+returns-6 : tie.Need-returns-6
+unfolding keywordAnswer
+returns-6 c = rw (c .before .enum-told6 .given .1, ← c .alone .ensures)
+
+returns-7 : tie.Need-returns-7
+unfolding keywordAnswer
+returns-7 c = rw (c .before .enum-told7 .given .1, ← c .alone2 .ensures)
+
+returns-8 : tie.Need-returns-8
+unfolding keywordAnswer
+returns-8 c = rw (c .before .enum-told8 .given .1, ← c .alone3 .ensures)
+
+same-length-4 : tie.Need-same-length-4
+same-length-4 c = search needs
+
+returns-9 : tie.Need-returns-9
+unfolding keywordAnswer
+returns-9 c = rw (c .before .before .before .before .enum-told9 .given .1) (c .before .before .expect-call .ensures)
+
+returns-10 : tie.Need-returns-10
+unfolding keywordAnswer
+returns-10 c = rw (c .before .enum-told10 .given .1, ← c .alone4 .ensures)
+
+returns-11 : tie.Need-returns-11
+unfolding keywordAnswer
+returns-11 c = rw (c .enum-told11 .given .1)
+
+pub keyword-call-spec : {M : Type 1} → statement M
+keyword-call-spec =
+    tie.close
+    (tie.spec
+    enum-told
+    item-call-requires
+    enum-told-2
+    bus-call-requires
+    enum-told-3
+    tick-call-requires
+    enum-told-4
+    flight-call-requires
+    enum-told-5
+    temperature-call-requires
+    enum-told-6
+    alone-requires
+    enum-told-7
+    alone-requires-2
+    enum-told-8
+    alone-requires-3
+    enum-told-9
+    expect-call-requires
+    enum-told-10
+    alone-requires-4
+    enum-told-11
+    returns
+    same-length
+    returns-2
+    returns-3
+    same-length-2
+    returns-4
+    same-length-3
+    returns-5
+    returns-6
+    returns-7
+    returns-8
+    same-length-4
+    returns-9
+    returns-10
+    returns-11)

@@ -1,0 +1,44 @@
+-- `line::calls::read_line` meets its contract.
+-- Assumes nothing.
+use mathlib.Core.Path.{sym}
+use lib.Seq.{length-take-le}
+use borrow.Author.Tests.{lt-ltb, le-ltb}
+use borrow.Author.Needs.{needs}
+use Rattle.line.specs.BoundLaws.{with-bounds}
+use Rattle.line.specs.Line.{lineAnswer}
+use Rattle.line.proofs.calls.read_line.Statement.{statement}
+use Rattle.line.proofs.calls.read_line.Tie as tie
+
+content-length-requires : tie.Need-content-length-requires
+content-length-requires c κs = search needs
+
+slice-aggregate-words-call : tie.Need-slice-aggregate-words-call
+slice-aggregate-words-call c = sym (length-take-le _ _ (c .before .before .content-length .ensures .1))
+
+words-call-requires : tie.Need-words-call-requires
+words-call-requires c κs = search needs
+
+returns : tie.Need-returns
+unfolding lineAnswer
+returns c = (rw (← c .before .content-length .ensures .0, lt-ltb _ _ (c .if1 .taken)), tt)
+
+same-length : tie.Need-same-length
+same-length c = search needs
+
+returns-2 : tie.Need-returns-2
+unfolding lineAnswer
+returns-2 c =
+    let a = c .before .before .before .before .before .before .before .before .before .args in
+    with-bounds (a .numbers .now) (a .line .now)
+    (rw (← c .before .before .before .before .before .before .content-length .ensures .0, le-ltb _ _ (c .before .before .before .before .before .if1 .left)) (c .before .before .words-call .ensures))
+
+pub read-line-spec : {M : Type 1} → statement M
+read-line-spec =
+    tie.close
+    (tie.spec
+    content-length-requires
+    slice-aggregate-words-call
+    words-call-requires
+    returns
+    same-length
+    returns-2)

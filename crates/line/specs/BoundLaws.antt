@@ -1,0 +1,122 @@
+-- The numbers of a call are bounded. Assumes nothing.
+use Prim.Native.Nat.{ℕ, _-_, _≤_}
+use mathlib.Core.Path.{_≡_, refl, ap}
+use mathlib.Core.Bool.{Bool, true, false, cond}
+use mathlib.Core.List.{List, [], _∷_}
+use lib.Dec.{ltb, eqb}
+use lib.ListN.{getD, take, drop}
+use borrow.Author.Tests.{ltb-false}
+use Rattle.numeral.specs.declared.Number.{Number}
+use Rattle.numeral.specs.declared.Number.the-variants.{Value, Bad}
+use Rattle.numeral.specs.Read.{readHex, readDecimal}
+use Rattle.numeral.specs.DigitLaws.{decimal-at-most}
+use Rattle.line.specs.declared.Call.{Call}
+use Rattle.line.specs.declared.Call.the-variants.{Bus, BusOut}
+use Rattle.line.specs.declared.Keyword.{Keyword}
+use Rattle.line.specs.declared.Tally.{Tally}
+use Rattle.line.specs.declared.Tally.the-variants.{Wrong, All}
+use Rattle.line.specs.Words.{words}
+use Rattle.line.specs.Numbers.{tallied}
+use Rattle.line.specs.Line.{Answer, answer, Bounded, bytesCall, bytesAnswer, byteForm, isOut, outAnswer, busAnswer, itemCall, alone, tickWith, tickCall, flightCall, flightAnswer, temperatureCall, temperatureAnswer, expectCall, expectWords, expectFrom, expectAnswer, keywordOf, keywordAnswer, wordsAnswer, contentLength, lineAnswer}
+
+cond-cases : {A : Type 0} (P : A → Type 0) (t : Bool) {x y : A} → (t ≡ true → P x) → (t ≡ false → P y) → P (cond t x y)
+cond-cases P true one other = one refl
+cond-cases P false one other = other refl
+
+abbrev Within : Answer → Type 0
+Within a = Bounded (a .call)
+
+bytes-bounded : (call : ℕ → Call) → ((n : ℕ) → n ≤ 200 → Bounded (call n)) → (t : Tally) → Bounded (bytesCall call t)
+unfolding bytesCall
+bytes-bounded call h Wrong = tt
+bytes-bounded call h (All n k u) = cond-cases Bounded (ltb 200 n) (λ _. tt) (λ e. h n (ltb-false 200 n e))
+
+out-bounded : (r : Number) → ((b : ℕ) → r ≡ Value b → b ≤ 200) → (l : List ℕ) (ws : List (List ℕ)) → Within (outAnswer r l ws)
+unfolding outAnswer bytesAnswer
+out-bounded Bad h l ws = tt
+out-bounded (Value b) h l ws = bytes-bounded (BusOut b) (λ n most. (h b refl, most)) (tallied byteForm 0 0 0 l ws .tally)
+
+bus-bounded : (l : List ℕ) (ws : List (List ℕ)) → Within (busAnswer l ws)
+unfolding busAnswer bytesAnswer
+bus-bounded l [] = bytes-bounded Bus (λ n most. most) _
+bus-bounded l (w ∷ ws) =
+    cond-cases Within (isOut w) (λ _. out-bounded (readDecimal 200 (drop 4 w)) (λ b e. decimal-at-most 200 (drop 4 w) b e) l ws)
+    (λ _. bytes-bounded Bus (λ n most. most) _)
+
+flight-bounded : (t : Tally) → Bounded (flightCall t)
+unfolding flightCall
+flight-bounded Wrong = tt
+flight-bounded (All n k u) =
+    cond-cases Bounded (eqb k 1)
+    (λ _. cond-cases Bounded (ltb 16 u) (λ _. tt) (λ e. cond-cases Bounded (ltb 16 (n - u)) (λ _. tt) (λ e′. (ltb-false 16 u e, ltb-false 16 (n - u) e′))))
+    (λ _. tt)
+
+temperature-bounded : (t : Tally) → Bounded (temperatureCall t)
+unfolding temperatureCall
+temperature-bounded Wrong = tt
+temperature-bounded (All n k u) = cond-cases Bounded (ltb 16 n) (λ _. tt) (λ e. ltb-false 16 n e)
+
+expect-bounded : (a : ℕ) → 176 ≤ a → a ≤ 255 → (t : Tally) → Bounded (expectCall a t)
+unfolding expectCall
+expect-bounded a low high Wrong = tt
+expect-bounded a low high (All n k u) =
+    cond-cases Bounded (ltb n 1) (λ _. tt)
+    (λ e. cond-cases Bounded (ltb (256 - a) n) (λ _. tt) (λ e′. (low, high, ltb-false n 1 e, ltb-false (256 - a) n e′)))
+
+expect-from-bounded : (r : Number) (l : List ℕ) (ws : List (List ℕ)) → Within (expectFrom r l ws)
+unfolding expectFrom expectWords
+expect-from-bounded Bad l ws = tt
+expect-from-bounded (Value a) l ws =
+    cond-cases Within (ltb a 176) (λ _. tt)
+    (λ e. cond-cases Within (ltb 255 a) (λ _. tt) (λ e′. expect-bounded a (ltb-false a 176 e) (ltb-false 255 a e′) _))
+
+expect-answer-bounded : (l : List ℕ) (ws : List (List ℕ)) → Within (expectAnswer l ws)
+unfolding expectAnswer
+expect-answer-bounded l [] = tt
+expect-answer-bounded l (w ∷ ws) = expect-from-bounded (readHex 2 2 w) l ws
+
+alone-bounded : (c : Call) → Bounded c → (ws : List (List ℕ)) → Bounded (alone c ws)
+unfolding alone
+alone-bounded c h [] = h
+alone-bounded c h (w ∷ ws) = tt
+
+item-bounded : (ws : List (List ℕ)) → Bounded (itemCall ws)
+unfolding itemCall
+item-bounded [] = tt
+item-bounded (w ∷ ws) = tt
+
+tick-with-bounded : (r : Number) (ws : List (List ℕ)) → Bounded (tickWith r ws)
+unfolding tickWith
+tick-with-bounded Bad ws = tt
+tick-with-bounded (Value n) ws = alone-bounded (Call.Tick n) tt ws
+
+tick-bounded : (ws : List (List ℕ)) → Bounded (tickCall ws)
+unfolding tickCall
+tick-bounded [] = tt
+tick-bounded (w ∷ ws) = tick-with-bounded _ ws
+
+keyword-bounded : (k : Keyword) (l : List ℕ) (ws : List (List ℕ)) → Within (keywordAnswer k l ws)
+unfolding keywordAnswer flightAnswer temperatureAnswer
+keyword-bounded Keyword.Item l ws = item-bounded ws
+keyword-bounded Keyword.Bus l ws = bus-bounded l ws
+keyword-bounded Keyword.Tick l ws = tick-bounded ws
+keyword-bounded Keyword.Flight l ws = flight-bounded _
+keyword-bounded Keyword.Temperature l ws = temperature-bounded _
+keyword-bounded Keyword.Int l ws = alone-bounded Call.Int tt ws
+keyword-bounded Keyword.Awaited l ws = alone-bounded Call.Awaited tt ws
+keyword-bounded Keyword.Regs l ws = alone-bounded Call.Regs tt ws
+keyword-bounded Keyword.Expect l ws = expect-answer-bounded l ws
+keyword-bounded Keyword.Show l ws = alone-bounded Call.Show tt ws
+keyword-bounded Keyword.Unknown l ws = tt
+
+words-bounded : (l : List ℕ) (ws : List (List ℕ)) → Within (wordsAnswer l ws)
+unfolding wordsAnswer
+words-bounded l [] = tt
+words-bounded l (w ∷ ws) = cond-cases Within (eqb (getD w 0 0) 35) (λ _. tt) (λ _. keyword-bounded (keywordOf w) l ws)
+
+pub line-bounded : (l cs : List ℕ) → Within (lineAnswer l cs)
+unfolding lineAnswer
+line-bounded l cs = cond-cases Within (ltb 1000 (contentLength cs)) (λ _. tt) (λ _. words-bounded l (words (take (contentLength cs) cs)))
+
+pub with-bounds : {r : Call} {l′ : List ℕ} (l cs : List ℕ) → answer r l′ ≡ lineAnswer l cs → (answer r l′ ≡ lineAnswer l cs) × Bounded r
+with-bounds l cs e = (e, (rw (ap (λ (a : Answer). a .call) e) (line-bounded l cs)))

@@ -1,0 +1,47 @@
+-- The start of a line that comes in byte by byte. Assumes nothing.
+use Prim.Native.Nat.{ℕ, _+_, _≤_, _<_, min}
+use mathlib.Core.Path.{_≡_, sym, _∙_}
+use mathlib.Core.Bool.{cond}
+use mathlib.Core.List.{List, [], _∷_, _++_}
+use native.Mathlib.Decide.{decLt}
+use native.Mathlib.Numerals.{add-one}
+use native.Mathlib.Omega.{arith}
+use lib.Dec.{ltb}
+use lib.ListN.{length, take, set, length-append}
+use lib.Seq.{take-all, take-append-le, take-suc-set}
+use borrow.Author.Tests.{lt-ltb, le-ltb}
+
+-- One byte more behind the n that a buffer holds, where it has room.
+unfoldable pub heldBytes : List ℕ → ℕ → ℕ → List ℕ
+heldBytes l n b = cond (ltb n (length l)) (set l n b) l
+
+unfoldable pub heldCount : List ℕ → ℕ → ℕ
+heldCount l n = cond (ltb n (length l)) (n + 1) n
+
+-- A buffer holds as much of the start of a line as it has room for.
+pub record Held (l : List ℕ) (n : ℕ) (cs : List ℕ) : Type 0 where
+  pub count : n ≡ min (length l) (length cs)
+  pub bytes : take n l ≡ take (length l) cs
+
+-- And so it does with the line's next byte.
+pub held-more : (l : List ℕ) (n : ℕ) (cs : List ℕ) (b : ℕ) → Held l n cs
+    → (heldCount l n ≡ min (length l) (length (cs ++ (b ∷ [])))) × (take (heldCount l n) (heldBytes l n b) ≡ take (length l) (cs ++ (b ∷ [])))
+unfolding heldBytes heldCount
+held-more l n cs b h = go (decLt n (length l))
+  where
+    long : length (cs ++ (b ∷ [])) ≡ length cs + 1
+    long = length-append cs (b ∷ [])
+
+    go : Dec (n < length l)
+        → (heldCount l n ≡ min (length l) (length (cs ++ (b ∷ [])))) × (take (heldCount l n) (heldBytes l n b) ≡ take (length l) (cs ++ (b ∷ [])))
+    go (yes p) =
+        let short : length cs ≤ length l = omega (arith, h .count) in
+        let all : length (cs ++ (b ∷ [])) ≤ length l = omega (arith, h .count, long) in
+        rw (lt-ltb n (length l) p) (
+          omega (arith, h .count, long),
+          rw (add-one, take-suc-set l n b p, h .bytes, take-all (length l) cs short, take-all (length l) (cs ++ (b ∷ [])) all),
+        )
+    go (no p) =
+        let full : length l ≤ n = omega arith in
+        let enough : length l ≤ length cs = omega (arith, h .count) in
+        rw (le-ltb n (length l) full) (omega (arith, h .count, long), h .bytes ∙ sym (take-append-le (length l) cs (b ∷ []) enough))

@@ -1,0 +1,12 @@
+pub mod Words
+pub mod WordLaws
+pub mod Numbers
+pub mod NumberLaws
+pub mod Line
+pub mod LineLaws
+pub mod BoundLaws
+pub mod Spaced
+pub mod SpacedLaws
+pub mod Held
+pub mod StoredLaws
+pub mod Examples

@@ -1,0 +1,87 @@
+// A line of a replay's text, read into a call.
+//
+// No public function has a `requires`. The numbers of a line go into a buffer that the caller
+// lends: those that it has no place for are counted and dropped.
+mod calls;
+mod held;
+mod keywords;
+mod numbers;
+mod text;
+mod words;
+
+pub use calls::read_line;
+pub use held::LONGEST;
+pub use held::hold_byte;
+pub use text::put_words;
+
+// What a line says. Counts are of the numbers that the line left in the buffer, from its start on.
+pub enum Call {
+    // A line that is passed over.
+    Nothing,
+    // Lines that are no calls, in the order in which the first that fits is given.
+    TooLong,
+    UnknownWord,
+    BadNumber,
+    WrongCount,
+    // Calls.
+    Item,
+    Bus { bytes: usize },
+    BusOut { out: u32, bytes: usize },
+    Tick(u32),
+    // The up words, and behind them the down words.
+    Flight { up: usize, down: usize },
+    Temperature(usize),
+    Int,
+    Awaited,
+    Regs,
+    Expect { address: u32, words: usize },
+    Show,
+}
+
+// The first word of a line.
+pub enum Keyword {
+    Item,
+    Bus,
+    Tick,
+    Flight,
+    Temperature,
+    Int,
+    Awaited,
+    Regs,
+    Expect,
+    Show,
+    Unknown,
+}
+
+// How the words of a list are read: hexadecimal numbers of `least` to `most` digits. From the
+// number `looked` on, words are counted and not looked into. With `slash`, a word `/` parts lists.
+pub struct Form {
+    pub least: usize,
+    pub most: usize,
+    pub looked: usize,
+    pub slash: bool,
+}
+
+// One word of such a list.
+pub enum Kind {
+    Slash,
+    Past,
+    Word(u32),
+    Wrong,
+}
+
+// A whole list: how many numbers and slashes it has, and how many numbers before the first slash.
+pub enum Tally {
+    Wrong,
+    All {
+        count: usize,
+        slashes: usize,
+        up: usize,
+    },
+}
+
+// A word's place: from `start` to before `end`. Where they are equal there is no word.
+pub struct Span {
+    pub start: usize,
+    pub end: usize,
+}

@@ -1,0 +1,71 @@
+-- Laws of the four words of a temperature measurement: none of them open, and all of them open.
+use Prim.Native.Nat.{ℕ, _≤_, _<_}
+use native.Mathlib.Omega.{arith}
+use mathlib.Core.Path.{_≡_, refl}
+use mathlib.Core.Bool.{false}
+use mathlib.Core.List.{List, [], _∷_}
+use lib.ListN.{length, getD}
+use borrow.Author.Tests.{lt-leb, le-leb}
+use Rattle.unit.specs.declared.Quanta.{Quanta}
+use Rattle.measurement.specs.Limit.{anyFrom, openFrom}
+use Rattle.measurement.specs.Words.{wordOrZero, four, portPair, portPairs, lostFour}
+use Rattle.measurement.specs.Mean.{All}
+use Rattle.measurement.proofs.Sum.{all-below}
+
+pub open-below : (cycle : ℕ) → cycle < 4 → openFrom cycle .0 < 2147483648
+unfolding openFrom
+open-below cycle h = omega arith
+
+-- what is known of the four words of a good measurement
+pub record Good (limit : Quanta) (ws : List ℕ) : Type 0 where
+  pub first : wordOrZero ws 0 < 2147483648
+  pub second : wordOrZero ws 1 < 2147483648
+  pub third : wordOrZero ws 2 < 2147483648
+  pub fourth : wordOrZero ws 3 < 2147483648
+  pub each : All (λ w. w < 2147483648) ws
+  pub whole : four ws ≡ ws
+  pub kept : portPairs limit (four ws) ≡ four ws
+
+pub good-ports :
+    (cycle : ℕ) →
+    cycle < 4 →
+    (ws : List ℕ) →
+    length ws ≡ 4 →
+    anyFrom (openFrom cycle) ws ≡ false →
+    Good (openFrom cycle) ws
+unfolding wordOrZero four portPairs portPair
+good-ports cycle h [] l e = absurd (omega arith)
+good-ports cycle h (a ∷ []) l e = absurd (omega arith)
+good-ports cycle h (a ∷ b ∷ []) l e = absurd (omega arith)
+good-ports cycle h (a ∷ b ∷ c ∷ []) l e = absurd (omega arith)
+good-ports cycle h (a ∷ b ∷ c ∷ d ∷ []) l e =
+    let limit : Quanta = openFrom cycle in
+    let f : All (λ w. w < limit .0) (a ∷ b ∷ c ∷ d ∷ []) = all-below limit (a ∷ b ∷ c ∷ d ∷ []) e in
+    let m : limit .0 < 2147483648 = open-below cycle h in
+    record {
+      first = omega arith;
+      second = omega arith;
+      third = omega arith;
+      fourth = omega arith;
+      each = omega arith;
+      whole = refl;
+      kept =
+          rw (
+            lt-leb (limit .0) a (f .0),
+            lt-leb (limit .0) b (f .1 .0),
+            lt-leb (limit .0) c (f .1 .1 .0),
+            lt-leb (limit .0) d (f .1 .1 .1 .0),
+          );
+    }
+good-ports cycle h (a ∷ b ∷ c ∷ d ∷ f ∷ ws) l e = absurd (omega arith)
+
+-- "fails .. as if all its words were .. open"
+pub all-open :
+    (limit : Quanta) (ws : List ℕ) →
+    limit .0 ≤ getD ws 0 0 →
+    limit .0 ≤ getD ws 1 0 →
+    limit .0 ≤ getD ws 2 0 →
+    limit .0 ≤ getD ws 3 0 →
+    portPairs limit ws ≡ lostFour
+unfolding portPairs portPair lostFour
+all-open limit ws h i j k = rw (le-leb _ _ h, le-leb _ _ i, le-leb _ _ j, le-leb _ _ k)

@@ -1,0 +1,3 @@
+// One tick, and the deliveries of hit words.
+pub mod delivery;
+pub mod tick;

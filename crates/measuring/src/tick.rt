@@ -1,0 +1,150 @@
+// One tick of the clock, the awaited measurements and the events.
+ghost use mathlib.Core.Path.{_≡_};
+ghost use Rattle.unit.specs.Choice.{pick};
+ghost use Rattle.device.specs.Tick.{lostFlight, flightAfter, temperatureAfter, clockTicked, alarmRaised, tickStatus, tickModel, reportOf, lostDifference};
+use calendar::Clock;
+use device::Flight;
+use device::Model;
+use device::Report;
+use device::Schedule;
+use device::Status;
+use device::Temperature;
+use event::interrupt::alarm_bit;
+use event::interrupt::flight_bits;
+use event::interrupt::join;
+use event::interrupt::temperature_bits;
+use event::schedule::expires;
+use event::schedule::is_due;
+use event::schedule::tick_schedule;
+use measurement::words::lost_four;
+use measurement::words::lost_pairs;
+
+fn choose_pairs(test: bool, yes: [u32; 7], no: [u32; 7]) -> [u32; 7]
+    ensures { λ r. ⌜ r ≡ pick test yes no ⌝ }
+{
+    if test { yes } else { no }
+}
+
+fn lost_difference(f: Flight) -> u32
+    ensures { λ r. ⌜ r ≡ lostDifference f ⌝ }
+{
+    if f.up {
+        if f.down {
+            return 4294967295;
+        }
+        return f.difference;
+    }
+    f.difference
+}
+
+// The results of a failed measurement.
+pub fn lose_flight(f: Flight, schedule: Schedule) -> Flight
+    ensures { λ r. ⌜ r ≡ lostFlight f schedule ⌝ }
+{
+    let old_ups = f.ups;
+    let old_downs = f.downs;
+    let ups = choose_pairs(f.up, lost_pairs(), old_ups);
+    let downs = choose_pairs(f.down, lost_pairs(), old_downs);
+    let difference = lost_difference(f);
+    Flight {
+        schedule,
+        up: f.up,
+        down: f.down,
+        sum: f.sum,
+        ups,
+        downs,
+        difference,
+    }
+}
+
+fn flight_after(f: Flight) -> Flight
+    ensures { λ r. ⌜ r ≡ flightAfter f ⌝ }
+{
+    let k = f.schedule;
+    let next = tick_schedule(k);
+    if expires(k) {
+        return lose_flight(f, next);
+    }
+    let mut n = f;
+    n.schedule = next;
+    n
+}
+
+fn temperature_after(t: Temperature) -> Temperature
+    ensures { λ r. ⌜ r ≡ temperatureAfter t ⌝ }
+{
+    let k = t.schedule;
+    let next = tick_schedule(k);
+    let mut n = t;
+    n.schedule = next;
+    if expires(k) {
+        let ports = lost_four();
+        n.ports = ports;
+        return n;
+    }
+    n
+}
+
+fn clock_ticked(m: Model) -> Clock
+    ensures { λ r. ⌜ r ≡ clockTicked m ⌝ }
+{
+    let clock = m.clock;
+    let setup = m.setup;
+    if register::clock_stands(setup) {
+        return clock;
+    }
+    calendar::step::tick(clock)
+}
+
+fn alarm_raised(m: Model, after: Clock) -> bool
+    ensures { λ r. ⌜ r ≡ alarmRaised m after ⌝ }
+{
+    let before = m.clock;
+    let setup = m.setup;
+    let w = register::alarm_word(setup);
+    let mode = register::alarm_mode(setup);
+    calendar::alarm::rings(before, after, w, mode)
+}
+
+fn tick_status(m: Model, after: Clock) -> Status
+    ensures { λ r. ⌜ r ≡ tickStatus m after ⌝ }
+{
+    let setup = m.setup;
+    let flight = m.flight;
+    let temperature = m.temperature;
+    let f = flight.schedule;
+    let t = temperature.schedule;
+    let each = register::each_interrupt(setup);
+    let f_failed = expires(f);
+    let t_failed = expires(t);
+    let old = m.status;
+    let with_alarm = join(old, alarm_bit(alarm_raised(m, after)));
+    let with_flight = join(with_alarm, flight_bits(f, each, f_failed, f_failed));
+    join(with_flight, temperature_bits(t, each, t_failed, t_failed))
+}
+
+pub fn tick_model(m: Model) -> Model
+    ensures { λ r. ⌜ r ≡ tickModel m ⌝ }
+{
+    let clock = clock_ticked(m);
+    let status = tick_status(m, clock);
+    let old_flight = m.flight;
+    let old_temperature = m.temperature;
+    let flight = flight_after(old_flight);
+    let temperature = temperature_after(old_temperature);
+    let mut next = m;
+    next.clock = clock;
+    next.status = status;
+    next.flight = flight;
+    next.temperature = temperature;
+    next
+}
+
+// What the next tick reports of a kind.
+pub fn report_of(k: Schedule) -> Report
+    ensures { λ r. ⌜ r ≡ reportOf k ⌝ }
+{
+    let started = is_due(k);
+    let failed = expires(k);
+    Report { started, failed }
+}

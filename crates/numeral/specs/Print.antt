@@ -1,0 +1,40 @@
+-- Numbers as text. Assumes nothing.
+use Prim.Native.Nat.{ℕ, zero, suc, _+_, _-_, _*_, _/_, _%_}
+use mathlib.Core.Bool.{cond}
+use mathlib.Core.List.{List, [], _∷_, _++_}
+use lib.Dec.{ltb}
+use Rattle.numeral.specs.Digit.{digits}
+
+-- The low byte of each word.
+unfoldable pub lowBytes : List ℕ → List ℕ
+lowBytes [] = []
+lowBytes (w ∷ ws) = w % 256 ∷ lowBytes ws
+
+-- How many decimal digits v takes without leading zeros, if at most k more than one.
+unfoldable pub widthFrom : ℕ → ℕ → ℕ
+widthFrom zero v = 1
+widthFrom (suc k) v = cond (ltb v 10) 1 (suc (widthFrom k (v / 10)))
+
+-- The same of a number below 2^64, which takes at most twenty.
+unfoldable pub decimalWidth : ℕ → ℕ
+decimalWidth v = widthFrom 19 v
+
+-- A number in decimal, without leading zeros.
+unfoldable pub decimal : ℕ → List ℕ
+decimal v = digits 10 (decimalWidth v) v
+
+-- A number of quanta, of 250 / 65,536 nanoseconds each, in ten-thousandths of a nanosecond: rounded to the nearest, halves upward.
+unfoldable pub tenThousandths : ℕ → ℕ
+tenThousandths q = (q * 2500000 + 32768) / 65536
+
+-- A number of ten-thousandths with four decimals after the point.
+unfoldable pub fourDecimals : ℕ → List ℕ
+fourDecimals n = decimal (n / 10000) ++ (46 ∷ digits 10 4 (n % 10000))
+
+-- An unsigned word of quanta in nanoseconds.
+unfoldable pub nanoseconds : ℕ → List ℕ
+nanoseconds q = fourDecimals (tenThousandths q)
+
+-- A two's complement word of 32 bits of quanta in nanoseconds, a minus before the first digit where it is negative.
+unfoldable pub signedNanoseconds : ℕ → List ℕ
+signedNanoseconds w = cond (ltb w 2147483648) (nanoseconds w) (45 ∷ nanoseconds (4294967296 - w))

@@ -1,0 +1,81 @@
+// Numbers from the bytes of a word.
+use crate::Number;
+ghost use mathlib.Core.Path.{_≡_};
+ghost use Prim.Native.Nat.{_≤_};
+ghost use lib.ListN.{length};
+ghost use Rattle.numeral.specs.Digit.{digitOf};
+ghost use Rattle.numeral.specs.Read.{valueIn, readHex, readDecimal};
+
+// A hexadecimal number of `least` to `most` digits, at least one and at most eight.
+pub fn read_hex(s: &[u8], least: usize, most: usize) -> Number
+    ensures { λ r. ⌜ r ≡ readHex least most (now (s .entry)) ⌝ }
+{
+    if s.len() < 1 {
+        return Number::Bad;
+    }
+    if s.len() < least {
+        return Number::Bad;
+    }
+    if most < s.len() {
+        return Number::Bad;
+    }
+    if 8 < s.len() {
+        return Number::Bad;
+    }
+    value_in(s, 16, 4294967295)
+}
+
+// A decimal of one to ten digits, of a value that is at most `limit`.
+pub fn read_decimal(s: &[u8], limit: u32) -> Number
+    ensures { λ r. ⌜ r ≡ readDecimal limit (now (s .entry)) ⌝ }
+{
+    if s.len() < 1 {
+        return Number::Bad;
+    }
+    if 10 < s.len() {
+        return Number::Bad;
+    }
+    value_in(s, 10, limit as u64)
+}
+
+fn value_in(s: &[u8], base: u64, limit: u64) -> Number
+    requires { ⌜ (length (now s) ≤ 10) × (base ≤ 16) × (limit ≤ 4294967295) ⌝ }
+    ensures { λ r. ⌜ r ≡ valueIn base limit (now (s .entry)) ⌝ }
+{
+    let mut n: u64 = 0;
+    let mut i = 0;
+    while i < s.len() {
+        let d = digit(s[i]);
+        if base <= d {
+            return Number::Bad;
+        }
+        n = n * base + d;
+        i += 1;
+    }
+    if n <= limit {
+        Number::Value(n as u32)
+    } else {
+        Number::Bad
+    }
+}
+
+// The value of a digit, or 16.
+fn digit(c: u8) -> u64
+    ensures { λ r. ⌜ r ≡ digitOf c ⌝ }
+{
+    if c < 48 {
+        16
+    } else if c < 58 {
+        (c - 48) as u64
+    } else if c < 65 {
+        16
+    } else if c < 71 {
+        (c - 55) as u64
+    } else if c < 97 {
+        16
+    } else if c < 103 {
+        (c - 87) as u64
+    } else {
+        16
+    }
+}

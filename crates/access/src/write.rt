@@ -2,7 +2,7 @@
 ghost use mathlib.Core.Path.{_≡_};
 ghost use Prim.Native.Nat.{_<_, _≤_, _+_, _*_};
 ghost use lib.ListN.{length};
-ghost use Rattle.device.specs.Write.{covers, written, withWord, setupAfter, ticksAfter, clockAfter, writeInvalid, writeModel};
+ghost use Rattle.device.specs.Write.{written, withWord, setupAfter, ticksAfter, clockAfter, writeInvalid, writeModel};
 use crate::read::calendar_word;
 use calendar::Clock;
 use device::Model;

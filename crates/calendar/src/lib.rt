@@ -1,5 +1,4 @@
 // The calendar clock: its fields, its step by one tick, its register words, and the alarm.
-ghost use mathlib.Core.Path.{_≡_};
 use unit::Ticks;
 
 // Years count from 2000. The second holds `ticks` of the 32,768 Hz clock.

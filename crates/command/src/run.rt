@@ -1,6 +1,6 @@
 // Commands, reads and writes of one transaction.
 ghost use mathlib.Core.Path.{_≡_};
-ghost use Prim.Native.Nat.{_≤_, _+_, _*_};
+ghost use Prim.Native.Nat.{_≤_, _+_};
 ghost use lib.Dec.{eqb};
 ghost use Rattle.unit.specs.Choice.{negate};
 ghost use Rattle.device.specs.Bus.{mustBeIdle, startsFlight, startsTemperature, isEvent, commandBusy, notReady, commandUnset, flightStarted, flightEvent, temperatureEvent, startedEvent, initialised, haltedModel, runModel, readModel, eventFlight, eventSideUnset, eventTemperature, flightSideUnset, singleStarted, temperatureSideUnset};

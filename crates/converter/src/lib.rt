@@ -1,8 +1,7 @@
 // The calls of the MAX35101 model. Each takes any model and any input; a refusal changes nothing.
 ghost use mathlib.Core.Path.{_≡_};
 ghost use Prim.Native.Nat.{_≤_, _+_, _*_};
-ghost use lib.ListN.{length, drop};
-ghost use Rattle.frame.specs.Frame.{decodeFrame};
+ghost use lib.ListN.{length};
 ghost use Rattle.frame.specs.declared.Decoded.{Decoded};
 ghost use Rattle.device.specs.Event.{yes};
 ghost use Rattle.device.specs.Model.{sound, freshModel};

@@ -8,7 +8,6 @@ use crate::schedule::is_last;
 use device::Schedule;
 use device::Status;
 use unit::any_of;
-use unit::choose;
 
 pub fn no_bits() -> Status
     ensures { λ r. ⌜ r ≡ noBits ⌝ }

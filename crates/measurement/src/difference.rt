@@ -1,7 +1,7 @@
 // Differences as two's complement words, and means. A sum of differences is kept with 2^31 added to each, so that it has
 // no sign: its quotient is then the floor.
 ghost use mathlib.Core.Path.{_≡_};
-ghost use Prim.Native.Nat.{_<_, _≤_, _*_};
+ghost use Prim.Native.Nat.{_<_};
 ghost use Rattle.measurement.specs.Difference.{differenceWord, biased, differenceMean, portMean};
 use unit::Quanta;
 

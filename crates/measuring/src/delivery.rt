@@ -1,16 +1,14 @@
 // Delivered hit words of an awaited measurement.
 ghost use mathlib.Core.Path.{_≡_};
 ghost use Rattle.unit.specs.Choice.{pick};
-ghost use Prim.Native.Nat.{_<_, _≤_, _*_};
-ghost use lib.ListN.{length, getD};
-ghost use Rattle.measurement.specs.Words.{sixTotal, average};
-ghost use Rattle.device.specs.Event.{scheduleSound, yes};
+ghost use Prim.Native.Nat.{_<_, _*_};
+ghost use Rattle.measurement.specs.Words.{sixTotal};
+ghost use Rattle.device.specs.Event.{yes};
 ghost use Rattle.device.specs.Model.{flightSound, temperatureSound};
 ghost use Rattle.device.specs.Delivery.{flightMiscounted, goodDifference, goodSum, goodFlight, flightStatus, goodSums, temperatureStatus, flightFailed, flightGood, sameCount, temperatureFailed, temperatureGood};
 use crate::tick::lose_flight;
 use device::Flight;
 use device::Model;
-use device::Schedule;
 use device::Status;
 use device::Temperature;
 use event::interrupt::flight_bits;
@@ -24,7 +22,6 @@ use measurement::words::pairs;
 use measurement::words::plus_each;
 use measurement::words::port_pairs;
 use unit::Quanta;
-use unit::choose;
 
 fn same_count(measured: bool, hits: u32, given: usize) -> bool
     ensures { λ r. ⌜ r ≡ sameCount measured hits given ⌝ }

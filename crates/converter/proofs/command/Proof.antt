@@ -1,4 +1,4 @@
-use Rattle.unit.specs.Tests.{tests}
+-- `converter::command` meets its contract.
 use Rattle.device.specs.Call.{commandReply}
 use borrow.Author.Needs.{needs}
 use Rattle.converter.proofs.command.Statement.{statement}

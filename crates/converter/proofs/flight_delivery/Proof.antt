@@ -1,3 +1,4 @@
+-- `converter::flight_delivery` meets its contract.
 use Rattle.device.proofs.Sound.{fits-ready}
 use denote.Ref.{now}
 use Rattle.device.proofs.Facts.{reply-flight}
@@ -5,9 +6,7 @@ use Rattle.device.specs.Call.{flight}
 use Rattle.device.proofs.Decode.{reply-unsound}
 use Rattle.device.specs.Model.{sound}
 use mathlib.Core.Bool.{true, false}
-use mathlib.Core.Path.{_≡_, sym, _∙_, ap}
-use Rattle.unit.specs.Tests.{tests}
-use Rattle.device.specs.Call.{Call, reply}
+use mathlib.Core.Path.{_≡_, sym, _∙_}
 use borrow.Author.Needs.{needs}
 use Rattle.converter.proofs.flight_delivery.Statement.{statement}
 use Rattle.converter.proofs.flight_delivery.Tie as tie

@@ -1,12 +1,12 @@
+-- `converter::flight_words` meets its contract.
 use Rattle.register.specs.Setup.{timeout}
 use Rattle.measurement.specs.Limit.{lateFrom, anyFrom}
 use denote.Ref.{now}
-use mathlib.Core.Bool.{true, false}
+use mathlib.Core.Bool.{false}
 use mathlib.Core.Path.{_≡_}
 use Rattle.device.proofs.Sound.{good-hits}
 use Rattle.device.proofs.Sound.{flight-ready}
 use Rattle.device.specs.Call.{flightReply, acceptedAnswer, acceptedModel, anyLate}
-use Rattle.unit.specs.Tests.{tests}
 use Rattle.device.specs.Call.{flightReply}
 use borrow.Author.Needs.{needs}
 use Rattle.converter.proofs.flight_words.Statement.{statement}

@@ -1,4 +1,4 @@
-use Rattle.unit.specs.Tests.{tests}
+-- `converter::fresh` meets its contract.
 use Rattle.device.specs.Model.{freshModel}
 use borrow.Author.Needs.{needs}
 use Rattle.converter.proofs.fresh.Statement.{statement}

@@ -1,5 +1,5 @@
+-- `converter::interrupt_pending` meets its contract.
 use borrow.Author.Tests.{eq-eqb, ne-eqb}
-use Rattle.unit.specs.Tests.{tests}
 use Rattle.device.specs.Call.{interruptTold}
 use borrow.Author.Needs.{needs}
 use Rattle.converter.proofs.interrupt_pending.Statement.{statement}

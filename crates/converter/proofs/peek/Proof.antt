@@ -1,5 +1,5 @@
+-- `converter::peek` meets its contract.
 use borrow.Author.Tests.{le-ltb, lt-ltb}
-use Rattle.unit.specs.Tests.{tests}
 use Rattle.device.specs.Call.{registerTold}
 use borrow.Author.Needs.{needs}
 use Rattle.converter.proofs.peek.Statement.{statement}

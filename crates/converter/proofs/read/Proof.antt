@@ -1,3 +1,4 @@
+-- `converter::read` meets its contract.
 use Rattle.device.proofs.Decode.{read-bounds}
 use Rattle.device.specs.Call.{refuse, accept, refusalNumber}
 use Rattle.device.specs.Bus.{readModel}
@@ -11,10 +12,9 @@ use denote.Enum.Declared.{tagOf}
 use denote.Ref.{now}
 use lib.ListN.{length}
 use mathlib.Core.List.{List, [], _∷_}
-use mathlib.Core.Bool.{true, false}
+use mathlib.Core.Bool.{false}
 use mathlib.Core.Path.{_≡_, refl, _∙_, ap}
 use Prim.Native.Nat.{ℕ}
-use Rattle.unit.specs.Tests.{tests}
 use Rattle.device.specs.Call.{readReply, readOutput}
 use borrow.Author.Needs.{needs}
 use Rattle.converter.proofs.read.Statement.{statement}

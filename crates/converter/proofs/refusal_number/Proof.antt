@@ -1,3 +1,4 @@
+-- `converter::refusal_number` meets its contract.
 use Rattle.unit.specs.Tests.{tests}
 use Rattle.device.specs.Call.{refusalNumber}
 use borrow.Author.Needs.{needs}

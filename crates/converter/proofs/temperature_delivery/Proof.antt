@@ -1,3 +1,4 @@
+-- `converter::temperature_delivery` meets its contract.
 use borrow.Author.Tests.{eq-eqb, ne-eqb}
 use denote.Ref.{now}
 use Rattle.device.proofs.Facts.{reply-temperature}
@@ -5,9 +6,7 @@ use Rattle.device.specs.Call.{temperature}
 use Rattle.device.proofs.Decode.{reply-unsound}
 use Rattle.device.specs.Model.{sound}
 use mathlib.Core.Bool.{true, false}
-use mathlib.Core.Path.{_≡_, sym, _∙_, ap}
-use Rattle.unit.specs.Tests.{tests}
-use Rattle.device.specs.Call.{Call, reply}
+use mathlib.Core.Path.{_≡_, sym, _∙_}
 use borrow.Author.Needs.{needs}
 use Rattle.converter.proofs.temperature_delivery.Statement.{statement}
 use Rattle.converter.proofs.temperature_delivery.Tie as tie

@@ -1,6 +1,6 @@
+-- `converter::temperature_words` meets its contract.
 use Rattle.device.specs.Call.{temperatureReply, acceptedAnswer, acceptedModel, anyOpen}
 use Rattle.device.proofs.Sound.{sound-temperature}
-use Rattle.unit.specs.Tests.{tests}
 use Rattle.device.specs.Call.{temperatureReply}
 use borrow.Author.Needs.{needs}
 use Rattle.converter.proofs.temperature_words.Statement.{statement}

@@ -1,11 +1,10 @@
+-- `converter::tick` meets its contract.
 use Rattle.device.proofs.Facts.{reply-tick}
 use Rattle.device.specs.Call.{tick}
 use Rattle.device.proofs.Decode.{reply-unsound}
 use Rattle.device.specs.Model.{sound}
 use mathlib.Core.Bool.{true, false}
-use mathlib.Core.Path.{_≡_, sym, _∙_, ap}
-use Rattle.unit.specs.Tests.{tests}
-use Rattle.device.specs.Call.{Call, reply}
+use mathlib.Core.Path.{_≡_, sym, _∙_}
 use borrow.Author.Needs.{needs}
 use Rattle.converter.proofs.tick.Statement.{statement}
 use Rattle.converter.proofs.tick.Tie as tie

@@ -1,4 +1,4 @@
-use Rattle.unit.specs.Tests.{tests}
+-- `converter::told_awaited` meets its contract.
 use Rattle.device.specs.Call.{awaitedTold}
 use borrow.Author.Needs.{needs}
 use Rattle.converter.proofs.told_awaited.Statement.{statement}

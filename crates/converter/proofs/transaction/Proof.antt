@@ -1,3 +1,4 @@
+-- `converter::transaction` meets its contract.
 use Rattle.frame.specs.declared.Decoded.{Decoded}
 use Rattle.device.specs.Call.{bufferOf, readReply, readOutput}
 use Rattle.device.proofs.Decode.{write-facts, tail-whole, reply-command, reply-write, reply-read, reply-refusal, reply-unsound, read-fits}
@@ -10,8 +11,6 @@ use mathlib.Core.Bool.{true, false}
 use mathlib.Core.Path.{_≡_, sym, _∙_, ap}
 use native.Mathlib.Omega.{arith}
 use Prim.Native.Nat.{ℕ}
-use Rattle.unit.specs.Tests.{tests}
-use Rattle.device.specs.Call.{Call, reply, output}
 use borrow.Author.Needs.{needs}
 use Rattle.converter.proofs.transaction.Statement.{statement}
 use Rattle.converter.proofs.transaction.Tie as tie

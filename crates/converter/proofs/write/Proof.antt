@@ -1,4 +1,4 @@
-use Rattle.unit.specs.Tests.{tests}
+-- `converter::write` meets its contract.
 use Rattle.device.specs.Call.{writeReply}
 use borrow.Author.Needs.{needs}
 use Rattle.converter.proofs.write.Statement.{statement}

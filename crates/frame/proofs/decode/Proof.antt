@@ -1,3 +1,4 @@
+-- `frame::decode` meets its contract.
 use Rattle.unit.specs.Tests.{tests}
 use Rattle.frame.specs.Frame.{decodeFrame}
 use borrow.Author.Needs.{needs}

@@ -1,3 +1,4 @@
+-- `frame::decode_read` meets its contract.
 use Rattle.unit.specs.Tests.{tests}
 use Rattle.frame.specs.Frame.{readFrame}
 use borrow.Author.Needs.{needs}

@@ -1,3 +1,4 @@
+-- `frame::decode_write` meets its contract.
 use Rattle.unit.specs.Tests.{tests}
 use Rattle.frame.specs.Frame.{writeFrame}
 use borrow.Author.Needs.{needs}

@@ -1,3 +1,4 @@
+-- `frame::is_read` meets its contract.
 use borrow.Author.Needs.{needs}
 use Rattle.unit.specs.Tests.{tests}
 use Rattle.frame.specs.Frame.{isRead}

@@ -1,3 +1,4 @@
+-- `frame::past` meets its contract.
 use Rattle.unit.specs.Tests.{tests}
 use Rattle.frame.specs.Frame.{pastEnd}
 use borrow.Author.Needs.{needs}

@@ -1,3 +1,4 @@
+-- `frame::word` meets its contract.
 use Rattle.unit.specs.Tests.{tests}
 use Rattle.frame.specs.Frame.{wordAt}
 use borrow.Author.Needs.{needs}

@@ -1,3 +1,4 @@
+-- `register::alarm_mode` meets its contract.
 use Rattle.unit.specs.Tests.{tests}
 use Rattle.register.specs.Setup.{alarmMode}
 use borrow.Author.Needs.{needs}

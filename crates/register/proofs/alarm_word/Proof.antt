@@ -1,3 +1,4 @@
+-- `register::alarm_word` meets its contract.
 use Rattle.unit.specs.Tests.{tests}
 use Rattle.register.specs.Setup.{alarmWord}
 use borrow.Author.Needs.{needs}

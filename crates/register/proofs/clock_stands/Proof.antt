@@ -1,3 +1,4 @@
+-- `register::clock_stands` meets its contract.
 use Rattle.unit.specs.Tests.{tests}
 use Rattle.register.specs.Setup.{clockStands}
 use borrow.Author.Needs.{needs}

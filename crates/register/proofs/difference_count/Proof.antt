@@ -1,3 +1,4 @@
+-- `register::difference_count` meets its contract.
 use Rattle.unit.specs.Tests.{tests}
 use Rattle.register.specs.Setup.{differenceCount}
 use borrow.Author.Needs.{needs}

@@ -1,3 +1,4 @@
+-- `register::difference_period` meets its contract.
 use Rattle.unit.specs.Tests.{tests}
 use Rattle.register.specs.Setup.{differencePeriod}
 use borrow.Author.Needs.{needs}

@@ -1,3 +1,4 @@
+-- `register::each_interrupt` meets its contract.
 use Rattle.unit.specs.Tests.{tests}
 use Rattle.register.specs.Setup.{eachInterrupt}
 use borrow.Author.Needs.{needs}

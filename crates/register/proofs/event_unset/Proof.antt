@@ -1,3 +1,4 @@
+-- `register::event_unset` meets its contract.
 use Rattle.unit.specs.Tests.{tests}
 use Rattle.register.specs.Setup.{eventUnset}
 use borrow.Author.Needs.{needs}

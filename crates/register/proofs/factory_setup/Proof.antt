@@ -1,3 +1,4 @@
+-- `register::factory_setup` meets its contract.
 use borrow.Author.Needs.{needs}
 use Rattle.unit.specs.Tests.{tests}
 use Rattle.register.specs.Setup.{factory}

@@ -1,3 +1,4 @@
+-- `register::flight_unset` meets its contract.
 use Rattle.unit.specs.Tests.{tests}
 use Rattle.register.specs.Setup.{flightUnset}
 use borrow.Author.Needs.{needs}

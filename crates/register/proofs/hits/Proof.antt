@@ -1,3 +1,4 @@
+-- `register::hits` meets its contract.
 use Rattle.unit.specs.Tests.{tests}
 use Rattle.register.specs.Setup.{hitCount}
 use borrow.Author.Needs.{needs}

@@ -1,3 +1,4 @@
+-- `register::interrupt_enabled` meets its contract.
 use Rattle.unit.specs.Tests.{tests}
 use Rattle.register.specs.Setup.{interruptEnabled}
 use borrow.Author.Needs.{needs}

@@ -1,3 +1,4 @@
+-- `register::port_cycle` meets its contract.
 use Rattle.unit.specs.Tests.{tests}
 use Rattle.register.specs.Setup.{portCycle}
 use borrow.Author.Needs.{needs}

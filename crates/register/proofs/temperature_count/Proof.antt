@@ -1,3 +1,4 @@
+-- `register::temperature_count` meets its contract.
 use Rattle.unit.specs.Tests.{tests}
 use Rattle.register.specs.Setup.{temperatureCount}
 use borrow.Author.Needs.{needs}

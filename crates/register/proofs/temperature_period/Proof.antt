@@ -1,3 +1,4 @@
+-- `register::temperature_period` meets its contract.
 use Rattle.unit.specs.Tests.{tests}
 use Rattle.register.specs.Setup.{temperaturePeriod}
 use borrow.Author.Needs.{needs}

@@ -1,3 +1,4 @@
+-- `register::temperature_unset` meets its contract.
 use Rattle.unit.specs.Tests.{tests}
 use Rattle.register.specs.Setup.{temperatureUnset}
 use borrow.Author.Needs.{needs}

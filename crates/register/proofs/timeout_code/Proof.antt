@@ -1,3 +1,4 @@
+-- `register::timeout_code` meets its contract.
 use Rattle.unit.specs.Tests.{tests}
 use Rattle.register.specs.Setup.{timeout}
 use borrow.Author.Needs.{needs}

@@ -1,3 +1,4 @@
+-- `access::read::calendar_word` meets its contract.
 use Rattle.unit.specs.Tests.{tests}
 use Rattle.device.specs.Registers.{calendarWord}
 use borrow.Author.Needs.{needs}

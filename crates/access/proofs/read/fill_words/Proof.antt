@@ -1,3 +1,4 @@
+-- `access::read::fill_words` meets its contract.
 use Prim.Native.Nat.{ℕ, _+_, _≤_, _-_}
 use native.Mathlib.Numerals.{add-one}
 use mathlib.Core.List.{List}
@@ -6,7 +7,6 @@ use native.Mathlib.Omega.{arith}
 use mathlib.Core.Path.{_≡_, refl, _∙_, ap}
 use lib.ListN.{length, length-set}
 use borrow.Author.Needs.{needs}
-use Rattle.unit.specs.Tests.{tests}
 use Rattle.device.specs.Registers.{fill, putWord, registerWord}
 use Rattle.device.specs.declared.Model.{Model}
 use Rattle.access.proofs.read.fill_words.Statement.{statement}

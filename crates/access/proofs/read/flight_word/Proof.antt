@@ -1,5 +1,5 @@
+-- `access::read::flight_word` meets its contract.
 use borrow.Author.Tests.{eq-eqb, le-ltb, lt-ltb, ne-eqb}
-use Rattle.unit.specs.Tests.{tests}
 use Rattle.device.specs.Registers.{flightWord}
 use borrow.Author.Needs.{needs}
 use Rattle.access.proofs.read.flight_word.Statement.{statement}

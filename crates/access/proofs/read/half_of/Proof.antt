@@ -1,3 +1,4 @@
+-- `access::read::half_of` meets its contract.
 use borrow.Author.Needs.{needs}
 use Rattle.unit.specs.Tests.{tests}
 use Rattle.device.specs.Registers.{half}

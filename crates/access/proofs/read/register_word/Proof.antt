@@ -1,3 +1,4 @@
+-- `access::read::register_word` meets its contract.
 use Rattle.unit.specs.Tests.{tests}
 use Rattle.device.specs.Registers.{registerWord}
 use borrow.Author.Needs.{needs}

@@ -1,5 +1,5 @@
+-- `access::read::temperature_word` meets its contract.
 use borrow.Author.Tests.{eq-eqb, le-ltb, lt-ltb, ne-eqb}
-use Rattle.unit.specs.Tests.{tests}
 use Rattle.device.specs.Registers.{temperatureWord}
 use borrow.Author.Needs.{needs}
 use Rattle.access.proofs.read.temperature_word.Statement.{statement}

@@ -1,4 +1,4 @@
-use Rattle.unit.specs.Tests.{tests}
+-- `access::write::clock_after` meets its contract.
 use Rattle.device.specs.Write.{clockAfter}
 use borrow.Author.Needs.{needs}
 use Rattle.access.proofs.write.clock_after.Statement.{statement}

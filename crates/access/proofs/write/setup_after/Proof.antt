@@ -1,3 +1,4 @@
+-- `access::write::setup_after` meets its contract.
 use Prim.Native.Nat.{ℕ, _+_, _≤_, _-_}
 use native.Mathlib.Omega.{arith}
 use native.Mathlib.Numerals.{add-one}
@@ -6,7 +7,6 @@ use mathlib.Core.List.{List}
 use denote.Ref.{now}
 use Rattle.frame.specs.Frame.{wordAt}
 use borrow.Author.Needs.{needs}
-use Rattle.unit.specs.Tests.{tests}
 use Rattle.device.specs.Write.{setupAfter, withWord}
 use Rattle.access.proofs.write.setup_after.Statement.{statement}
 use Rattle.access.proofs.write.setup_after.Tie as tie

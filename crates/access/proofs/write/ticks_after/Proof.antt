@@ -1,5 +1,5 @@
+-- `access::write::ticks_after` meets its contract.
 use borrow.Author.Tests.{le-ltb, lt-ltb}
-use Rattle.unit.specs.Tests.{tests}
 use Rattle.device.specs.Write.{ticksAfter, covers}
 use borrow.Author.Needs.{needs}
 use Rattle.access.proofs.write.ticks_after.Statement.{statement}

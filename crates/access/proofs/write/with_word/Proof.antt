@@ -1,3 +1,4 @@
+-- `access::write::with_word` meets its contract.
 use Rattle.unit.specs.Tests.{tests}
 use Rattle.device.specs.Write.{withWord}
 use borrow.Author.Needs.{needs}

@@ -1,5 +1,5 @@
+-- `access::write::word_after` meets its contract.
 use borrow.Author.Tests.{le-ltb, lt-ltb}
-use Rattle.unit.specs.Tests.{tests}
 use Rattle.device.specs.Write.{written, covers}
 use borrow.Author.Needs.{needs}
 use Rattle.access.proofs.write.word_after.Statement.{statement}

@@ -1,4 +1,4 @@
-use Rattle.unit.specs.Tests.{tests}
+-- `access::write::write_invalid` meets its contract.
 use Rattle.device.specs.Write.{writeInvalid}
 use borrow.Author.Needs.{needs}
 use Rattle.access.proofs.write.write_invalid.Statement.{statement}

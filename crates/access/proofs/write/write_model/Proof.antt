@@ -1,4 +1,4 @@
-use Rattle.unit.specs.Tests.{tests}
+-- `access::write::write_model` meets its contract.
 use Rattle.device.specs.Write.{writeModel}
 use borrow.Author.Needs.{needs}
 use Rattle.access.proofs.write.write_model.Statement.{statement}

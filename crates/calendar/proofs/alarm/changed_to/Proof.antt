@@ -1,3 +1,4 @@
+-- `calendar::alarm::changed_to` meets its contract.
 use borrow.Author.Needs.{needs}
 use Rattle.unit.specs.Tests.{tests}
 use Rattle.calendar.specs.Alarm.{reaches}

@@ -1,3 +1,4 @@
+-- `calendar::alarm::rings` meets its contract.
 use borrow.Author.Tests.{eq-eqb, ne-eqb}
 use Rattle.unit.specs.Tests.{tests}
 use Rattle.calendar.specs.Alarm.{alarmRings}

@@ -1,3 +1,4 @@
+-- `calendar::date::date_fits` meets its contract.
 use Rattle.unit.specs.Tests.{tests}
 use Rattle.calendar.specs.Calendar.{dateFits}
 use borrow.Author.Needs.{needs}

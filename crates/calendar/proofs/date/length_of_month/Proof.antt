@@ -1,3 +1,4 @@
+-- `calendar::date::length_of_month` meets its contract.
 use Rattle.unit.specs.Tests.{tests}
 use Rattle.calendar.specs.Calendar.{monthLength}
 use borrow.Author.Needs.{needs}

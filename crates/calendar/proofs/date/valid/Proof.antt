@@ -1,3 +1,4 @@
+-- `calendar::date::valid` meets its contract.
 use Rattle.unit.specs.Tests.{tests}
 use Rattle.calendar.specs.Calendar.{clockValid}
 use borrow.Author.Needs.{needs}

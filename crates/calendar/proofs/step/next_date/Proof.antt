@@ -1,3 +1,4 @@
+-- `calendar::step::next_date` meets its contract.
 use Rattle.unit.specs.Tests.{tests}
 use Rattle.calendar.specs.Calendar.{nextDate}
 use borrow.Author.Needs.{needs}

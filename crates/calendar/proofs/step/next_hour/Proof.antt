@@ -1,3 +1,4 @@
+-- `calendar::step::next_hour` meets its contract.
 use Rattle.unit.specs.Tests.{tests}
 use Rattle.calendar.specs.Calendar.{nextHour}
 use borrow.Author.Needs.{needs}

@@ -1,3 +1,4 @@
+-- `calendar::step::next_minute` meets its contract.
 use Rattle.unit.specs.Tests.{tests}
 use Rattle.calendar.specs.Calendar.{nextMinute}
 use borrow.Author.Needs.{needs}

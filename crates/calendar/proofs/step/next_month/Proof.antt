@@ -1,3 +1,4 @@
+-- `calendar::step::next_month` meets its contract.
 use Rattle.unit.specs.Tests.{tests}
 use Rattle.calendar.specs.Calendar.{nextMonth}
 use borrow.Author.Needs.{needs}

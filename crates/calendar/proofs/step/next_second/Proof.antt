@@ -1,3 +1,4 @@
+-- `calendar::step::next_second` meets its contract.
 use Rattle.unit.specs.Tests.{tests}
 use Rattle.calendar.specs.Calendar.{nextSecond}
 use borrow.Author.Needs.{needs}

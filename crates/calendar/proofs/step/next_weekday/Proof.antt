@@ -1,3 +1,4 @@
+-- `calendar::step::next_weekday` meets its contract.
 use Rattle.unit.specs.Tests.{tests}
 use Rattle.calendar.specs.Calendar.{nextWeekday}
 use borrow.Author.Needs.{needs}

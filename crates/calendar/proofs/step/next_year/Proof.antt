@@ -1,3 +1,4 @@
+-- `calendar::step::next_year` meets its contract.
 use Rattle.unit.specs.Tests.{tests}
 use Rattle.calendar.specs.Calendar.{nextYear}
 use borrow.Author.Needs.{needs}

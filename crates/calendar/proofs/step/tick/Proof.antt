@@ -1,3 +1,4 @@
+-- `calendar::step::tick` meets its contract.
 use Rattle.unit.specs.Tests.{tests}
 use Rattle.calendar.specs.Calendar.{tickClock}
 use borrow.Author.Needs.{needs}

@@ -1,3 +1,4 @@
+-- `calendar::words::alarm_valid` meets its contract.
 use Rattle.unit.specs.Tests.{tests}
 use Rattle.calendar.specs.Words.{alarmValid}
 use borrow.Author.Needs.{needs}

@@ -1,3 +1,4 @@
+-- `calendar::words::clock_from` meets its contract.
 use Rattle.unit.specs.Tests.{tests}
 use Rattle.calendar.specs.Words.{clockFrom}
 use borrow.Author.Needs.{needs}

@@ -1,3 +1,4 @@
+-- `calendar::words::date_word` meets its contract.
 use Rattle.unit.specs.Tests.{tests}
 use Rattle.calendar.specs.Words.{word32}
 use borrow.Author.Needs.{needs}

@@ -1,3 +1,4 @@
+-- `calendar::words::digits_fit` meets its contract.
 use Rattle.unit.specs.Tests.{tests}
 use Rattle.calendar.specs.Words.{digitsFit}
 use borrow.Author.Needs.{needs}

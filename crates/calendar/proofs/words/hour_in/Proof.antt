@@ -1,3 +1,4 @@
+-- `calendar::words::hour_in` meets its contract.
 use Rattle.unit.specs.Tests.{tests}
 use Rattle.calendar.specs.Words.{hourIn}
 use borrow.Author.Needs.{needs}

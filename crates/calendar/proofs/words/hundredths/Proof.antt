@@ -1,3 +1,4 @@
+-- `calendar::words::hundredths` meets its contract.
 use Rattle.unit.specs.Tests.{tests}
 use Rattle.calendar.specs.Words.{hundredthsOf}
 use borrow.Author.Needs.{needs}

@@ -1,3 +1,4 @@
+-- `calendar::words::minute_in` meets its contract.
 use Rattle.unit.specs.Tests.{tests}
 use Rattle.calendar.specs.Words.{minuteIn}
 use borrow.Author.Needs.{needs}

@@ -1,3 +1,4 @@
+-- `calendar::words::ticks_in` meets its contract.
 use Rattle.unit.specs.Tests.{tests}
 use Rattle.calendar.specs.Words.{ticksIn}
 use borrow.Author.Needs.{needs}

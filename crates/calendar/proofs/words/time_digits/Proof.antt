@@ -1,3 +1,4 @@
+-- `calendar::words::time_digits` meets its contract.
 use borrow.Author.Needs.{needs}
 use Rattle.unit.specs.Tests.{tests}
 use Rattle.calendar.specs.Words.{timeDigits}

@@ -1,3 +1,4 @@
+-- `calendar::words::time_word` meets its contract.
 use Rattle.unit.specs.Tests.{tests}
 use Rattle.calendar.specs.Words.{word31}
 use borrow.Author.Needs.{needs}

@@ -1,3 +1,4 @@
+-- `calendar::words::two_digits` meets its contract.
 use Rattle.unit.specs.Tests.{tests}
 use Rattle.calendar.specs.Words.{bcd}
 use borrow.Author.Needs.{needs}

@@ -1,3 +1,4 @@
+-- `calendar::words::words_valid` meets its contract.
 use Rattle.unit.specs.Tests.{tests}
 use Rattle.calendar.specs.Words.{wordsValid}
 use borrow.Author.Needs.{needs}

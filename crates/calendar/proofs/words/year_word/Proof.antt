@@ -1,3 +1,4 @@
+-- `calendar::words::year_word` meets its contract.
 use Rattle.unit.specs.Tests.{tests}
 use Rattle.calendar.specs.Words.{word33}
 use borrow.Author.Needs.{needs}

@@ -1,5 +1,5 @@
+-- `command::run::after_read` meets its contract.
 use borrow.Author.Tests.{le-leb, le-ltb, lt-leb, lt-ltb}
-use Rattle.unit.specs.Tests.{tests}
 use Rattle.device.specs.Bus.{readModel}
 use borrow.Author.Needs.{needs}
 use Rattle.command.proofs.run.after_read.Statement.{statement}

@@ -1,4 +1,4 @@
-use Rattle.unit.specs.Tests.{tests}
+-- `command::run::command_busy` meets its contract.
 use Rattle.device.specs.Bus.{commandBusy}
 use borrow.Author.Needs.{needs}
 use Rattle.command.proofs.run.command_busy.Statement.{statement}

@@ -1,4 +1,4 @@
-use Rattle.unit.specs.Tests.{tests}
+-- `command::run::command_unset` meets its contract.
 use Rattle.device.specs.Bus.{commandUnset}
 use borrow.Author.Needs.{needs}
 use Rattle.command.proofs.run.command_unset.Statement.{statement}

@@ -1,3 +1,4 @@
+-- `command::run::differs` meets its contract.
 use borrow.Author.Needs.{needs}
 use Rattle.unit.specs.Tests.{tests}
 use Rattle.command.proofs.run.differs.Statement.{statement}

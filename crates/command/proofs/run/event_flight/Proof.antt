@@ -1,4 +1,4 @@
-use Rattle.unit.specs.Tests.{tests}
+-- `command::run::event_flight` meets its contract.
 use Rattle.device.specs.Bus.{eventFlight}
 use borrow.Author.Needs.{needs}
 use Rattle.command.proofs.run.event_flight.Statement.{statement}

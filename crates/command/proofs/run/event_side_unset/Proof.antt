@@ -1,4 +1,4 @@
-use Rattle.unit.specs.Tests.{tests}
+-- `command::run::event_side_unset` meets its contract.
 use Rattle.device.specs.Bus.{eventSideUnset}
 use borrow.Author.Needs.{needs}
 use Rattle.command.proofs.run.event_side_unset.Statement.{statement}

@@ -1,4 +1,4 @@
-use Rattle.unit.specs.Tests.{tests}
+-- `command::run::event_temperature` meets its contract.
 use Rattle.device.specs.Bus.{eventTemperature}
 use borrow.Author.Needs.{needs}
 use Rattle.command.proofs.run.event_temperature.Statement.{statement}

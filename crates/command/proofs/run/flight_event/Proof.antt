@@ -1,4 +1,4 @@
-use Rattle.unit.specs.Tests.{tests}
+-- `command::run::flight_event` meets its contract.
 use Rattle.device.specs.Bus.{flightEvent}
 use borrow.Author.Needs.{needs}
 use Rattle.command.proofs.run.flight_event.Statement.{statement}

@@ -1,4 +1,4 @@
-use Rattle.unit.specs.Tests.{tests}
+-- `command::run::flight_side_unset` meets its contract.
 use Rattle.device.specs.Bus.{flightSideUnset}
 use borrow.Author.Needs.{needs}
 use Rattle.command.proofs.run.flight_side_unset.Statement.{statement}

@@ -1,4 +1,4 @@
-use Rattle.unit.specs.Tests.{tests}
+-- `command::run::halted` meets its contract.
 use Rattle.device.specs.Bus.{haltedModel}
 use borrow.Author.Needs.{needs}
 use Rattle.command.proofs.run.halted.Statement.{statement}

@@ -1,4 +1,4 @@
-use Rattle.unit.specs.Tests.{tests}
+-- `command::run::initialised` meets its contract.
 use Rattle.device.specs.Bus.{initialised}
 use borrow.Author.Needs.{needs}
 use Rattle.command.proofs.run.initialised.Statement.{statement}

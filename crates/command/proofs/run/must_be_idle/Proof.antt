@@ -1,3 +1,4 @@
+-- `command::run::must_be_idle` meets its contract.
 use borrow.Author.Needs.{needs}
 use Rattle.unit.specs.Tests.{tests}
 use Rattle.device.specs.Bus.{mustBeIdle}

@@ -1,4 +1,4 @@
-use Rattle.unit.specs.Tests.{tests}
+-- `command::run::not_ready` meets its contract.
 use Rattle.device.specs.Bus.{notReady}
 use borrow.Author.Needs.{needs}
 use Rattle.command.proofs.run.not_ready.Statement.{statement}

@@ -1,6 +1,6 @@
+-- `command::run::run` meets its contract.
 use Rattle.device.specs.Model.{resetModel}
 use borrow.Author.Tests.{eq-eqb, ne-eqb}
-use Rattle.unit.specs.Tests.{tests}
 use Rattle.device.specs.Bus.{runModel}
 use borrow.Author.Needs.{needs}
 use Rattle.command.proofs.run.run.Statement.{statement}

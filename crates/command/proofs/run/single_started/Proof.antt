@@ -1,5 +1,5 @@
+-- `command::run::single_started` meets its contract.
 use borrow.Author.Tests.{eq-eqb, ne-eqb}
-use Rattle.unit.specs.Tests.{tests}
 use Rattle.device.specs.Bus.{singleStarted}
 use borrow.Author.Needs.{needs}
 use Rattle.command.proofs.run.single_started.Statement.{statement}

@@ -1,4 +1,4 @@
-use Rattle.unit.specs.Tests.{tests}
+-- `command::run::started_event` meets its contract.
 use Rattle.device.specs.Bus.{startedEvent}
 use borrow.Author.Needs.{needs}
 use Rattle.command.proofs.run.started_event.Statement.{statement}

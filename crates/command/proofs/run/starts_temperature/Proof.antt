@@ -1,3 +1,4 @@
+-- `command::run::starts_temperature` meets its contract.
 use borrow.Author.Needs.{needs}
 use Rattle.unit.specs.Tests.{tests}
 use Rattle.device.specs.Bus.{startsTemperature}

@@ -1,4 +1,4 @@
-use Rattle.unit.specs.Tests.{tests}
+-- `command::run::temperature_event` meets its contract.
 use Rattle.device.specs.Bus.{temperatureEvent}
 use borrow.Author.Needs.{needs}
 use Rattle.command.proofs.run.temperature_event.Statement.{statement}

@@ -1,4 +1,4 @@
-use Rattle.unit.specs.Tests.{tests}
+-- `command::run::temperature_side_unset` meets its contract.
 use Rattle.device.specs.Bus.{temperatureSideUnset}
 use borrow.Author.Needs.{needs}
 use Rattle.command.proofs.run.temperature_side_unset.Statement.{statement}

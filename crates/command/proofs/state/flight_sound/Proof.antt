@@ -1,4 +1,4 @@
-use Rattle.unit.specs.Tests.{tests}
+-- `command::state::flight_sound` meets its contract.
 use Rattle.device.specs.Model.{flightSound}
 use borrow.Author.Needs.{needs}
 use Rattle.command.proofs.state.flight_sound.Statement.{statement}

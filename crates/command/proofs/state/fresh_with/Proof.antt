@@ -1,4 +1,4 @@
-use Rattle.unit.specs.Tests.{tests}
+-- `command::state::fresh_with` meets its contract.
 use Rattle.device.specs.Model.{freshWith}
 use borrow.Author.Needs.{needs}
 use Rattle.command.proofs.state.fresh_with.Statement.{statement}

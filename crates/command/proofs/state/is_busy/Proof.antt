@@ -1,4 +1,4 @@
-use Rattle.unit.specs.Tests.{tests}
+-- `command::state::is_busy` meets its contract.
 use Rattle.device.specs.Model.{busy}
 use borrow.Author.Needs.{needs}
 use Rattle.command.proofs.state.is_busy.Statement.{statement}

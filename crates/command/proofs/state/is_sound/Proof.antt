@@ -1,4 +1,4 @@
-use Rattle.unit.specs.Tests.{tests}
+-- `command::state::is_sound` meets its contract.
 use Rattle.device.specs.Model.{sound}
 use borrow.Author.Needs.{needs}
 use Rattle.command.proofs.state.is_sound.Statement.{statement}

@@ -1,4 +1,4 @@
-use Rattle.unit.specs.Tests.{tests}
+-- `command::state::kind_busy` meets its contract.
 use Rattle.device.specs.Model.{kindBusy}
 use borrow.Author.Needs.{needs}
 use Rattle.command.proofs.state.kind_busy.Statement.{statement}

@@ -1,3 +1,4 @@
+-- `command::state::sum_fits` meets its contract.
 use native.Mathlib.Omega.{arith}
 use native.Mathlib.Nat.{mul-le-mul-left}
 use borrow.Author.Needs.{needs}

@@ -1,4 +1,4 @@
-use Rattle.unit.specs.Tests.{tests}
+-- `command::state::temperature_sound` meets its contract.
 use Rattle.device.specs.Model.{temperatureSound}
 use borrow.Author.Needs.{needs}
 use Rattle.command.proofs.state.temperature_sound.Statement.{statement}

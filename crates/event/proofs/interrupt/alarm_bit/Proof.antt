@@ -1,5 +1,5 @@
+-- `event::interrupt::alarm_bit` meets its contract.
 use Rattle.device.specs.Status.{noBits}
-use Rattle.unit.specs.Tests.{tests}
 use Rattle.device.specs.Status.{alarmBit}
 use borrow.Author.Needs.{needs}
 use Rattle.event.proofs.interrupt.alarm_bit.Statement.{statement}

@@ -1,5 +1,5 @@
+-- `event::interrupt::flight_bits` meets its contract.
 use Rattle.device.specs.Status.{noBits}
-use Rattle.unit.specs.Tests.{tests}
 use Rattle.device.specs.Status.{flightBits}
 use borrow.Author.Needs.{needs}
 use Rattle.event.proofs.interrupt.flight_bits.Statement.{statement}

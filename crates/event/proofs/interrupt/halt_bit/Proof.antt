@@ -1,5 +1,5 @@
+-- `event::interrupt::halt_bit` meets its contract.
 use Rattle.device.specs.Status.{noBits}
-use Rattle.unit.specs.Tests.{tests}
 use Rattle.device.specs.Status.{haltBit}
 use borrow.Author.Needs.{needs}
 use Rattle.event.proofs.interrupt.halt_bit.Statement.{statement}

@@ -1,5 +1,5 @@
+-- `event::interrupt::init_bit` meets its contract.
 use Rattle.device.specs.Status.{noBits}
-use Rattle.unit.specs.Tests.{tests}
 use Rattle.device.specs.Status.{initBit}
 use borrow.Author.Needs.{needs}
 use Rattle.event.proofs.interrupt.init_bit.Statement.{statement}

@@ -1,4 +1,4 @@
-use Rattle.unit.specs.Tests.{tests}
+-- `event::interrupt::join` meets its contract.
 use Rattle.device.specs.Status.{joined}
 use borrow.Author.Needs.{needs}
 use Rattle.event.proofs.interrupt.join.Statement.{statement}

@@ -1,3 +1,4 @@
+-- `event::interrupt::no_bits` meets its contract.
 use borrow.Author.Needs.{needs}
 use Rattle.unit.specs.Tests.{tests}
 use Rattle.device.specs.Status.{noBits}

@@ -1,5 +1,5 @@
+-- `event::interrupt::por_bit` meets its contract.
 use Rattle.device.specs.Status.{noBits}
-use Rattle.unit.specs.Tests.{tests}
 use Rattle.device.specs.Status.{porBit}
 use borrow.Author.Needs.{needs}
 use Rattle.event.proofs.interrupt.por_bit.Statement.{statement}

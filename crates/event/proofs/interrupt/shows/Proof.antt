@@ -1,4 +1,4 @@
-use Rattle.unit.specs.Tests.{tests}
+-- `event::interrupt::shows` meets its contract.
 use Rattle.device.specs.Status.{shown}
 use borrow.Author.Needs.{needs}
 use Rattle.event.proofs.interrupt.shows.Statement.{statement}

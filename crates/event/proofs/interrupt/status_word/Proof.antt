@@ -1,3 +1,4 @@
+-- `event::interrupt::status_word` meets its contract.
 use Rattle.unit.specs.Tests.{tests}
 use Rattle.device.specs.Status.{statusWord}
 use borrow.Author.Needs.{needs}

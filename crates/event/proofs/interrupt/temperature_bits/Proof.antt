@@ -1,5 +1,5 @@
+-- `event::interrupt::temperature_bits` meets its contract.
 use Rattle.device.specs.Status.{noBits}
-use Rattle.unit.specs.Tests.{tests}
 use Rattle.device.specs.Status.{temperatureBits}
 use borrow.Author.Needs.{needs}
 use Rattle.event.proofs.interrupt.temperature_bits.Statement.{statement}

@@ -1,3 +1,4 @@
+-- `event::schedule::is_due` meets its contract.
 use borrow.Author.Needs.{needs}
 use Rattle.unit.specs.Tests.{tests}
 use Rattle.device.specs.Event.{begins}

@@ -1,3 +1,4 @@
+-- `event::schedule::is_last` meets its contract.
 use Rattle.unit.specs.Tests.{tests}
 use Rattle.device.specs.Event.{lastOne}
 use borrow.Author.Needs.{needs}

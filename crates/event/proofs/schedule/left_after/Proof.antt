@@ -1,3 +1,4 @@
+-- `event::schedule::left_after` meets its contract.
 use Rattle.unit.specs.Tests.{tests}
 use Rattle.device.specs.Event.{leftAfter}
 use borrow.Author.Needs.{needs}

@@ -1,5 +1,5 @@
+-- `event::schedule::settle_one` meets its contract.
 use borrow.Author.Tests.{le-ltb, lt-ltb}
-use Rattle.unit.specs.Tests.{tests}
 use Rattle.device.specs.Event.{settle}
 use borrow.Author.Needs.{needs}
 use Rattle.event.proofs.schedule.settle_one.Statement.{statement}

@@ -1,3 +1,4 @@
+-- `event::schedule::settled_after` meets its contract.
 use Rattle.unit.specs.Tests.{tests}
 use Rattle.device.specs.Event.{settledAfter}
 use borrow.Author.Needs.{needs}

@@ -1,3 +1,4 @@
+-- `event::schedule::started_after` meets its contract.
 use Rattle.unit.specs.Tests.{tests}
 use Rattle.device.specs.Event.{startedAfter}
 use borrow.Author.Needs.{needs}

@@ -1,3 +1,4 @@
+-- `event::schedule::tick_schedule` meets its contract.
 use Rattle.unit.specs.Tests.{tests}
 use Rattle.device.specs.Event.{tickSchedule}
 use borrow.Author.Needs.{needs}

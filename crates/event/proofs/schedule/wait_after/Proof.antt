@@ -1,3 +1,4 @@
+-- `event::schedule::wait_after` meets its contract.
 use Rattle.unit.specs.Tests.{tests}
 use Rattle.device.specs.Event.{waitAfter}
 use borrow.Author.Needs.{needs}

@@ -1,3 +1,4 @@
+-- `measurement::difference::biased_difference` meets its contract.
 use Rattle.unit.specs.Tests.{tests}
 use Rattle.measurement.specs.Difference.{biased}
 use borrow.Author.Needs.{needs}

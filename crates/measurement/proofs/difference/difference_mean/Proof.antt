@@ -1,3 +1,4 @@
+-- `measurement::difference::difference_mean` meets its contract.
 use Rattle.unit.specs.Tests.{tests}
 use Rattle.measurement.specs.Difference.{differenceMean}
 use borrow.Author.Needs.{needs}

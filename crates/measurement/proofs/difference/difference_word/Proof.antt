@@ -1,3 +1,4 @@
+-- `measurement::difference::difference_word` meets its contract.
 use Rattle.unit.specs.Tests.{tests}
 use Rattle.measurement.specs.Difference.{differenceWord}
 use borrow.Author.Needs.{needs}

@@ -1,3 +1,4 @@
+-- `measurement::difference::port_mean` meets its contract.
 use Rattle.unit.specs.Tests.{tests}
 use Rattle.measurement.specs.Difference.{portMean}
 use borrow.Author.Needs.{needs}

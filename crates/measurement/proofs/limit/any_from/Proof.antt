@@ -1,11 +1,11 @@
+-- `measurement::limit::any_from` meets its contract.
 use Prim.Native.Nat.{_≤_, _-_}
 use native.Mathlib.Omega.{arith}
-use mathlib.Core.Path.{_≡_, refl, _∙_}
+use mathlib.Core.Path.{_≡_, refl}
 use lib.ListN.{length, drop}
 use denote.Ref.{now}
 use Rattle.measurement.proofs.Limits.{any-found, any-passed, any-none}
 use borrow.Author.Needs.{needs}
-use Rattle.unit.specs.Tests.{tests}
 use Rattle.measurement.specs.Limit.{anyFrom}
 use Rattle.measurement.proofs.limit.any_from.Statement.{statement}
 use Rattle.measurement.proofs.limit.any_from.Tie as tie

@@ -1,3 +1,4 @@
+-- `measurement::limit::open_from` meets its contract.
 use Rattle.unit.specs.Tests.{tests}
 use Rattle.measurement.specs.Limit.{openFrom}
 use borrow.Author.Needs.{needs}

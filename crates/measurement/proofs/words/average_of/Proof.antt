@@ -1,5 +1,5 @@
+-- `measurement::words::average_of` meets its contract.
 use Rattle.measurement.proofs.Limits.{quotient-below}
-use Rattle.unit.specs.Tests.{tests}
 use Rattle.measurement.specs.Words.{average}
 use borrow.Author.Needs.{needs}
 use Rattle.measurement.proofs.words.average_of.Statement.{statement}

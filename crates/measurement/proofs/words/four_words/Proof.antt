@@ -1,3 +1,4 @@
+-- `measurement::words::four_words` meets its contract.
 use Rattle.unit.specs.Tests.{tests}
 use Rattle.measurement.specs.Words.{four}
 use borrow.Author.Needs.{needs}

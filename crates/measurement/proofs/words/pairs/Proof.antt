@@ -1,3 +1,4 @@
+-- `measurement::words::pairs` meets its contract.
 use Rattle.unit.specs.Tests.{tests}
 use Rattle.measurement.specs.Words.{filled}
 use borrow.Author.Needs.{needs}

@@ -1,4 +1,4 @@
-use Rattle.unit.specs.Tests.{tests}
+-- `measurement::words::plus_each` meets its contract.
 use Rattle.measurement.specs.Words.{plusEach}
 use borrow.Author.Needs.{needs}
 use Rattle.measurement.proofs.words.plus_each.Statement.{statement}

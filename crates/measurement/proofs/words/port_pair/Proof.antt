@@ -1,3 +1,4 @@
+-- `measurement::words::port_pair` meets its contract.
 use borrow.Author.Needs.{needs}
 use Rattle.unit.specs.Tests.{tests}
 use Rattle.measurement.specs.Words.{portPair}

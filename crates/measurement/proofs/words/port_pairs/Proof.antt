@@ -1,3 +1,4 @@
+-- `measurement::words::port_pairs` meets its contract.
 use Rattle.unit.specs.Tests.{tests}
 use Rattle.measurement.specs.Words.{portPairs}
 use borrow.Author.Needs.{needs}

@@ -1,3 +1,4 @@
+-- `measurement::words::six_words` meets its contract.
 use Rattle.unit.specs.Tests.{tests}
 use Rattle.measurement.specs.Words.{six}
 use borrow.Author.Needs.{needs}

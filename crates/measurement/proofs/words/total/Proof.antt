@@ -1,3 +1,4 @@
+-- `measurement::words::total` meets its contract.
 use Rattle.unit.specs.Tests.{tests}
 use Rattle.measurement.specs.Words.{sixTotal}
 use borrow.Author.Needs.{needs}

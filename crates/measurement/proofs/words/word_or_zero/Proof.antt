@@ -1,3 +1,4 @@
+-- `measurement::words::word_or_zero` meets its contract.
 use Rattle.unit.specs.Tests.{tests}
 use Rattle.measurement.specs.Words.{wordOrZero}
 use borrow.Author.Needs.{needs}

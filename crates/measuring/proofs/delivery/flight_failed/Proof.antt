@@ -1,6 +1,6 @@
+-- `measuring::delivery::flight_failed` meets its contract.
 use native.Mathlib.Omega.{arith}
 use Rattle.device.proofs.Sound.{flight-of}
-use Rattle.unit.specs.Tests.{tests}
 use Rattle.device.specs.Delivery.{flightFailed}
 use borrow.Author.Needs.{needs}
 use Rattle.measuring.proofs.delivery.flight_failed.Statement.{statement}

@@ -1,4 +1,4 @@
-use Rattle.unit.specs.Tests.{tests}
+-- `measuring::delivery::flight_good` meets its contract.
 use Rattle.device.specs.Delivery.{flightGood}
 use borrow.Author.Needs.{needs}
 use Rattle.measuring.proofs.delivery.flight_good.Statement.{statement}

@@ -1,4 +1,4 @@
-use Rattle.unit.specs.Tests.{tests}
+-- `measuring::delivery::flight_miscounted` meets its contract.
 use Rattle.device.specs.Delivery.{flightMiscounted}
 use borrow.Author.Needs.{needs}
 use Rattle.measuring.proofs.delivery.flight_miscounted.Statement.{statement}

@@ -1,4 +1,4 @@
-use Rattle.unit.specs.Tests.{tests}
+-- `measuring::delivery::flight_status` meets its contract.
 use Rattle.device.specs.Delivery.{flightStatus}
 use borrow.Author.Needs.{needs}
 use Rattle.measuring.proofs.delivery.flight_status.Statement.{statement}

@@ -1,4 +1,4 @@
-use Rattle.unit.specs.Tests.{tests}
+-- `measuring::delivery::good_difference` meets its contract.
 use Rattle.device.specs.Delivery.{goodDifference}
 use borrow.Author.Needs.{needs}
 use Rattle.measuring.proofs.delivery.good_difference.Statement.{statement}

@@ -1,6 +1,6 @@
+-- `measuring::delivery::good_flight` meets its contract.
 use native.Mathlib.Omega.{arith}
 use Rattle.device.proofs.Sound.{flight-of}
-use Rattle.unit.specs.Tests.{tests}
 use Rattle.device.specs.Delivery.{goodFlight}
 use borrow.Author.Needs.{needs}
 use Rattle.measuring.proofs.delivery.good_flight.Statement.{statement}

@@ -1,7 +1,7 @@
+-- `measuring::delivery::good_sum` meets its contract.
 use borrow.Author.Tests.{le-ltb, lt-ltb}
 use native.Mathlib.Omega.{arith}
 use Rattle.device.proofs.Sound.{flight-of}
-use Rattle.unit.specs.Tests.{tests}
 use Rattle.device.specs.Delivery.{goodSum}
 use borrow.Author.Needs.{needs}
 use Rattle.measuring.proofs.delivery.good_sum.Statement.{statement}

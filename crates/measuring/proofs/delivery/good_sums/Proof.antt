@@ -1,8 +1,7 @@
+-- `measuring::delivery::good_sums` meets its contract.
 use borrow.Author.Tests.{le-ltb, lt-ltb}
 use native.Mathlib.Omega.{arith}
 use Rattle.device.proofs.Sound.{temperature-of}
-use borrow.Author.Needs.{needs}
-use Rattle.unit.specs.Tests.{tests}
 use Rattle.device.specs.Delivery.{goodSums}
 use Rattle.measuring.proofs.delivery.good_sums.Statement.{statement}
 use Rattle.measuring.proofs.delivery.good_sums.Tie as tie

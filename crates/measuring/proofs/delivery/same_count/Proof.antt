@@ -1,6 +1,5 @@
+-- `measuring::delivery::same_count` meets its contract.
 use borrow.Author.Tests.{eq-eqb, ne-eqb}
-use borrow.Author.Needs.{needs}
-use Rattle.unit.specs.Tests.{tests}
 use Rattle.device.specs.Delivery.{sameCount}
 use Rattle.measuring.proofs.delivery.same_count.Statement.{statement}
 use Rattle.measuring.proofs.delivery.same_count.Tie as tie

@@ -1,6 +1,6 @@
+-- `measuring::delivery::temperature_failed` meets its contract.
 use native.Mathlib.Omega.{arith}
 use Rattle.device.proofs.Sound.{temperature-of}
-use Rattle.unit.specs.Tests.{tests}
 use Rattle.device.specs.Delivery.{temperatureFailed}
 use borrow.Author.Needs.{needs}
 use Rattle.measuring.proofs.delivery.temperature_failed.Statement.{statement}

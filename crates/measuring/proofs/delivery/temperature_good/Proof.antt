@@ -1,6 +1,6 @@
+-- `measuring::delivery::temperature_good` meets its contract.
 use native.Mathlib.Omega.{arith}
 use Rattle.device.proofs.Sound.{temperature-of}
-use Rattle.unit.specs.Tests.{tests}
 use Rattle.device.specs.Delivery.{temperatureGood}
 use borrow.Author.Needs.{needs}
 use Rattle.measuring.proofs.delivery.temperature_good.Statement.{statement}

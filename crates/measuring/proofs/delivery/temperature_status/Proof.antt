@@ -1,4 +1,4 @@
-use Rattle.unit.specs.Tests.{tests}
+-- `measuring::delivery::temperature_status` meets its contract.
 use Rattle.device.specs.Delivery.{temperatureStatus}
 use borrow.Author.Needs.{needs}
 use Rattle.measuring.proofs.delivery.temperature_status.Statement.{statement}

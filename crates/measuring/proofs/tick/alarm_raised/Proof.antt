@@ -1,4 +1,4 @@
-use Rattle.unit.specs.Tests.{tests}
+-- `measuring::tick::alarm_raised` meets its contract.
 use Rattle.device.specs.Tick.{alarmRaised}
 use borrow.Author.Needs.{needs}
 use Rattle.measuring.proofs.tick.alarm_raised.Statement.{statement}

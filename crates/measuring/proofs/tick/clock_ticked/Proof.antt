@@ -1,4 +1,4 @@
-use Rattle.unit.specs.Tests.{tests}
+-- `measuring::tick::clock_ticked` meets its contract.
 use Rattle.device.specs.Tick.{clockTicked}
 use borrow.Author.Needs.{needs}
 use Rattle.measuring.proofs.tick.clock_ticked.Statement.{statement}

@@ -1,4 +1,4 @@
-use Rattle.unit.specs.Tests.{tests}
+-- `measuring::tick::flight_after` meets its contract.
 use Rattle.device.specs.Tick.{flightAfter}
 use borrow.Author.Needs.{needs}
 use Rattle.measuring.proofs.tick.flight_after.Statement.{statement}

@@ -1,4 +1,4 @@
-use Rattle.unit.specs.Tests.{tests}
+-- `measuring::tick::lose_flight` meets its contract.
 use Rattle.device.specs.Tick.{lostFlight}
 use borrow.Author.Needs.{needs}
 use Rattle.measuring.proofs.tick.lose_flight.Statement.{statement}

@@ -1,3 +1,4 @@
+-- `measuring::tick::lost_difference` meets its contract.
 use borrow.Author.Needs.{needs}
 use Rattle.unit.specs.Tests.{tests}
 use Rattle.device.specs.Tick.{lostDifference}

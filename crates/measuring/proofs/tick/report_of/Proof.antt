@@ -1,4 +1,4 @@
-use Rattle.unit.specs.Tests.{tests}
+-- `measuring::tick::report_of` meets its contract.
 use Rattle.device.specs.Tick.{reportOf}
 use borrow.Author.Needs.{needs}
 use Rattle.measuring.proofs.tick.report_of.Statement.{statement}

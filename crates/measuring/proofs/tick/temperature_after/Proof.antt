@@ -1,4 +1,4 @@
-use Rattle.unit.specs.Tests.{tests}
+-- `measuring::tick::temperature_after` meets its contract.
 use Rattle.device.specs.Tick.{temperatureAfter}
 use borrow.Author.Needs.{needs}
 use Rattle.measuring.proofs.tick.temperature_after.Statement.{statement}

@@ -1,4 +1,4 @@
-use Rattle.unit.specs.Tests.{tests}
+-- `measuring::tick::tick_model` meets its contract.
 use Rattle.device.specs.Tick.{tickModel}
 use borrow.Author.Needs.{needs}
 use Rattle.measuring.proofs.tick.tick_model.Statement.{statement}

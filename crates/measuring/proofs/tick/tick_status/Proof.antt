@@ -1,4 +1,4 @@
-use Rattle.unit.specs.Tests.{tests}
+-- `measuring::tick::tick_status` meets its contract.
 use Rattle.device.specs.Tick.{tickStatus}
 use borrow.Author.Needs.{needs}
 use Rattle.measuring.proofs.tick.tick_status.Statement.{statement}

@@ -1,0 +1,64 @@
+"""The two programs, how each is built, and the stored items. Shared by compare and bench."""
+
+import os
+import subprocess
+import sys
+
+HERE = os.path.dirname(os.path.abspath(__file__))
+ROOT = os.path.dirname(HERE)
+
+# ---- The proved program ------------------------------------------------------------------------
+# The command that builds it and the executable that this makes, both at the repository's root. It
+# takes an item on standard input. REPLAY=/path/to/executable in the environment takes its place.
+REPLAY_BUILD = ["rt", "check", "replay"]
+REPLAY_EXECUTABLE = os.path.join(ROOT, "target", "bin", "replay")
+# ------------------------------------------------------------------------------------------------
+
+PEER_BUILD = ["cargo", "build", "--release", "--offline", "--quiet"]
+PEER_OUTPUT = os.path.join(HERE, "target", "release")
+PEER_EXECUTABLE = os.path.join(PEER_OUTPUT, "peer")
+MAKE_ITEMS = os.path.join(PEER_OUTPUT, "make_items")
+
+
+def run_build(command, folder, result):
+    environment = {key: value for key, value in os.environ.items() if key != "CARGO_TARGET_DIR"}
+    try:
+        status = subprocess.run(command, cwd=folder, env=environment).returncode
+    except FileNotFoundError:
+        sys.exit(f"'{command[0]}' is not installed, so {result} can't be built")
+    if status != 0 or not os.path.exists(result):
+        sys.exit(f"'{' '.join(command)}' did not build {result}")
+
+
+def replay_executable():
+    """The proved program, built where it is lacking."""
+    given = os.environ.get("REPLAY")
+    if given:
+        if not os.access(given, os.X_OK):
+            sys.exit(f"REPLAY={given} is no executable")
+        return os.path.abspath(given)
+    if not os.path.exists(REPLAY_EXECUTABLE):
+        run_build(REPLAY_BUILD, ROOT, REPLAY_EXECUTABLE)
+    return REPLAY_EXECUTABLE
+
+
+def build():
+    """Builds what is lacking; answers the proved program and the peer."""
+    run_build(PEER_BUILD, HERE, PEER_EXECUTABLE)
+    return replay_executable(), PEER_EXECUTABLE
+
+
+def make_items(seed, size):
+    """A text of random items and its numbers of items, calls and ticks."""
+    command = [MAKE_ITEMS, str(seed), str(size)]
+    made = subprocess.run(command, capture_output=True, check=True)
+    return made.stdout, [int(number) for number in made.stderr.split()]
+
+
+def stored_items():
+    """The paths of the repository's items."""
+    found = []
+    for folder, folders, files in os.walk(ROOT):
+        folders[:] = [name for name in folders if name != "target" and not name.startswith(".")]
+        found += [os.path.join(folder, name) for name in files if name.endswith(".item")]
+    return sorted(found)

@@ -1,0 +1,832 @@
+//! Makes random items for the comparison. `make_items SEED SIZE` writes items with at least SIZE
+//! calls to standard output and one line of totals to standard error.
+
+use std::io::{self, Write};
+use std::process::ExitCode;
+
+const TICKS_PER_SECOND: u64 = 32_768;
+/// Ticks after its start at which an undelivered measurement fails.
+const DELIVERY_LIMIT: u64 = 8_192;
+/// First writable register.
+const FIRST: u8 = 0x30;
+const RESET: u8 = 0x04;
+const INITIALIZE: u8 = 0x05;
+const HALT: u8 = 0x0A;
+
+fn main() -> ExitCode {
+    let arguments: Option<Vec<u64>> = std::env::args()
+        .skip(1)
+        .map(|argument| argument.parse().ok())
+        .collect();
+    let Some([seed, size]) = arguments.as_deref() else {
+        eprintln!("usage: make_items SEED SIZE");
+        return ExitCode::FAILURE;
+    };
+    let mut maker = Maker::new(*seed);
+    maker.make(*size);
+    eprintln!("{} {} {}", maker.items, maker.calls, maker.ticks);
+    match io::stdout().lock().write_all(&maker.text) {
+        Ok(()) => ExitCode::SUCCESS,
+        Err(_) => ExitCode::FAILURE,
+    }
+}
+
+/// The generator splitmix64.
+struct Random {
+    state: u64,
+}
+
+impl Random {
+    fn next(&mut self) -> u64 {
+        self.state = self.state.wrapping_add(0x9E37_79B9_7F4A_7C15);
+        let mixed = (self.state ^ self.state >> 30).wrapping_mul(0xBF58_476D_1CE4_E5B9);
+        let mixed = (mixed ^ mixed >> 27).wrapping_mul(0x94D0_49BB_1331_11EB);
+        mixed ^ mixed >> 31
+    }
+
+    /// A number from 0 to `limit` - 1.
+    fn below(&mut self, limit: u64) -> u64 {
+        self.next() % limit
+    }
+
+    fn between(&mut self, first: u64, last: u64) -> u64 {
+        first + self.below(last - first + 1)
+    }
+
+    fn percent(&mut self, chance: u64) -> bool {
+        self.below(100) < chance
+    }
+
+    fn one_of<T: Copy>(&mut self, list: &[T]) -> T {
+        list[self.below(list.len() as u64) as usize]
+    }
+
+    fn word(&mut self) -> u16 {
+        self.next() as u16
+    }
+
+    fn byte(&mut self) -> u8 {
+        self.next() as u8
+    }
+}
+
+/// How a delivery is meant to be answered.
+#[derive(Clone, Copy)]
+enum Quality {
+    Good,
+    /// With late words or open ports.
+    Failing,
+    Miscounted,
+}
+
+/// What is done at one moment of an event.
+#[derive(Clone, Copy)]
+enum Action {
+    Flight(Quality),
+    Temperature(Quality),
+    /// A call that a running event refuses or leaves room for.
+    Disturb,
+    Probe,
+}
+
+struct Maker {
+    random: Random,
+    text: Vec<u8>,
+    items: u64,
+    calls: u64,
+    ticks: u64,
+    /// What was last written to 30h to 43h, supposing that it was accepted.
+    set_up: [u16; 20],
+    initialised: bool,
+}
+
+impl Maker {
+    fn new(seed: u64) -> Maker {
+        Maker {
+            random: Random { state: seed },
+            text: Vec::new(),
+            items: 0,
+            calls: 0,
+            ticks: 0,
+            set_up: [0; 20],
+            initialised: false,
+        }
+    }
+
+    fn make(&mut self, size: u64) {
+        while self.calls < size {
+            self.item();
+        }
+        // The last line of a text may lack its line feed.
+        if self.random.percent(50) {
+            while matches!(self.text.last(), Some(b'\n' | b'\r')) {
+                self.text.pop();
+            }
+        }
+    }
+
+    fn item(&mut self) {
+        self.items += 1;
+        self.set_up = [0; 20];
+        self.initialised = false;
+        let name = format!("item random {}", self.items);
+        self.line(name.as_bytes());
+        for _ in 0..self.random.between(1, 12) {
+            self.make_ready();
+            match self.random.below(100) {
+                0..=4 => self.configure(),
+                5..=29 => self.calendar(),
+                30..=64 => self.single_measurement(),
+                65..=74 => self.event(),
+                75..=84 => self.frames(),
+                85..=91 => self.mixture(),
+                _ => self.faulty_lines(),
+            }
+            self.probe();
+        }
+        self.line(b"regs");
+    }
+
+    /// Mostly ends what still runs, and initialises the model after a Reset.
+    fn make_ready(&mut self) {
+        if self.random.percent(40) {
+            self.bus(&[HALT]);
+        }
+        if !self.initialised && self.random.percent(90) {
+            self.bus(&[INITIALIZE]);
+            self.configure();
+        }
+    }
+}
+
+/// Lines of text.
+impl Maker {
+    fn line(&mut self, words: &[u8]) {
+        self.text.extend_from_slice(words);
+        let ending: &[u8] = match self.random.below(500) {
+            0..=4 => b"\r\n",
+            5..=9 => b" \t\n",
+            10 => b"\r\r\n",
+            11 => b"\n\n# a comment\n \t\n",
+            _ => b"\n",
+        };
+        self.text.extend_from_slice(ending);
+    }
+
+    fn call(&mut self, words: &str) {
+        self.calls += 1;
+        if self.random.percent(1) {
+            let spaced = words.replace(' ', "\t  ");
+            self.line(format!(" {spaced}").as_bytes());
+        } else {
+            self.line(words.as_bytes());
+        }
+    }
+
+    fn hexadecimal(&mut self, value: u64, digits: usize) -> String {
+        match self.random.below(10) {
+            0 => format!("{value:0digits$x}"),
+            _ => format!("{value:0digits$X}"),
+        }
+    }
+
+    fn bus(&mut self, frame: &[u8]) {
+        match frame {
+            [RESET] => self.initialised = false,
+            [INITIALIZE] => self.initialised = true,
+            _ => {}
+        }
+        let mut words = String::from("bus");
+        if self.random.percent(3) {
+            let exact = frame.len() as u64;
+            let size = match self.random.below(3) {
+                0 => self.random.between(exact.saturating_sub(2), exact + 2),
+                1 => self.random.below(8),
+                _ => self.random.between(0, 200),
+            };
+            let digits = self.random.between(1, 10) as usize;
+            words += &format!(" out={:0digits$}", size.min(200));
+        }
+        for &byte in frame {
+            words.push(' ');
+            words += &self.hexadecimal(byte.into(), 2);
+        }
+        self.call(&words);
+    }
+
+    fn write(&mut self, first: u8, written: &[u16]) {
+        let mut frame = vec![first];
+        for (place, word) in (usize::from(first - FIRST)..).zip(written) {
+            frame.extend(word.to_be_bytes());
+            if let Some(stored) = self.set_up.get_mut(place) {
+                *stored = *word;
+            }
+        }
+        self.bus(&frame);
+    }
+
+    fn read(&mut self, first: u8, count: usize) {
+        let mut frame = vec![first];
+        for _ in 0..2 * count {
+            frame.push(self.random.byte());
+        }
+        self.bus(&frame);
+    }
+
+    fn tick(&mut self, count: u64) {
+        self.ticks += count;
+        let digits = if self.random.percent(2) { 10 } else { 1 };
+        self.call(&format!("tick {count:0digits$}"));
+    }
+
+    /// Ticks in one line or more.
+    fn wait(&mut self, count: u64) {
+        let mut left = count;
+        while left > 1 && self.random.percent(25) {
+            let part = match self.random.below(3) {
+                0 => left - 1,
+                1 => 1,
+                _ => self.random.below(left),
+            };
+            self.tick(part);
+            left -= part;
+        }
+        if left > 0 || self.random.percent(2) {
+            self.tick(left);
+        }
+    }
+
+    fn word_list(&mut self, list: &[u64]) -> String {
+        let mut words = String::new();
+        for &word in list {
+            let digits = if self.random.percent(20) { 1 } else { 8 };
+            words.push(' ');
+            words += &self.hexadecimal(word, digits);
+        }
+        words
+    }
+
+    fn flight(&mut self, up: &[u64], down: &[u64]) {
+        let up = self.word_list(up);
+        let down = self.word_list(down);
+        self.call(&format!("flight{up} /{down}"));
+    }
+
+    fn temperature(&mut self, words: &[u64]) {
+        let words = self.word_list(words);
+        self.call(&format!("temperature{words}"));
+    }
+
+    /// Often looks at the state.
+    fn probe(&mut self) {
+        match self.random.below(12) {
+            0 => self.line(b"regs"),
+            1 => self.line(b"awaited"),
+            2 => self.line(b"int"),
+            3 => self.read(0xFE, 1),
+            4 => self.expect(),
+            5 => {
+                let first = self.random.between(0xB0, 0xFF);
+                let count = self.random.between(1, 0x100 - first);
+                self.read(first as u8, count as usize);
+            }
+            _ => {}
+        }
+    }
+
+    fn expect(&mut self) {
+        let first = self.random.between(0xB0, 0xFF);
+        let count = self.random.between(1, 0x100 - first).min(12);
+        let mut words = format!("expect {}", self.hexadecimal(first, 2));
+        for _ in 0..count {
+            let random = self.random.word();
+            let wanted = self.random.one_of(&[0, 0, 0, 0xFFFF, 0x0C, random]);
+            let digits = self.random.between(1, 4) as usize;
+            words.push(' ');
+            words += &self.hexadecimal(wanted.into(), digits);
+        }
+        self.line(words.as_bytes());
+    }
+}
+
+/// Set-up and calendar.
+impl Maker {
+    fn stored(&self, register: u8) -> u64 {
+        self.set_up[usize::from(register - FIRST)].into()
+    }
+
+    fn tof1(&mut self) -> u16 {
+        match self.random.below(20) {
+            0 => self.random.word() & 0x00FF,
+            1 => self.random.word() & 0xFF0F,
+            2 => self.random.word(),
+            _ => self.random.word() | 0x0110,
+        }
+    }
+
+    fn event_timing(&mut self) -> [u16; 2] {
+        let mut fields = [0; 4];
+        for (field, largest) in fields.iter_mut().zip([15, 31, 63, 31]) {
+            *field = match self.random.below(10) {
+                0..=6 => self.random.below(2),
+                _ => self.random.below(4),
+            };
+            if self.random.percent(1) {
+                *field = self.random.between(0, largest);
+            }
+        }
+        let [tdf, tdm, tmf, tmm] = fields.map(|field| field as u16);
+        let ports = if self.random.percent(90) { 3 } else { 0 };
+        let other = self.random.word() & 0x07FF;
+        [
+            tdf << 12 | tdm << 7 | tmf << 1 | self.random.word() & 1,
+            tmm << 11 | ports << 5 | other,
+        ]
+    }
+
+    fn control(&mut self) -> u16 {
+        let word = self.random.word();
+        if self.random.percent(90) {
+            word & !0x0100
+        } else {
+            word
+        }
+    }
+
+    fn real_time_clock(&mut self) -> u16 {
+        let word = self.random.word();
+        if self.random.percent(90) {
+            word & !0x0010
+        } else {
+            word
+        }
+    }
+
+    fn configure(&mut self) {
+        let [timing1, timing2] = self.event_timing();
+        let mut words = [0; 12].map(|_: u16| self.random.word());
+        words[0] = self.tof1();
+        words[7] = timing1;
+        words[8] = timing2;
+        words[10] = self.control();
+        words[11] = self.real_time_clock();
+        if self.random.percent(60) {
+            self.write(0x38, &words);
+            return;
+        }
+        for (register, word) in (0x38..=0x43).zip(words) {
+            if self.random.percent(50) {
+                self.write(register, &[word]);
+            }
+        }
+    }
+
+    fn date(&mut self) -> [u16; 2] {
+        let leap = self.random.below(25) * 4;
+        let year = self.random.below(100);
+        let (year, month, date) = match self.random.below(8) {
+            0 | 1 => (99, 12, 31),
+            2 => (leap, 2, self.random.between(28, 29)),
+            3 => (year, 2, self.random.between(28, 29)),
+            4 => (year, self.random.between(1, 12), 30),
+            5 => (year, self.random.between(1, 12), 31),
+            6 => (year, 12, 31),
+            _ => (year, self.random.between(1, 12), self.random.between(1, 28)),
+        };
+        let weekday = self.random.between(1, 7) as u16;
+        [weekday << 8 | bcd(date), bcd(month) << 8 | bcd(year)]
+    }
+
+    /// Seconds and minutes with hours, mostly just before a roll.
+    fn time(&mut self) -> [u16; 2] {
+        let hour = match self.random.below(2) {
+            0 => 23,
+            _ => self.random.below(24),
+        };
+        let minute = match self.random.below(4) {
+            0 => self.random.below(60),
+            _ => 59,
+        };
+        let second = match self.random.below(6) {
+            0 => self.random.below(60),
+            _ => 59,
+        };
+        let hundredth = match self.random.below(4) {
+            0 => self.random.below(100),
+            _ => 99,
+        };
+        [
+            bcd(hundredth) << 8 | bcd(second),
+            bcd(minute) << 8 | bcd(hour),
+        ]
+    }
+
+    fn damage(&mut self, words: &mut [u16]) {
+        let place = self.random.below(words.len() as u64) as usize;
+        let shift = 4 * self.random.below(4);
+        words[place] = match self.random.below(3) {
+            0 => words[place] ^ 1 << self.random.below(16),
+            1 => words[place] & !(15 << shift) | (self.random.word() & 15) << shift,
+            _ => self.random.word(),
+        };
+    }
+
+    /// An alarm, mostly at the minute that follows the time of `minutes`.
+    fn alarm(&mut self, minutes: u16) {
+        let next = decimal(minutes & 0xFF) * 60 + decimal(minutes >> 8) + 1;
+        let hour = self.random.one_of(&[next / 60 % 24, next / 60 % 24, 0, 23]);
+        let minute = self.random.one_of(&[next % 60, next % 60, 0, 59]);
+        let mut words = [bcd(minute) << 8 | bcd(hour)];
+        match self.random.below(10) {
+            0 => self.damage(&mut words),
+            1 | 2 => words[0] |= 0x8080,
+            _ => {}
+        }
+        self.write(0x35, &words);
+        let mode = self.random.below(4) as u16;
+        self.write(0x43, &[self.set_up[0x13] & !0x000C | mode << 2]);
+    }
+
+    fn calendar(&mut self) {
+        let [seconds, minutes] = self.time();
+        let [day, month] = self.date();
+        let random = self.random.word();
+        let alarm = bcd(self.random.below(60)) << 8 | bcd(self.random.below(24));
+        let mut words = vec![seconds, minutes, day, month, random, alarm, random];
+        if self.random.percent(25) {
+            self.damage(&mut words);
+        }
+        let (first, count) = match self.random.below(10) {
+            0..=5 => (0, 4),
+            6 => (0, self.random.between(5, 7)),
+            _ => {
+                let first = self.random.below(4);
+                (first, self.random.between(1, 4 - first))
+            }
+        };
+        if self.random.percent(40) {
+            self.alarm(minutes);
+        }
+        let written = &words[first as usize..(first + count) as usize];
+        self.write(FIRST + first as u8, written);
+        self.cross_second(seconds);
+    }
+
+    /// Waits over the end of the second that 30h was written for.
+    fn cross_second(&mut self, seconds: u16) {
+        let ticks = (decimal(seconds >> 8) * TICKS_PER_SECOND).div_ceil(100);
+        self.wait(TICKS_PER_SECOND - 1 - ticks);
+        self.read(0xB0, 4);
+        self.tick(1);
+        self.read(0xB0, 4);
+        if self.random.percent(5) {
+            let seconds = self.random.one_of(&[1, 1, 2, 5]);
+            let early = self.random.below(2);
+            self.wait(seconds * TICKS_PER_SECOND - early);
+        }
+        self.probe();
+    }
+}
+
+/// Measurements and events.
+impl Maker {
+    fn quality(&mut self) -> Quality {
+        match self.random.below(10) {
+            0..=6 => Quality::Good,
+            7 | 8 => Quality::Failing,
+            _ => Quality::Miscounted,
+        }
+    }
+
+    /// Words below `limit`, or with one or more at or past it.
+    fn words(&mut self, count: usize, limit: u64, failing: bool) -> Vec<u64> {
+        let mut words = vec![0; count];
+        for word in &mut words {
+            let random = self.random.below(limit);
+            *word = self.random.one_of(&[0, 1, random, random, limit - 1]);
+        }
+        if failing && count > 0 {
+            let place = self.random.below(count as u64) as usize;
+            let random = self.random.between(limit, 0xFFFF_FFFF);
+            let late = [limit, limit, 0x8000_0000, 0xFFFF_FFFF, random];
+            words[place] = self.random.one_of(&late);
+        }
+        words
+    }
+
+    fn count(&mut self, right: usize, quality: Quality) -> usize {
+        match quality {
+            Quality::Miscounted if self.random.percent(50) => right + 1,
+            Quality::Miscounted => self.random.between(0, 8) as usize,
+            _ => right,
+        }
+    }
+
+    fn deliver_flight(&mut self, up: bool, down: bool, quality: Quality) {
+        let hits = (self.stored(0x39) >> 13 & 7).min(5) as usize + 1;
+        let limit = 1 << (25 + (self.stored(0x39) & 7)).min(31);
+        let failing = matches!(quality, Quality::Failing);
+        let late_up = failing && up && (!down || self.random.percent(50));
+        let late_down = failing && down && !late_up;
+        let count_up = self.count(if up { hits } else { 0 }, quality);
+        let count_down = self.count(if down { hits } else { 0 }, quality);
+        let up = self.words(count_up, limit, late_up);
+        let down = self.words(count_down, limit, late_down);
+        self.flight(&up, &down);
+    }
+
+    fn deliver_temperature(&mut self, quality: Quality) {
+        let limit = (512 * ((self.stored(0x40) & 3) + 1) - 8) << 16;
+        let count = self.count(4, quality);
+        let words = self.words(count, limit, matches!(quality, Quality::Failing));
+        self.temperature(&words);
+    }
+
+    fn single_measurement(&mut self) {
+        let opcode = self.random.below(4) as u8;
+        self.bus(&[opcode]);
+        self.probe();
+        let delay = match self.random.below(20) {
+            0 => DELIVERY_LIMIT - 1,
+            1 => DELIVERY_LIMIT,
+            2 => DELIVERY_LIMIT + 1,
+            3 => 2 * DELIVERY_LIMIT - self.random.below(2),
+            _ => self.random.below(40),
+        };
+        self.wait(delay);
+        if self.random.percent(15) {
+            self.disturb();
+        }
+        if self.random.percent(10) {
+            self.line(b"awaited");
+        }
+        for _ in 0..self.random.one_of(&[0, 1, 1, 1, 1, 1, 1, 2]) {
+            let quality = self.quality();
+            match opcode {
+                3 => self.deliver_temperature(quality),
+                _ => self.deliver_flight(opcode != 1, opcode != 0, quality),
+            }
+        }
+        self.probe();
+    }
+
+    fn disturb(&mut self) {
+        match self.random.below(8) {
+            0 => self.deliver_flight(true, true, Quality::Good),
+            1 => self.deliver_temperature(Quality::Good),
+            2 => self.write(0x34, &[0x1234]),
+            3 => self.bus(&[INITIALIZE]),
+            4 if self.random.percent(20) => self.bus(&[HALT]),
+            4 if self.random.percent(5) => self.bus(&[RESET]),
+            4 | 5 => {
+                let opcode = self.random.one_of(&[0, 1, 2, 3, 7, 8, 9]);
+                self.bus(&[opcode]);
+            }
+            6 => self.line(b"awaited"),
+            _ => self.read(0xFE, 1),
+        }
+    }
+
+    fn event(&mut self) {
+        if self.random.percent(80) {
+            let words = self.event_timing();
+            self.write(0x3F, &words);
+        }
+        let opcode = self.random.between(7, 9) as u8;
+        self.bus(&[opcode]);
+        let timing1 = self.stored(0x3F);
+        let mut plan = Vec::new();
+        if opcode != 9 {
+            let period = 16_384 * ((timing1 >> 12) + 1);
+            self.plan(&mut plan, period, (timing1 >> 7 & 31) + 1, Action::Flight);
+        }
+        if opcode != 8 {
+            let period = 32_768 * ((timing1 >> 1 & 63) + 1);
+            let total = (self.stored(0x40) >> 11) + 1;
+            self.plan(&mut plan, period, total, Action::Temperature);
+        }
+        plan.sort_by_key(|&(moment, _)| moment);
+        self.follow(&plan);
+    }
+
+    /// Deliveries for the measurements of one kind, and looks at the moments that matter.
+    fn plan(
+        &mut self,
+        plan: &mut Vec<(u64, Action)>,
+        period: u64,
+        total: u64,
+        deliver: fn(Quality) -> Action,
+    ) {
+        for start in (0..total).map(|number| number * period) {
+            let soon = self.random.below(300);
+            let within = self.random.below(DELIVERY_LIMIT);
+            let delays = [0, soon, soon, within, DELIVERY_LIMIT - 1, DELIVERY_LIMIT];
+            for _ in 0..self.random.one_of(&[0, 1, 1, 1, 2]) {
+                let moment = start + self.random.one_of(&delays);
+                plan.push((moment, deliver(self.quality())));
+            }
+            for offset in [DELIVERY_LIMIT - 1, DELIVERY_LIMIT, period - 1, period] {
+                if self.random.percent(15) {
+                    plan.push((start + offset, Action::Probe));
+                }
+            }
+            if self.random.percent(10) {
+                plan.push((start + self.random.below(period), Action::Disturb));
+            }
+        }
+        let last = (total - 1) * period + DELIVERY_LIMIT;
+        plan.push((last + self.random.below(20), Action::Probe));
+    }
+
+    fn follow(&mut self, plan: &[(u64, Action)]) {
+        let mut now = 0;
+        for &(moment, action) in plan {
+            self.wait(moment - now);
+            now = moment;
+            match action {
+                Action::Flight(quality) => self.deliver_flight(true, true, quality),
+                Action::Temperature(quality) => self.deliver_temperature(quality),
+                Action::Disturb => self.disturb(),
+                Action::Probe => self.line(b"awaited"),
+            }
+            if self.random.percent(1) {
+                let opcode = self.random.one_of(&[HALT, HALT, RESET]);
+                self.bus(&[opcode]);
+                return;
+            }
+            if self.random.percent(20) {
+                self.probe();
+            }
+        }
+    }
+}
+
+/// Calls and lines without a plan.
+impl Maker {
+    /// Frames of every sort, many of them malformed.
+    fn frames(&mut self) {
+        for _ in 0..self.random.between(1, 10) {
+            let random = self.random.byte();
+            let write = self.random.between(0x30, 0x43) as u8;
+            let read = self.random.between(0xB0, 0xFF) as u8;
+            let edge = [0x06, 0x0B, 0x2F, 0x30, 0x43, 0x44, 0x90, 0xAF, 0xB0, 0xFF];
+            let edge = self.random.one_of(&edge);
+            let opcode = self.random.one_of(&[random, write, read, read, edge]);
+            let further = match self.random.below(10) {
+                0 => 0,
+                1..=5 => 2 * self.random.between(1, 4),
+                6 | 7 => self.random.below(12),
+                8 => 2 * (0x100 - u64::from(opcode)).min(99),
+                _ => self.random.below(200),
+            };
+            let mut frame = vec![opcode];
+            frame.extend((0..further).map(|_| self.random.byte()));
+            if self.random.percent(2) {
+                frame.clear();
+            }
+            self.bus(&frame);
+        }
+    }
+
+    fn mixture(&mut self) {
+        for _ in 0..self.random.between(3, 25) {
+            match self.random.below(12) {
+                0 | 1 => {
+                    let opcode = self.random.between(0, 10) as u8;
+                    self.bus(&[opcode]);
+                }
+                2 | 3 => {
+                    let count = self.random.below(30);
+                    self.tick(count);
+                }
+                4 | 5 => {
+                    let (up, down) = self.random.one_of(&[(true, false), (false, true)]);
+                    let quality = self.quality();
+                    self.deliver_flight(up, down, quality);
+                }
+                6 => self.deliver_flight(true, true, Quality::Good),
+                7 => {
+                    let quality = self.quality();
+                    self.deliver_temperature(quality);
+                }
+                8 => self.disturb(),
+                9 => self.frames(),
+                _ => self.probe(),
+            }
+        }
+    }
+
+    /// Lines that are mostly no calls.
+    fn faulty_lines(&mut self) {
+        for _ in 0..self.random.between(1, 5) {
+            match self.random.below(10) {
+                0 => self.crowded_line(),
+                1 => self.long_line(),
+                2..=4 => self.known_faulty_line(),
+                _ => self.altered_line(),
+            }
+        }
+    }
+
+    fn known_faulty_line(&mut self) {
+        const LINES: [&str; 24] = [
+            "tick",
+            "tick x y",
+            "tick 4294967296",
+            "tick 00000000003",
+            "tick 3 x",
+            "tick -1",
+            "flight",
+            "flight x",
+            "flight 1 / 2 / x",
+            "flight 1 / 2 / 3",
+            "flight / /",
+            "flight 1/2",
+            "temperature 1 2 3 x",
+            "expect",
+            "expect B0",
+            "expect AF 0",
+            "expect FF 0 x",
+            "expect FF x 0",
+            "expect b0 00000",
+            "item",
+            "bus out=201 B0 00 00",
+            "bus out= B0 00 00",
+            "bus B0 00 00 out=2",
+            "bus OUT=2 B0 00 00",
+        ];
+        let line = self.random.one_of(&LINES);
+        self.line(line.as_bytes());
+    }
+
+    /// Lists at and past their longest.
+    fn crowded_line(&mut self) {
+        let (name, separator, word, most) = self.random.one_of(&[
+            ("bus", "", " 3A", 200),
+            ("bus out=9", "", " B0", 200),
+            ("flight", " /", " 7", 16),
+            ("flight 1 /", "", " 7", 16),
+            ("temperature", "", " 7", 16),
+            ("expect F0", "", " 0", 16),
+        ]);
+        let count = most + self.random.below(3) as usize - 1;
+        let words = word.repeat(count);
+        let mut line = format!("{name}{words}{separator}");
+        if self.random.percent(20) {
+            line += " x";
+        }
+        self.line(line.as_bytes());
+    }
+
+    /// A line of 999 to 1,002 bytes.
+    fn long_line(&mut self) {
+        let length = self.random.between(999, 1_002) as usize;
+        let (start, filler) = self.random.one_of(&[
+            ("#", 'x'),
+            ("tick 1", ' '),
+            ("item long", 'g'),
+            ("int", '\t'),
+            ("", ' '),
+            ("unknown", 'n'),
+        ]);
+        let mut line = String::from(start);
+        line.extend((start.len()..length).map(|_| filler));
+        self.line(line.as_bytes());
+    }
+
+    /// A good line with one byte changed, added or removed.
+    fn altered_line(&mut self) {
+        const LINES: [&str; 10] = [
+            "item an altered line",
+            "bus 38 01 10",
+            "bus out=4 FE 00 00",
+            "tick 12",
+            "flight 5 / 6",
+            "temperature 1 2 3 4",
+            "int",
+            "awaited",
+            "regs",
+            "expect E2 FFFF 1432",
+        ];
+        const BYTES: &[u8] = b" \t/#=gxGB0179-.\r\x00\x0B\xA0\xFF";
+        let mut line = self.random.one_of(&LINES).as_bytes().to_vec();
+        let place = self.random.below(line.len() as u64) as usize;
+        let byte = self.random.one_of(BYTES);
+        match self.random.below(3) {
+            0 => line[place] = byte,
+            1 => line.insert(place, byte),
+            _ => {
+                line.remove(place);
+            }
+        }
+        self.line(&line);
+    }
+}
+
+fn bcd(value: u64) -> u16 {
+    (value / 10 * 16 + value % 10) as u16
+}
+
+fn decimal(bcd: u16) -> u64 {
+    u64::from(bcd >> 4) * 10 + u64::from(bcd & 15)
+}

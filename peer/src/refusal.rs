@@ -1,0 +1,35 @@
+//! The numbered refusals of a call.
+
+/// Why a call was refused, by the number of the document's table.
+#[derive(Clone, Copy, Debug, PartialEq, Eq)]
+pub enum Refusal {
+    NoFrame = 1,
+    Opcode,
+    FrameLength,
+    Address,
+    ShortOutput,
+    Busy,
+    Calendar,
+    NotInitialised,
+    SetUp,
+    NotAwaited,
+    WordCount,
+}
+
+impl Refusal {
+    pub fn word(self) -> &'static str {
+        match self {
+            Refusal::NoFrame => "no frame",
+            Refusal::Opcode => "opcode",
+            Refusal::FrameLength => "frame length",
+            Refusal::Address => "address",
+            Refusal::ShortOutput => "short output",
+            Refusal::Busy => "busy",
+            Refusal::Calendar => "calendar",
+            Refusal::NotInitialised => "not initialised",
+            Refusal::SetUp => "set-up",
+            Refusal::NotAwaited => "not awaited",
+            Refusal::WordCount => "word count",
+        }
+    }
+}

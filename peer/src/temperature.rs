@@ -1,0 +1,68 @@
+//! Temperature measurements: delivery, failure and their results.
+
+use crate::model::{Model, Outcome};
+use crate::refusal::Refusal;
+use crate::registers::{self, pair, status, PORTS};
+
+impl Model {
+    pub fn deliver_temperature(&mut self, words: &[i64]) -> Result<Outcome, Refusal> {
+        if !self.temperature.is_awaited() {
+            return Err(Refusal::NotAwaited);
+        }
+        if words.len() != PORTS {
+            return Err(Refusal::WordCount);
+        }
+        let limit = self.registers.open_limit();
+        let mut any_open = false;
+        for (port, &word) in words.iter().enumerate() {
+            let open = word >= limit;
+            any_open |= open;
+            let shown = if open { -1 } else { word };
+            self.registers
+                .set_pair(pair(registers::PORT_RESULTS, port), shown);
+        }
+        if any_open {
+            self.registers.raise(status::TO);
+        } else {
+            self.count_temperature(words);
+        }
+        self.settle_temperature();
+        Ok(if any_open {
+            Outcome::Failed
+        } else {
+            Outcome::Good
+        })
+    }
+
+    fn count_temperature(&mut self, words: &[i64]) {
+        if let Some(series) = &mut self.temperature.series {
+            series.add_good(words);
+            self.registers
+                .set(registers::TEMPERATURE_CYCLE_COUNT, series.good() as u16);
+            for port in 0..PORTS {
+                let address = pair(registers::PORT_AVERAGES, port);
+                self.registers.set_pair(address, series.mean(port));
+            }
+        }
+    }
+
+    /// The awaited measurement fails because nothing was delivered.
+    pub fn fail_temperature(&mut self) {
+        for port in 0..PORTS {
+            self.registers
+                .set_pair(pair(registers::PORT_RESULTS, port), -1);
+        }
+        self.registers.raise(status::TO);
+        self.settle_temperature();
+    }
+
+    fn settle_temperature(&mut self) {
+        if self.temperature.series.is_none() || self.registers.continuous_interrupt() {
+            self.registers.raise(status::TE);
+        }
+        if self.temperature.settle() {
+            self.registers.raise(status::TEMP_EVTMG);
+        }
+        self.end_event_when_finished();
+    }
+}

@@ -87,12 +87,6 @@ fn temperature_word(t: Temperature, a: u32) -> u32
     half_of(port_mean(sum, k.good), a - 0xf0)
 }
 
-fn wide(x: u16) -> u32
-    ensures { λ r. ⌜ r ≡ x ⌝ }
-{
-    x as u32
-}
-
 // The word at read address a, B0h to FFh.
 pub fn register_word(m: Model, a: u32) -> u32
     requires { ⌜ (176 ≤ a) × (a ≤ 255) ⌝ }
@@ -106,7 +100,7 @@ pub fn register_word(m: Model, a: u32) -> u32
         return calendar_word(m, a);
     }
     if a < 0xc4 {
-        return wide(setup[(a - 0xb4) as usize]);
+        return register::word(setup, (a - 0xb4) as usize);
     }
     if a < 0xe7 {
         return flight_word(flight, a);

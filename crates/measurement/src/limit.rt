@@ -1,6 +1,7 @@
 // The words that are late or open.
 ghost use mathlib.Core.Path.{_≡_};
 ghost use Rattle.measurement.specs.Limit.{lateFrom, openFrom, anyFrom};
+use crate::words::wide;
 use unit::Quanta;
 
 // The least late word, by the TIMOUT code.
@@ -32,10 +33,4 @@ pub fn any_from(limit: Quanta, words: &[u32]) -> bool
         i += 1;
     }
     false
-}
-
-fn wide(x: u32) -> u64
-    ensures { λ r. ⌜ r ≡ x ⌝ }
-{
-    x as u64
 }

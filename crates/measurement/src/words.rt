@@ -2,6 +2,7 @@
 ghost use mathlib.Core.Path.{_≡_};
 ghost use Prim.Native.Nat.{_<_, _≤_, _*_, _/_, _+_};
 ghost use lib.ListN.{getD};
+ghost use Rattle.unit.specs.Choice.{pick};
 ghost use Rattle.measurement.specs.Words.{wordOrZero, six, four, sixTotal, average, filled, lost, lostFour, plusEach, portPair, portPairs};
 use unit::Quanta;
 
@@ -35,7 +36,7 @@ pub fn four_words(words: &[u32]) -> [u32; 4]
     [a, b, c, d]
 }
 
-fn wide(x: u32) -> u64
+pub fn wide(x: u32) -> u64
     ensures { λ r. ⌜ (r ≡ x) × (r < 4294967296) ⌝ }
 {
     x as u64
@@ -53,6 +54,12 @@ pub fn average_of(hits: [u32; 6], n: u32) -> Quanta
     ensures { λ r. ⌜ (r ≡ average hits n) × (r .0 < 2147483648) ⌝ }
 {
     Quanta(total(hits) / (n as u64))
+}
+
+pub fn choose_pairs(test: bool, yes: [u32; 7], no: [u32; 7]) -> [u32; 7]
+    ensures { λ r. ⌜ r ≡ pick test yes no ⌝ }
+{
+    if test { yes } else { no }
 }
 
 // The seven result pairs of a direction: HIT 1 to 6, then AVG.

@@ -1,6 +1,5 @@
 // Delivered hit words of an awaited measurement.
 ghost use mathlib.Core.Path.{_≡_};
-ghost use Rattle.unit.specs.Choice.{pick};
 ghost use Prim.Native.Nat.{_<_, _*_};
 ghost use Rattle.measurement.specs.Words.{sixTotal};
 ghost use Rattle.device.specs.Event.{yes};
@@ -18,6 +17,7 @@ use event::schedule::settle_one;
 use measurement::difference::biased_difference;
 use measurement::difference::difference_word;
 use measurement::words::average_of;
+use measurement::words::choose_pairs;
 use measurement::words::pairs;
 use measurement::words::plus_each;
 use measurement::words::port_pairs;
@@ -71,12 +71,6 @@ fn good_sum(f: Flight, up: Quanta, down: Quanta) -> u64
         return f.sum + biased_difference(up, down);
     }
     f.sum
-}
-
-fn choose_pairs(test: bool, yes: [u32; 7], no: [u32; 7]) -> [u32; 7]
-    ensures { λ r. ⌜ r ≡ pick test yes no ⌝ }
-{
-    if test { yes } else { no }
 }
 
 // The flight results after good hits.

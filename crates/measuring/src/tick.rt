@@ -1,6 +1,5 @@
 // One tick of the clock, the awaited measurements and the events.
 ghost use mathlib.Core.Path.{_≡_};
-ghost use Rattle.unit.specs.Choice.{pick};
 ghost use Rattle.device.specs.Tick.{lostFlight, flightAfter, temperatureAfter, clockTicked, alarmRaised, tickStatus, tickModel, reportOf, lostDifference};
 use calendar::Clock;
 use device::Flight;
@@ -16,14 +15,9 @@ use event::interrupt::temperature_bits;
 use event::schedule::expires;
 use event::schedule::is_due;
 use event::schedule::tick_schedule;
+use measurement::words::choose_pairs;
 use measurement::words::lost_four;
 use measurement::words::lost_pairs;
-
-fn choose_pairs(test: bool, yes: [u32; 7], no: [u32; 7]) -> [u32; 7]
-    ensures { λ r. ⌜ r ≡ pick test yes no ⌝ }
-{
-    if test { yes } else { no }
-}
 
 fn lost_difference(f: Flight) -> u32
     ensures { λ r. ⌜ r ≡ lostDifference f ⌝ }

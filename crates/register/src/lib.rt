@@ -6,7 +6,7 @@ ghost use Rattle.register.specs.Setup.{factory, alarmWord, hitCount, tim
 use unit::Ticks;
 
 // The word at a place of the set-up.
-fn word(s: [u16; 16], i: usize) -> u32
+pub fn word(s: [u16; 16], i: usize) -> u32
     requires { ⌜ i < 16 ⌝ }
     ensures { λ r. ⌜ r ≡ getD s i 0 ⌝ }
 {

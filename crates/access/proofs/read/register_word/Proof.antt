@@ -1,9 +1,15 @@
--- `access::read::register_word` meets its contract.
 use Rattle.unit.specs.Tests.{tests}
 use Rattle.device.specs.Registers.{registerWord}
 use borrow.Author.Needs.{needs}
 use Rattle.access.proofs.read.register_word.Statement.{statement}
 use Rattle.access.proofs.read.register_word.Tie as tie
+use Rattle.access.proofs.read.register_word.Reads as reads
+use Rattle.access.proofs.read.register_word.Lts as lts
+use Rattle.access.proofs.read.calendar_word.Reads as calendar-word-reads
+use Rattle.access.proofs.read.flight_word.Reads as flight-word-reads
+use Rattle.access.proofs.read.temperature_word.Reads as temperature-word-reads
+use Rattle.event.proofs.interrupt.status_word.Reads as status-word-reads
+use Rattle.register.proofs.word.Reads as word-reads
 
 calendar-word-requires : tie.Need-calendar-word-requires
 calendar-word-requires c κs = search needs
@@ -12,17 +18,11 @@ returns : tie.Need-returns
 unfolding registerWord
 returns c = search (needs, tests)
 
-cast-wide : tie.Need-cast-wide
-cast-wide c = search needs
+cast-word : tie.Need-cast-word
+cast-word c = search needs
 
-mul-wide : tie.Need-mul-wide
-mul-wide c = search needs
-
-array-read-wide : tie.Need-array-read-wide
-array-read-wide c = search needs
-
-wide-requires : tie.Need-wide-requires
-wide-requires c κs = search needs
+word-requires : tie.Need-word-requires
+word-requires c κs = search needs
 
 returns-2 : tie.Need-returns-2
 unfolding registerWord
@@ -59,10 +59,8 @@ register-word-spec =
     (tie.spec
     calendar-word-requires
     returns
-    cast-wide
-    mul-wide
-    array-read-wide
-    wide-requires
+    cast-word
+    word-requires
     returns-2
     flight-word-requires
     returns-3

@@ -33,7 +33,7 @@ returns c =
     let start = c .before .before .before .before .before .before .before .args in
     let head = c .before .before .before .before .before .loop in
     any-found (start .limit) (now (start .words)) (head .i) (head .inv .1) (omega arith)
-    (rw (← c .before .before .wide .ensures) (c .if1 .taken))
+    (rw (← c .before .before .wide .ensures .0) (c .if1 .taken))
 
 add-i : tie.Need-add-i Inv-loop μ-loop
 add-i c = search needs
@@ -47,7 +47,7 @@ loop-again c =
     let head = c .before .before .before .before .before .loop in (
       omega arith,
       any-passed (start .limit) (now (start .words)) (head .i) (head .inv .1) (omega arith)
-          (rw (← c .before .before .wide .ensures) (c .if1 .left)),
+          (rw (← c .before .before .wide .ensures .0) (c .if1 .left)),
     )
 
 returns-2 : tie.Need-returns-2 Inv-loop μ-loop

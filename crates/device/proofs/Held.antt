@@ -1,13 +1,13 @@
 -- What a kind holds after each call of an event: its schedule, and the sums of what was good so far.
 use Prim.Native.Nat.{ℕ, zero, suc, _+_, _/_, _%_, _<_}
 use native.Mathlib.Omega.{arith}
-use mathlib.Core.Path.{_≡_, ap}
-use mathlib.Core.Bool.{true, false}
+use mathlib.Core.Path.{_≡_, refl, ap}
+use mathlib.Core.Bool.{Bool, true, false}
 use mathlib.Core.List.{List, [], _∷_, _++_, map, map-append}
 use lib.ListN.{length, length-map, getD}
-use lib.Dec.{ltb}
-use borrow.Author.Tests.{ltb-true, lt-ltb}
-use Rattle.unit.specs.Choice.{negate}
+use lib.Dec.{ltb, eqb}
+use borrow.Author.Tests.{ltb-true, lt-ltb, eqb-true}
+use Rattle.unit.specs.Choice.{pick, negate}
 use Rattle.unit.specs.Cases.{by-test}
 use Rattle.calendar.proofs.Laws.{held}
 use Rattle.register.specs.Setup.{hitCount, differencePeriod, differenceCount, temperaturePeriod, temperatureCount}
@@ -27,11 +27,11 @@ use Rattle.device.specs.declared.Answer.the-variants.{Refused}
 use Rattle.device.specs.Event.{awaits, begins, fails, settle}
 use Rattle.device.specs.Registers.{half, flightWord, temperatureWord, registerWord}
 use Rattle.device.specs.Tick.{lostFlight, flightAfter, temperatureAfter, tickModel, reportOf}
-use Rattle.device.specs.Delivery.{goodSum, goodFlight, goodSums, flightGood, flightFailed, temperatureGood, temperatureFailed}
+use Rattle.device.specs.Delivery.{sameCount, flightMiscounted, goodSum, goodFlight, goodSums, flightGood, flightFailed, temperatureGood, temperatureFailed}
 use Rattle.device.specs.Call.{Call, flight, temperature, notAwaited, miscounted, anyLate, anyOpen}
 use Rattle.device.specs.Claim.{Kind, differences, temperatures, periodOf, countOf, History, noteTick, noteGood, noteFailed, note}
 use Rattle.device.specs.Claim.{isTick, isDelivery, isGood, isFailed, startReported, failureReported, noneLost}
-use Rattle.device.specs.Claim.{averagesOf, portWord, awaitedNow, deliveryOf, KindClaim}
+use Rattle.device.specs.Claim.{averagesOf, portWord, awaitedNow, deliveryOf, countRegister, Complete, KindClaim}
 use Rattle.device.proofs.Table.{NoneHolds, negated, picked}
 use Rattle.device.proofs.Sound.{hits-counted, hits-below}
 use Rattle.device.proofs.Sound
@@ -42,6 +42,9 @@ pub record FlightHeld (s : List ℕ) (h : History) (f : Flight) : Type 0 where
   pub going : Going (differencePeriod s .0) (differenceCount s) h (f .schedule)
   pub sum : f .sum ≡ biasedTotal (map (averagesOf s) (h .good))
   pub range : All InRange (map (averagesOf s) (h .good))
+  pub up : f .up ≡ true
+  pub down : f .down ≡ true
+  pub complete : All (Complete s) (h .good)
 
 abbrev portSum : ℕ → List Call → ℕ
 portSum i good = sum (map (portWord i) good)
@@ -54,6 +57,7 @@ pub record TemperatureHeld (s : List ℕ) (h : History) (t : Temperature) : Type
   pub sums :
       t .sums ≡ portSum 0 (h .good) ∷ portSum 1 (h .good) ∷ portSum 2 (h .good) ∷ portSum 3 (h .good) ∷ []
   pub below : (i : ℕ) → All Below (map (portWord i) (h .good))
+  pub complete : All (Complete s) (h .good)
 
 abbrev pub KindHeld : Kind → List ℕ → History → Model → Type 0
 KindHeld differences s h m = FlightHeld s h (m .flight)
@@ -85,6 +89,27 @@ left-some : (k : Schedule) → negate (awaits k) ≡ false → 0 < k .left .0
 unfolding awaits
 left-some k a = ltb-true 0 (k .left .0) (held (ltb 0 (k .left .0)) (negated (awaits k) a) .0)
 
+-- with both directions measured, both lists have H words
+same-as : (hits given : ℕ) → sameCount true hits given ≡ true → given ≡ hits
+unfolding sameCount
+same-as hits given e = eqb-true given hits (held (eqb given hits) e .0)
+
+counted-both : (a b : Bool) → pick a (pick b false true) true ≡ false → (a ≡ true) × (b ≡ true)
+counted-both true true e = (refl, refl)
+counted-both true false e = (refl, cc)
+counted-both false b e = (cc, cc)
+
+both-counted :
+    (f : Flight) (hits u d : ℕ) →
+    f .up ≡ true →
+    f .down ≡ true →
+    flightMiscounted f hits u d ≡ false →
+    (u ≡ hits) × (d ≡ hits)
+unfolding flightMiscounted
+both-counted f hits u d a b e =
+    let (p, q) = counted-both (sameCount true hits u) (sameCount true hits d) (rw (a, b) at e) in
+    (same-as hits u p, same-as hits d q)
+
 module _ (m : Model) (h : History) (i : FlightHeld (m .setup) h (m .flight)) where
   flight-ticks :
       FlightHeld (m .setup) (noteTick (begins (m .flight .schedule)) (fails (m .flight .schedule)) h)
@@ -94,8 +119,8 @@ module _ (m : Model) (h : History) (i : FlightHeld (m .setup) h (m .flight)) whe
       let k : Schedule = m .flight .schedule in
       let g = going-tick _ _ h k (i .going) in
       picked (FlightHeld (m .setup) (noteTick (begins k) (fails k) h)) (fails k)
-      (λ _. record { going = g; sum = i .sum; range = i .range })
-      (λ _. record { going = g; sum = i .sum; range = i .range })
+      (λ _. record { going = g; sum = i .sum; range = i .range; up = i .up; down = i .down; complete = i .complete })
+      (λ _. record { going = g; sum = i .sum; range = i .range; up = i .up; down = i .down; complete = i .complete })
 
   flight-fails :
       (u d : List ℕ) →
@@ -110,6 +135,9 @@ module _ (m : Model) (h : History) (i : FlightHeld (m .setup) h (m .flight)) whe
         going = going-failed _ _ h k (i .going) (m .setup) (flight u d) (left-some k (n .row10)) (rw l);
         sum = i .sum;
         range = i .range;
+        up = i .up;
+        down = i .down;
+        complete = i .complete;
       }
 
   flight-adds :
@@ -137,6 +165,11 @@ module _ (m : Model) (h : History) (i : FlightHeld (m .setup) h (m .flight)) whe
             rw map-append
             (all-append InRange (map (averagesOf (m .setup)) (h .good)) (averagesOf (m .setup) (flight u d)) (i .range)
             (quotient-below (sum u) hits 2147483648 (r .0), quotient-below (sum d) hits 2147483648 (r .1)));
+        up = i .up;
+        down = i .down;
+        complete =
+            all-append (Complete (m .setup)) (h .good) (flight u d) (i .complete)
+            (both-counted (m .flight) hits (length u) (length d) (i .up) (i .down) (n .row11));
       }
 
 module _ (m : Model) (h : History) (i : TemperatureHeld (m .setup) h (m .temperature)) where
@@ -149,8 +182,8 @@ module _ (m : Model) (h : History) (i : TemperatureHeld (m .setup) h (m .tempera
       let k : Schedule = m .temperature .schedule in
       let g = going-tick _ _ h k (i .going) in
       picked (TemperatureHeld (m .setup) (noteTick (begins k) (fails k) h)) (fails k)
-      (λ _. record { going = g; sums = i .sums; below = i .below })
-      (λ _. record { going = g; sums = i .sums; below = i .below })
+      (λ _. record { going = g; sums = i .sums; below = i .below; complete = i .complete })
+      (λ _. record { going = g; sums = i .sums; below = i .below; complete = i .complete })
 
   ports-fail :
       (w ports : List ℕ) →
@@ -165,6 +198,7 @@ module _ (m : Model) (h : History) (i : TemperatureHeld (m .setup) h (m .tempera
         going = going-failed _ _ h k (i .going) (m .setup) (temperature w) (left-some k (n .row10)) (rw l);
         sums = i .sums;
         below = i .below;
+        complete = i .complete;
       }
 
   ports-add :
@@ -177,7 +211,7 @@ module _ (m : Model) (h : History) (i : TemperatureHeld (m .setup) h (m .tempera
         sums = goodSums (m .temperature) (four w);
         ports = four w;
       })
-  unfolding goodSums plusEach portWord noteGood noneLost notAwaited anyOpen
+  unfolding goodSums plusEach portWord noteGood noneLost notAwaited miscounted anyOpen
   ports-add w n l =
       let k : Schedule = m .temperature .schedule in
       let p = Sound.ports-good m w (n .row11) l in
@@ -198,6 +232,9 @@ module _ (m : Model) (h : History) (i : TemperatureHeld (m .setup) h (m .tempera
             λ j.
             rw map-append
             (all-append Below (map (portWord j) (h .good)) (getD w j 0) (i .below j) (below-at w j (p .each)));
+        complete =
+            all-append (Complete (m .setup)) (h .good) (temperature w) (i .complete)
+            (eqb-true (length w) 4 (negated (eqb (length w) 4) (n .row11)));
       }
 
 -- a refused call tells nothing
@@ -248,7 +285,7 @@ port-average s h t i j e =
     (port-mean-words (map (portWord i) (h .good)) (j .below i))
 
 pub held-claim : (k : Kind) (s : List ℕ) (h : History) (m : Model) → KindHeld k s h m → KindClaim k s h m
-unfolding periodOf countOf awaitedNow deliveryOf notAwaited registerWord flightWord temperatureWord half
+unfolding periodOf countOf countRegister awaitedNow deliveryOf notAwaited registerWord flightWord temperatureWord half
 held-claim differences s h m i =
     let a = difference-average s h (m .flight) i in
     record {
@@ -257,6 +294,8 @@ held-claim differences s h m i =
       timely = i .going .counted .timely;
       recent = recent _ _ h (m .flight .schedule) (i .going);
       judged = i .going .counted .judged;
+      complete = i .complete;
+      count = i .going .counted .good;
       averages = record { high = ap (λ w. w / 65536) a; low = ap (λ w. w % 65536) a };
     }
 held-claim temperatures s h m i =
@@ -270,6 +309,8 @@ held-claim temperatures s h m i =
       timely = i .going .counted .timely;
       recent = recent _ _ h (m .temperature .schedule) (i .going);
       judged = i .going .counted .judged;
+      complete = i .complete;
+      count = i .going .counted .good;
       averages = (
         record { high = ap (λ w. w / 65536) a; low = ap (λ w. w % 65536) a },
         record { high = ap (λ w. w / 65536) b; low = ap (λ w. w % 65536) b },

@@ -13,6 +13,9 @@ use Rattle.device.specs.Model.{sound}
 use Rattle.device.specs.Call.{Call, Row, accepted, refused, verdict, firstOf, table, reply, replyBy, output, outputBy, bufferOf}
 use Rattle.device.specs.Call.{noFrame, notCarried, wrongLength, pastRegisters, shortOutput, whileBusy, badCalendar}
 use Rattle.device.specs.Call.{notInitialised, badSetup, notAwaited, miscounted}
+use Rattle.device.specs.Call.{transaction, tick, flight, temperature, anyLate, anyOpen, acceptedAnswer, numberIn}
+use Rattle.frame.specs.Frame.{isCommand, isWrite}
+use lib.ListN.{getD}
 
 -- Whichever is picked, with what the test showed.
 pub picked : {A : Type 0} (P : A → Type 0) (t : Bool) {x y : A} → (t ≡ true → P x) → (t ≡ false → P y) → P (pick t x y)
@@ -97,3 +100,21 @@ refused-same m c n e = rw e
 pub refused-buffer : (m : Model) (c : Call) (n : ℕ) → verdict m c ≡ refused n → output m c ≡ bufferOf c
 unfolding output outputBy
 refused-buffer m c n e = rw e
+
+-- "A refusal answers its number": the number in the answer is the verdict's.
+accepted-number : (m : Model) (c : Call) → numberIn (acceptedAnswer m c) ≡ []
+unfolding numberIn acceptedAnswer
+accepted-number m (transaction f o) =
+    picked (λ a. numberIn a ≡ []) (isCommand (getD f 0 0)) (λ _. refl)
+    (λ _. picked (λ a. numberIn a ≡ []) (isWrite (getD f 0 0)) (λ _. refl) (λ _. refl))
+accepted-number m tick = refl
+accepted-number m (flight u d) = picked (λ a. numberIn a ≡ []) (anyLate m u d) (λ _. refl) (λ _. refl)
+accepted-number m (temperature w) = picked (λ a. numberIn a ≡ []) (anyOpen m w) (λ _. refl) (λ _. refl)
+
+pub number-refused : (m : Model) (c : Call) (n : ℕ) → verdict m c ≡ refused n → numberIn (reply m c .answer) ≡ n ∷ []
+unfolding reply replyBy numberIn
+number-refused m c n e = rw e
+
+pub number-accepted : (m : Model) (c : Call) → verdict m c ≡ accepted → numberIn (reply m c .answer) ≡ []
+unfolding reply replyBy
+number-accepted m c e = rw e (accepted-number m c)

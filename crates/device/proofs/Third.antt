@@ -1,12 +1,13 @@
 -- The third demand, over every list of calls.
-use Prim.Native.Nat.{ℕ, zero, suc, _/_, _%_}
+use Prim.Native.Nat.{ℕ, zero, suc, _+_, _/_, _%_, _≤_}
+use native.Mathlib.Nat.{zero-add}
 use native.Mathlib.Omega.{arith}
 use native.Mathlib.Numerals.{add-one}
 use mathlib.Core.Path.{_≡_, refl, ap, sym, subst, _∙_}
 use mathlib.Core.Bool.{Bool, true, false}
 use mathlib.Core.List.{List, [], _∷_}
 use lib.Dec.{ltb, eqb}
-use borrow.Author.Tests.{ltb-false}
+use borrow.Author.Tests.{ltb-false, le-ltb}
 use Rattle.unit.specs.Choice.{pick, both}
 use Rattle.unit.specs.Cases.{by-test, by-eqb}
 use Rattle.calendar.specs.declared.Clock.{Clock}
@@ -22,7 +23,7 @@ use Rattle.device.specs.declared.Reply.{Reply}
 use Rattle.device.specs.Model.{sound, freshModel}
 use Rattle.device.specs.Bus.{startsFlight, startsTemperature, isEvent, eventSideUnset, commandUnset, flightEvent, temperatureEvent, eventFlight, eventTemperature, startedEvent, runModel}
 use Rattle.device.specs.Call.{Call, badSetup, accepted, verdict, acceptedAnswer, acceptedModel, accept, replyBy, reply}
-use Rattle.device.specs.Claim.{Kind, differences, temperatures, History, note, history, after, log, onlyReads, isTick}
+use Rattle.device.specs.Claim.{Kind, differences, temperatures, Entry, History, note, noteTick, noteGood, noteFailed, history, after, log, onlyReads, isTick, isDelivery, isGood, isFailed}
 use Rattle.device.specs.Claim.{startReported, beginning, runs, tickCount, command, ThirdDemand}
 use Rattle.device.proofs.Table.{none-holds}
 use Rattle.device.proofs.Sound.{bounds-of, fresh-sound, keeps-sound}
@@ -119,33 +120,75 @@ clock-runs m op o e v =
     let u = rw (event-command op e, e) at (none-holds m (command op o) v .row9) in
     neither-picked (eqb (wordOf (m .setup) 0x42 / 256 % 2) 1) (neither-picked (eventUnset (m .setup)) u .0) .1
 
+-- the kinds that 01 names are the kinds that the command starts
+runs-flight : (op : ℕ) → runs differences op ≡ true → startsFlight op ≡ true
+unfolding runs startsFlight
+runs-flight op r =
+    by-test (ltb op 3) (λ a. rw a)
+    (λ a. by-test (eqb op 7) (λ b. rw (a, b)) (λ b. rw (a, b, rw b at r)))
+
+runs-temperature : (op : ℕ) → runs temperatures op ≡ true → startsTemperature op ≡ true
+unfolding runs startsTemperature
+runs-temperature op r =
+    by-test (eqb op 3) (λ a. rw a)
+    (λ a. by-test (eqb op 7) (λ b. rw (a, b)) (λ b. rw (a, b, rw b at r)))
+
 held-start :
     (k : Kind) (m : Model) (op : ℕ) →
     runs k op ≡ true →
     KindHeld k (m .setup) (beginning k (accept (startsFlight op) (startsTemperature op) (startedEvent m op) .answer)) (startedEvent m op)
-unfolding runs beginning startReported startedEvent eventFlight eventTemperature flightEvent temperatureEvent biasedTotal sum
+unfolding beginning startReported startedEvent eventFlight eventTemperature flightEvent temperatureEvent biasedTotal sum
 held-start differences m op r =
-    rw r
+    rw (runs-flight op r)
     (record {
       going =
           going-start (differencePeriod (m .setup)) (differenceCount (m .setup))
           (difference-period-bounds (m .setup) .0) (difference-count-bounds (m .setup) .0);
       sum = refl;
       range = tt;
+      up = refl;
+      down = refl;
+      complete = tt;
     })
 held-start temperatures m op r =
-    rw r
+    rw (runs-temperature op r)
     (record {
       going =
           going-start (temperaturePeriod (m .setup)) (temperatureCount (m .setup))
           (omega (arith, temperature-period-bounds (m .setup))) (temperature-count-bounds (m .setup) .0);
       sums = refl;
       below = λ i. tt;
+      complete = tt;
     })
 
+-- each `tick` of the list counts
+note-ticks : (k : Kind) (s : List ℕ) (c : Entry) (h : History) → (note k s c h) .ticks ≡ pick (isTick (c .call)) (h .ticks + 1) (h .ticks)
+unfolding note noteTick noteGood noteFailed
+note-ticks k s c h =
+    by-test (isTick (c .call)) (λ a. rw a)
+    (λ a. by-test (both (isDelivery k (c .call)) (isGood (c .answer))) (λ b. rw (a, b))
+    (λ b. by-test (both (isDelivery k (c .call)) (isFailed (c .answer))) (λ d. rw (a, b, d)) (λ d. rw (a, b, d))))
+
+all-counted :
+    (k : Kind) (s : List ℕ) (cs : List Call) (m : Model) (h : History) →
+    (history k s (log m cs) h) .ticks ≡ h .ticks + tickCount cs
+unfolding log history tickCount
+all-counted k s [] m h = omega arith
+all-counted k s (c ∷ cs) m h =
+    let e : Entry = record { call = c; answer = reply m c .answer } in
+    all-counted k s cs (reply m c .model) (note k s e h) ∙
+    by-test (isTick c)
+    (λ a. rw (note-ticks k s e h, a) (omega arith))
+    (λ a. rw (note-ticks k s e h, a))
+
+event-codes : (op : ℕ) → 0x07 ≤ op → op ≤ 0x09 → isEvent op ≡ true
+unfolding isEvent
+event-codes op a b = rw (le-ltb op 7 a, le-ltb 9 op b)
+
 pub third-demand : ThirdDemand
-unfolding startedEvent
-third-demand before op o later e v p =
+unfolding startedEvent beginning
+third-demand before op o later from to v p =
+    let e : isEvent op ≡ true = event-codes op from to in
     let m : Model = after freshModel before in
     let n : Model = reply m (command op o) .model in
     let s : sound m ≡ true = sound-after before freshModel fresh-sound in
@@ -161,8 +204,11 @@ third-demand before op o later e v p =
           (all-held j (m .setup) later n (beginning j (reply m (command op o) .answer))
           (ap (λ (r : Reply). r .model .setup) q) k p
           (subst (λ (r : Reply). KindHeld j (m .setup) (beginning j (r .answer)) (r .model)) (sym q) (held-start j m op r)));
+      ticks =
+          λ j. all-counted j (m .setup) later n (beginning j (reply m (command op o) .answer)) ∙ zero-add (tickCount later);
       clock =
           record {
+            valid = bounds-of (after n later) (sound-after later n k) .clock;
             shown = ap moment c ∙ after-moment (tickCount later) (m .clock) (bounds-of m s .clock);
             weekday = ap (λ (c : Clock). c .weekday) c ∙ after-weekday (tickCount later) (m .clock) (bounds-of m s .clock);
           };

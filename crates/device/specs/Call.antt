@@ -34,7 +34,7 @@ pub data Call : Type 0 where
   flight : List ℕ → List ℕ → Call
   temperature : List ℕ → Call
 
--- "The opcode is the first byte"; the bytes after it; "n whole words"
+-- "The opcode is the first byte"; the bytes after it; how many whole words these are
 abbrev pub opcode : List ℕ → ℕ
 opcode f = getD f 0 0
 
@@ -44,7 +44,7 @@ further f = length f - 1
 abbrev pub words : List ℕ → ℕ
 words f = further f / 2
 
--- By the opcode's sort: a command, a write, or else a read.
+-- By the opcode's sort: a command, a write, or else a read (number 2 turns away what is none of them).
 abbrev pub bySort : {A : Type 0} → List ℕ → A → A → A → A
 bySort f c w r = pick (isCommand (opcode f)) c (pick (isWrite (opcode f)) w r)
 
@@ -208,6 +208,15 @@ replyBy (refused n) m c = refuse n m
 unfoldable pub reply : Model → Call → Reply
 reply m c = replyBy (verdict m c) m c
 
+-- What each answer says in 01's terms: its number where it is a refusal, the kinds started by a transaction, what a tick
+-- reports, good or failed.
+unfoldable pub numberIn : Answer → List ℕ
+numberIn (Refused n) = n ∷ []
+numberIn (Accepted f t) = []
+numberIn (Ticked f t) = []
+numberIn Good = []
+numberIn Failed = []
+
 unfoldable pub bufferOf : Call → List ℕ
 bufferOf (transaction f o) = o
 bufferOf tick = []
@@ -221,6 +230,15 @@ outputBy (refused n) m c = bufferOf c
 unfoldable pub output : Model → Call → List ℕ
 output m c = outputBy (verdict m c) m c
 
+-- What a question tells: its number where it is a refusal, else its value.
+unfoldable pub numberTold : Told → List ℕ
+numberTold (NotTold n) = n ∷ []
+numberTold (Value v) = []
+
+unfoldable pub valueTold : Told → List ℕ
+valueTold (NotTold n) = []
+valueTold (Value v) = v ∷ []
+
 -- The answers of questions, which change nothing. "The INT answer is yes exactly when INT_EN .. is 1 and the status is not
 -- 0": 1 for yes, 0 for no.
 unfoldable pub interruptTold : Model → Told
@@ -233,7 +251,8 @@ interruptTold m =
 unfoldable pub awaitedTold : Model → Schedule → Told
 awaitedTold m k = pick (sound m) (pick (awaits k) (Value 1) (Value 0)) (NotTold 0)
 
--- The word that a read of one register would give.
+-- The word that a read of one register would give: a call of ours, which clears nothing. An address that no read has is
+-- number 4.
 unfoldable pub registerTold : Model → ℕ → Told
 registerTold m a =
     pick (sound m) (pick (ltb a 0xB0) (NotTold 4) (pick (ltb 0xFF a) (NotTold 4) (Value (registerWord m a)))) (NotTold 0)
@@ -253,6 +272,7 @@ writeReply m bytes op n =
     pick (busy m) (refuse 6 m)
     (pick (writeInvalid bytes op n m) (refuse 7 m) (accept false false (writeModel bytes op n m)))
 
+-- Of what is no refusal it is asked for no number; 2 stands there.
 unfoldable pub refusalNumber : Decoded → ℕ
 refusalNumber (Command op) = 2
 refusalNumber (Read op n) = 2

@@ -1,11 +1,13 @@
--- The third demand: what the calls after an accepted event command, and their answers, tell.
-use Prim.Native.Nat.{ℕ, zero, suc, _+_, _*_, _/_, _%_, _-_, _<_}
+-- The third demand: what the calls after an accepted event command, and their answers, tell. Quotations are from 01, but for
+-- those beside the claims at the end, which are the demand's own words.
+use Prim.Native.Nat.{ℕ, zero, suc, _+_, _*_, _/_, _%_, _-_, _<_, _≤_}
 use mathlib.Core.Bool.{Bool, true, false}
 use mathlib.Core.List.{List, [], _∷_, _++_, map}
 use mathlib.Core.Path.{_≡_}
 use lib.ListN.{length, getD}
-use lib.Dec.{leb}
+use lib.Dec.{leb, eqb}
 use Rattle.unit.specs.Choice.{pick, both, either, negate}
+use Rattle.calendar.specs.Calendar.{clockValid}
 use Rattle.calendar.specs.Moment.{moment, century, midnights}
 use Rattle.register.specs.Setup.{hitCount, timeout, portCycle, differencePeriod, differenceCount, temperaturePeriod, temperatureCount}
 use Rattle.frame.specs.Frame.{isRead}
@@ -18,7 +20,6 @@ use Rattle.device.specs.declared.Report.{Report}
 use Rattle.device.specs.declared.Answer.{Answer}
 use Rattle.device.specs.declared.Answer.the-variants.{Refused, Accepted, Ticked, Good, Failed}
 use Rattle.device.specs.Registers.{registerWord}
-use Rattle.device.specs.Bus.{startsFlight, startsTemperature, isEvent}
 use Rattle.device.specs.Model.{freshModel}
 use Rattle.device.specs.Call.{Call, transaction, tick, flight, temperature, opcode, reply, verdict, Verdict, accepted, notAwaited}
 
@@ -69,8 +70,8 @@ countOf temperatures s = temperatureCount s
 
 -- "07h runs both kinds, 08h differences, 09h temperatures."
 unfoldable pub runs : Kind → ℕ → Bool
-runs differences op = startsFlight op
-runs temperatures op = startsTemperature op
+runs differences op = either (eqb op 0x07) (eqb op 0x08)
+runs temperatures op = either (eqb op 0x07) (eqb op 0x09)
 
 -- What an answer reports of a kind: "The start at 0 is reported by the command's answer, later ones by their tick."
 unfoldable pub startReported : Kind → Answer → Bool
@@ -212,7 +213,7 @@ noteFailed s c h =
       misjudged = pick (noneLost s c) (h .misjudged + 1) (h .misjudged);
     }
 
--- One entry more. A refused tick would be none, but a model that the calls made refuses no tick.
+-- One entry more. A model that the calls made refuses no tick, so each `tick` of the list counts.
 unfoldable pub note : Kind → List ℕ → Entry → History → History
 note k s e h =
     pick (isTick (e .call)) (noteTick (startReported k (e .answer)) (failureReported k (e .answer)) h)
@@ -252,6 +253,18 @@ AveragesHeld temperatures s good m =
     Holds m 0xF4 (floorMeanWords (map (portWord 2) good)) ×
     Holds m 0xF6 (floorMeanWords (map (portWord 3) good))
 
+-- A good delivery had all its words: "an up list and a down list, each of H words"; "four words, T1 to T4"
+abbrev pub Complete : List ℕ → Call → Type 0
+Complete s (transaction f o) = ⊥
+Complete s tick = ⊥
+Complete s (flight u d) = (length u ≡ hitCount s) × (length d ≡ hitCount s)
+Complete s (temperature w) = length w ≡ 4
+
+-- "cycle counts (E4h, EFh)"
+unfoldable pub countRegister : Kind → ℕ
+countRegister differences = 0xE4
+countRegister temperatures = 0xEF
+
 -- The claim for one kind: s is the set-up at acceptance, h what the list tells, m the model at its end.
 pub record KindClaim (k : Kind) (s : List ℕ) (h : History) (m : Model) : Type 0 where
   -- "Its starts were exactly at those elapsed ticks j × P, j below N, with its own P and N, that the list reaches."
@@ -265,6 +278,9 @@ pub record KindClaim (k : Kind) (s : List ℕ) (h : History) (m : Model) : Type 
   pub recent : awaitedNow k m ≡ 1 → h .ticks < h .last + 8192
   -- "answered good exactly when none of its words is late, .. open"
   pub judged : h .misjudged ≡ 0
+  pub complete : All (Complete s) (h .good)
+  -- "A good measurement of an event adds one to its count"
+  pub count : registerWord m (countRegister k) ≡ length (h .good)
   pub averages : AveragesHeld k s (h .good) m
 
 -- "And the clock shows the moment that lies as many ticks after acceptance as the list holds, 2000 following 2099." "Its
@@ -275,6 +291,7 @@ tickCount (c ∷ cs) = pick (isTick c) (tickCount cs + 1) (tickCount cs)
 
 pub record ClockClaim (m : Model) (n : ℕ) (end : Model) : Type 0 where
   pub shown : moment (end .clock) ≡ (moment (m .clock) + n) % century
+  pub valid : clockValid (end .clock) ≡ true
   pub weekday : end .clock .weekday ≡ 1 + (m .clock .weekday - 1 + midnights (m .clock) n) % 7
 
 -- The whole claim: `m` accepted event command `op` (with output buffer `o`), and then the calls `later` were made.
@@ -290,6 +307,8 @@ pub record EventClaim (m : Model) (op : ℕ) (o : List ℕ) (later : List Call) 
       (k : Kind) →
       runs k op ≡ true →
       KindClaim k (m .setup) (toldOf k m op o later) (after (reply m (command op o) .model) later)
+  -- both count the same ticks
+  pub ticks : (k : Kind) → (toldOf k m op o later) .ticks ≡ tickCount later
   pub clock : ClockClaim m (tickCount later) (after (reply m (command op o) .model) later)
 
 -- The third demand: "Let a model grow from a fresh one by any list of transactions, ticks and deliveries, refused ones among
@@ -298,7 +317,8 @@ pub record EventClaim (m : Model) (op : ℕ) (o : List ℕ) (later : List Call) 
 abbrev pub ThirdDemand : Type 0
 ThirdDemand =
     (before : List Call) (op : ℕ) (o : List ℕ) (later : List Call) →
-    isEvent op ≡ true →
+    0x07 ≤ op →
+    op ≤ 0x09 →
     verdict (after freshModel before) (command op o) ≡ accepted →
     onlyReads (log (reply (after freshModel before) (command op o) .model) later) ≡ true →
     EventClaim (after freshModel before) op o later

@@ -15,7 +15,7 @@ bcd n = n / 10 % 10 * 16 + n % 10
 unfoldable pub hundredthsOf : Ticks → ℕ
 hundredthsOf t = t .0 * 100 / 32768
 
--- "30h tenths, hundredths, ten seconds, seconds"
+-- "30h tenths, hundredths, ten seconds, seconds (four bits each)"; 000's Table 4 places ten seconds at 6:4 and names bit 7 "0"
 unfoldable pub word30 : Clock → ℕ
 word30 c = bcd (hundredthsOf (c .ticks)) * 256 + bcd (c .second)
 

@@ -1,9 +1,9 @@
 // The calls of the MAX35101 model. Each takes any model and any input; a refusal changes nothing.
 ghost use mathlib.Core.Path.{_≡_};
+ghost use mathlib.Core.Bool.{true};
 ghost use Prim.Native.Nat.{_≤_, _+_, _*_};
 ghost use lib.ListN.{length};
 ghost use Rattle.frame.specs.declared.Decoded.{Decoded};
-ghost use Rattle.device.specs.Event.{yes};
 ghost use Rattle.device.specs.Model.{sound, freshModel};
 ghost use Rattle.device.specs.Call.{Call, reply, output, refuse, accept, commandReply, writeReply, readReply, readOutput, refusalNumber, interruptTold, awaitedTold, flightFits, flightReply, readFits, registerTold, temperatureReply};
 use access::read::fill_words;
@@ -106,7 +106,7 @@ fn refusal_number(d: Decoded) -> u32
 
 // A read, or the refusal that decoding found.
 fn read(m: Model, d: Decoded, out: &mut [u8]) -> Reply
-    requires { ⌜ readFits d (length (now out)) ≡ yes ⌝ }
+    requires { ⌜ readFits d (length (now out)) ≡ true ⌝ }
     ensures { λ r. ⌜ (r ≡ readReply m d) × (now (out .exit) ≡ readOutput m d (now (out .entry))) ⌝ }
 {
     let Decoded::Read(op, n) = d else {
@@ -178,7 +178,7 @@ pub fn flight_delivery(m: Model, up: &[u32], down: &[u32]) -> Reply
 
 // A flight delivery of the right counts.
 fn flight_words(m: Model, up: &[u32], down: &[u32]) -> Reply
-    requires { ⌜ flightFits m (now up) (now down) ≡ yes ⌝ }
+    requires { ⌜ flightFits m (now up) (now down) ≡ true ⌝ }
     ensures { λ r. ⌜ r ≡ flightReply m (now (up .entry)) (now (down .entry)) ⌝ }
 {
     let setup = m.setup;
@@ -225,7 +225,7 @@ pub fn temperature_delivery(m: Model, words: &[u32]) -> Reply
 
 // A temperature delivery of four words.
 fn temperature_words(m: Model, words: &[u32]) -> Reply
-    requires { ⌜ sound m ≡ yes ⌝ }
+    requires { ⌜ sound m ≡ true ⌝ }
     ensures { λ r. ⌜ r ≡ temperatureReply m (now (words .entry)) ⌝ }
 {
     let setup = m.setup;

@@ -27,11 +27,11 @@ startsTemperature op = pick (eqb op 3) true (pick (eqb op 7) true (pick (eqb op 
 unfoldable pub isEvent : ℕ → Bool
 isEvent op = pick (ltb op 7) false (pick (ltb 9 op) false true)
 
--- "busy: .. a command but HALT and Reset, while a measurement is awaited or an event runs"
+-- Number 6, busy: "a command but HALT and Reset, while a measurement is awaited or an event runs"
 unfoldable pub commandBusy : Model → ℕ → Bool
 commandBusy m op = pick (mustBeIdle op) (busy m) false
 
--- "not initialised: 00h to 03h, 07h to 09h before Initialize"
+-- Number 8, not initialised: "00h to 03h, 07h to 09h before Initialize"
 unfoldable pub notReady : Model → ℕ → Bool
 notReady m op = pick (m .ready) false (pick (startsFlight op) true (startsTemperature op))
 

@@ -6,9 +6,6 @@ use Rattle.unit.specs.Choice.{pick}
 use Rattle.unit.specs.declared.Ticks.{Ticks}
 use Rattle.device.specs.declared.Schedule.{Schedule}
 
-abbrev pub yes : Bool
-yes = true
-
 abbrev pub ticks : ℕ → Ticks
 ticks n = record { 0 = n }
 
@@ -24,7 +21,7 @@ noSchedule =
       good = 0;
     }
 
--- Part of soundness: no more settled than planned, no more good than settled, and counts that stay small.
+-- Part of soundness: no more settled than planned, no more good than settled, and at most 32 planned, the largest N.
 unfoldable pub scheduleSound : Schedule → Bool
 scheduleSound k =
     pick (ltb 32 (k .planned)) false
@@ -43,7 +40,7 @@ unfoldable pub lastOne : Schedule → Bool
 lastOne k =
     pick (ltb (k .settled) (k .planned)) (pick (eqb (k .settled + 1) (k .planned)) true false) false
 
--- A tick starts a measurement where one is left to start and its time has come.
+-- A tick starts a measurement where one is left to start and the wait for it ends.
 unfoldable pub begins : Schedule → Bool
 begins k =
     pick (ltb (k .started) (k .planned)) (pick (leb (k .wait .0) 1) true false) false

@@ -6,7 +6,7 @@ use lib.Dec.{leb}
 use Rattle.unit.specs.Choice.{either}
 use Rattle.unit.specs.declared.Quanta.{Quanta}
 
--- "A word is late when it is at least 512 × 2^k × 65,536, k = TIMOUT, or no hit"; "2^31 or more means no hit": the least
+-- "A word is late when it is at least 512 × 2^k × 65,536, k = TIMOUT (2:0 of 39h), or no hit"; "2^31 or more means no hit": the least
 -- late word
 unfoldable pub lateFrom : ℕ → Quanta
 lateFrom k = record { 0 = min (512 * 2 ^ k * 65536) (2 ^ 31) }

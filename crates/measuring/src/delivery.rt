@@ -1,8 +1,8 @@
 // Delivered hit words of an awaited measurement.
 ghost use mathlib.Core.Path.{_≡_};
+ghost use mathlib.Core.Bool.{true};
 ghost use Prim.Native.Nat.{_<_, _*_};
 ghost use Rattle.measurement.specs.Words.{sixTotal};
-ghost use Rattle.device.specs.Event.{yes};
 ghost use Rattle.device.specs.Model.{flightSound, temperatureSound};
 ghost use Rattle.device.specs.Delivery.{flightMiscounted, goodDifference, goodSum, goodFlight, flightStatus, goodSums, temperatureStatus, flightFailed, flightGood, sameCount, temperatureFailed, temperatureGood};
 use crate::tick::lose_flight;
@@ -63,7 +63,7 @@ fn good_difference(f: Flight, up: Quanta, down: Quanta) -> u32
 
 // The sum of differences after a good measurement: one of an event counts.
 fn good_sum(f: Flight, up: Quanta, down: Quanta) -> u64
-    requires { ⌜ (up .0 < 2147483648) × (down .0 < 2147483648) × (flightSound f ≡ yes) ⌝ }
+    requires { ⌜ (up .0 < 2147483648) × (down .0 < 2147483648) × (flightSound f ≡ true) ⌝ }
     ensures { λ r. ⌜ r ≡ goodSum f up down ⌝ }
 {
     let k = f.schedule;
@@ -75,7 +75,7 @@ fn good_sum(f: Flight, up: Quanta, down: Quanta) -> u64
 
 // The flight results after good hits.
 fn good_flight(f: Flight, hits: u32, ups: [u32; 6], downs: [u32; 6]) -> Flight
-    requires { ⌜ (sixTotal ups < hits * 2147483648) × (sixTotal downs < hits * 2147483648) × (flightSound f ≡ yes) ⌝ }
+    requires { ⌜ (sixTotal ups < hits * 2147483648) × (sixTotal downs < hits * 2147483648) × (flightSound f ≡ true) ⌝ }
     ensures { λ r. ⌜ r ≡ goodFlight f hits ups downs ⌝ }
 {
     let old_ups = f.ups;
@@ -112,7 +112,7 @@ fn flight_status(m: Model, failed: bool) -> Status
 
 // The model after a flight delivery of the right counts.
 pub fn flight_failed(m: Model) -> Model
-    requires { ⌜ flightSound (m .flight) ≡ yes ⌝ }
+    requires { ⌜ flightSound (m .flight) ≡ true ⌝ }
     ensures { λ r. ⌜ r ≡ flightFailed m ⌝ }
 {
     let f = m.flight;
@@ -127,7 +127,7 @@ pub fn flight_failed(m: Model) -> Model
 }
 
 pub fn flight_good(m: Model, hits: u32, ups: [u32; 6], downs: [u32; 6]) -> Model
-    requires { ⌜ (sixTotal ups < hits * 2147483648) × (sixTotal downs < hits * 2147483648) × (flightSound (m .flight) ≡ yes) ⌝ }
+    requires { ⌜ (sixTotal ups < hits * 2147483648) × (sixTotal downs < hits * 2147483648) × (flightSound (m .flight) ≡ true) ⌝ }
     ensures { λ r. ⌜ r ≡ flightGood m hits ups downs ⌝ }
 {
     let f = m.flight;
@@ -140,7 +140,7 @@ pub fn flight_good(m: Model, hits: u32, ups: [u32; 6], downs: [u32; 6]) -> Model
 }
 
 fn good_sums(t: Temperature, w: [u32; 4]) -> [u64; 4]
-    requires { ⌜ temperatureSound t ≡ yes ⌝ }
+    requires { ⌜ temperatureSound t ≡ true ⌝ }
     ensures { λ r. ⌜ r ≡ goodSums t w ⌝ }
 {
     let k = t.schedule;
@@ -163,7 +163,7 @@ fn temperature_status(m: Model, failed: bool) -> Status
 }
 
 pub fn temperature_failed(m: Model, limit: Quanta, w: [u32; 4]) -> Model
-    requires { ⌜ temperatureSound (m .temperature) ≡ yes ⌝ }
+    requires { ⌜ temperatureSound (m .temperature) ≡ true ⌝ }
     ensures { λ r. ⌜ r ≡ temperatureFailed m limit w ⌝ }
 {
     let t = m.temperature;
@@ -184,7 +184,7 @@ pub fn temperature_failed(m: Model, limit: Quanta, w: [u32; 4]) -> Model
 }
 
 pub fn temperature_good(m: Model, w: [u32; 4]) -> Model
-    requires { ⌜ temperatureSound (m .temperature) ≡ yes ⌝ }
+    requires { ⌜ temperatureSound (m .temperature) ≡ true ⌝ }
     ensures { λ r. ⌜ r ≡ temperatureGood m w ⌝ }
 {
     let t = m.temperature;

@@ -1,0 +1,185 @@
+-- What deliveries, awaited and expiry mean, and that the third demand's hypotheses can be met.
+use Prim.Native.Nat.{ℕ, _≤_, _<_}
+use native.Mathlib.Omega.{arith}
+use mathlib.Core.Bool.{Bool, true, false}
+use mathlib.Core.List.{List, [], _∷_, map}
+use mathlib.Core.Logic.{_↔_}
+use mathlib.Core.Path.{_≡_, refl, sym, _∙_}
+use lib.ListN.{length, getD}
+use lib.Dec.{ltb, eqb}
+use Rattle.unit.specs.Choice.{pick}
+use Rattle.unit.specs.Cases.{by-test, by-ltb, by-eqb, holds, fails}
+use Rattle.unit.specs.declared.Quanta.{Quanta}
+use Rattle.register.specs.Setup.{hitCount}
+use Rattle.measurement.proofs.Ports.{all-open}
+use Rattle.device.specs.declared.Schedule.{Schedule}
+use Rattle.device.specs.declared.Flight.{Flight}
+use Rattle.device.specs.declared.Temperature.{Temperature}
+use Rattle.device.specs.declared.Model.{Model}
+use Rattle.device.specs.declared.Told.the-variants.{Value}
+use Rattle.device.specs.Event.{awaits, fails as expires, tickSchedule, settledAfter, settle}
+use Rattle.device.specs.declared.Status.{Status}
+use Rattle.device.specs.Status.{noBits, joined, alarmBit, flightBits, temperatureBits}
+use Rattle.device.specs.Model.{sound}
+use Rattle.device.specs.Tick.{lostFlight, flightAfter, temperatureAfter, clockTicked, alarmRaised, tickStatus, tickModel}
+use Rattle.device.specs.Delivery.{sameCount, flightMiscounted, flightStatus, flightFailed, temperatureStatus, temperatureFailed}
+use Rattle.device.specs.Bus.{flightStarted, flightEvent}
+use Rattle.device.proofs.StatusMeaning.{kept}
+use Rattle.device.specs.Call.{flight, temperature, refused, verdict, table, firstOf, awaitedTold}
+use Rattle.device.specs.Call.{noFrame, notCarried, wrongLength, pastRegisters, shortOutput, whileBusy, badCalendar}
+use Rattle.device.specs.Call.{notInitialised, badSetup, notAwaited, miscounted}
+
+-- "an up list and a down list, each of H words ..; the unmeasured direction's list is empty"
+same-means : (measured : Bool) (hits given : ℕ) → (sameCount measured hits given ≡ true) ↔ (given ≡ pick measured hits 0)
+unfolding sameCount
+same-means true hits given = by-eqb given hits (λ h e. rw e (holds h)) (λ h e. rw e (fails false h))
+same-means false hits given = by-eqb given 0 (λ h e. rw e (holds h)) (λ h e. rw e (fails false h))
+
+pub count-means :
+    (f : Flight) (hits ups downs : ℕ) →
+    (flightMiscounted f hits ups downs ≡ false) ↔ ((ups ≡ pick (f .up) hits 0) × (downs ≡ pick (f .down) hits 0))
+unfolding flightMiscounted
+count-means f hits ups downs =
+    by-test (sameCount (f .up) hits ups)
+    (λ e. by-test (sameCount (f .down) hits downs)
+    (λ g. rw (e, g) (holds (same-means (f .up) hits ups .0 e, same-means (f .down) hits downs .0 g)))
+    (λ g. rw (e, g) (fails true (λ x. differ (sym g ∙ same-means (f .down) hits downs .1 (x .1))))))
+    (λ e. rw e (fails true (λ x. differ (sym e ∙ same-means (f .up) hits ups .1 (x .0)))))
+  where
+    differ : _≡_ {A = Bool} false true → ⊥
+    differ e = let z : _≡_ {A = ℕ} 0 1 = cc in omega arith
+
+-- "TOF_Up (00h), TOF_Down (01h), TOF_Diff (02h) start a flight measurement": the directions that each measures
+pub directions :
+    (f : Flight) →
+    (map (λ (op : ℕ). flightStarted f op .up) (0 ∷ 1 ∷ 2 ∷ []) ≡ true ∷ false ∷ true ∷ []) ×
+    (map (λ (op : ℕ). flightStarted f op .down) (0 ∷ 1 ∷ 2 ∷ []) ≡ false ∷ true ∷ true ∷ [])
+unfolding flightStarted
+directions f = (refl, refl)
+
+-- "07h runs both kinds, 08h differences"
+pub event-directions :
+    (f : Flight) (setup : List ℕ) → (flightEvent f setup .up ≡ true) × (flightEvent f setup .down ≡ true)
+unfolding flightEvent
+event-directions f setup = (refl, refl)
+
+-- "Awaited is then 1, exactly when number 10 would not be given for it, else 0."
+pub awaited-flight :
+    (m : Model) →
+    sound m ≡ true →
+    (u d : List ℕ) →
+    (awaitedTold m (m .flight .schedule) ≡ Value 0) ↔ (verdict m (flight u d) ≡ refused 10)
+unfolding awaitedTold verdict table firstOf noFrame notCarried wrongLength pastRegisters shortOutput whileBusy badCalendar notInitialised badSetup notAwaited miscounted
+awaited-flight m s u d =
+    rw s
+    (by-test (awaits (m .flight .schedule))
+    (λ a. by-test (flightMiscounted (m .flight) (hitCount (m .setup)) (length u) (length d))
+    (λ c. rw (a, c) (λ e. let z : _≡_ {A = ℕ} 0 1 = cc in absurd (omega arith), λ e. let z : _≡_ {A = ℕ} 11 10 = cc in absurd (omega arith)))
+    (λ c. rw (a, c) (λ e. let z : _≡_ {A = ℕ} 0 1 = cc in absurd (omega arith), λ e. let z : _≡_ {A = ℕ} 0 1 = cc in absurd (omega arith))))
+    (λ a. rw a (λ e. refl, λ e. refl)))
+
+pub awaited-temperature :
+    (m : Model) →
+    sound m ≡ true →
+    (w : List ℕ) →
+    (awaitedTold m (m .temperature .schedule) ≡ Value 0) ↔ (verdict m (temperature w) ≡ refused 10)
+unfolding awaitedTold verdict table firstOf noFrame notCarried wrongLength pastRegisters shortOutput whileBusy badCalendar notInitialised badSetup notAwaited miscounted
+awaited-temperature m s w =
+    rw s
+    (by-test (awaits (m .temperature .schedule))
+    (λ a. by-test (eqb (length w) 4)
+    (λ c. rw (a, c) (λ e. let z : _≡_ {A = ℕ} 0 1 = cc in absurd (omega arith), λ e. let z : _≡_ {A = ℕ} 0 1 = cc in absurd (omega arith)))
+    (λ c. rw (a, c) (λ e. let z : _≡_ {A = ℕ} 0 1 = cc in absurd (omega arith), λ e. let z : _≡_ {A = ℕ} 11 10 = cc in absurd (omega arith))))
+    (λ a. rw a (λ e. refl, λ e. refl)))
+
+pub awaited-one : (m : Model) (k : Schedule) → sound m ≡ true → (awaitedTold m k ≡ Value 1) ↔ (0 < k .left .0)
+unfolding awaitedTold awaits
+awaited-one m k s =
+    rw s
+    (by-ltb 0 (k .left .0)
+    (λ h e. rw e (λ x. h, λ x. refl))
+    (λ h e. rw e (λ x. let z : _≡_ {A = ℕ} 0 1 = cc in absurd (omega arith), λ x. absurd (omega arith))))
+
+-- "A measurement undelivered 8,192 ticks after its start fails in that tick, as if all its words were late or open."
+pub expires-means : (k : Schedule) → (expires k ≡ true) ↔ (k .left .0 ≡ 1)
+unfolding expires
+expires-means k = by-eqb (k .left .0) 1 (λ h e. rw e (holds h)) (λ h e. rw e (fails false h))
+
+expired-settled : (k : Schedule) → expires k ≡ true → tickSchedule k .settled ≡ settle k false .settled
+unfolding tickSchedule settledAfter settle
+expired-settled k e = rw e (by-test (ltb (k .settled) (k .planned)) (λ f. rw f) (λ f. rw f))
+
+expired-good : (k : Schedule) → tickSchedule k .good ≡ settle k false .good
+unfolding tickSchedule settle
+expired-good k = by-test (ltb (k .settled) (k .planned)) (λ f. rw f) (λ f. rw f)
+
+pub record SameFlight (f g : Flight) : Type 0 where
+  pub ups : f .ups ≡ g .ups
+  pub downs : f .downs ≡ g .downs
+  pub difference : f .difference ≡ g .difference
+  pub sum : f .sum ≡ g .sum
+  pub settled : f .schedule .settled ≡ g .schedule .settled
+  pub good : f .schedule .good ≡ g .schedule .good
+
+pub flight-expires :
+    (m : Model) → expires (m .flight .schedule) ≡ true → SameFlight (tickModel m .flight) (flightFailed m .flight)
+unfolding tickModel flightAfter flightFailed lostFlight
+flight-expires m e =
+    rw e
+    (record {
+      ups = refl;
+      downs = refl;
+      difference = refl;
+      sum = refl;
+      settled = expired-settled (m .flight .schedule) e;
+      good = expired-good (m .flight .schedule);
+    })
+
+pub record SameTemperature (f g : Temperature) : Type 0 where
+  pub ports : f .ports ≡ g .ports
+  pub sums : f .sums ≡ g .sums
+  pub settled : f .schedule .settled ≡ g .schedule .settled
+  pub good : f .schedule .good ≡ g .schedule .good
+
+pub temperature-expires :
+    (m : Model) (limit : Quanta) (w : List ℕ) →
+    limit .0 ≤ getD w 0 0 →
+    limit .0 ≤ getD w 1 0 →
+    limit .0 ≤ getD w 2 0 →
+    limit .0 ≤ getD w 3 0 →
+    expires (m .temperature .schedule) ≡ true →
+    SameTemperature (tickModel m .temperature) (temperatureFailed m limit w .temperature)
+unfolding tickModel temperatureAfter temperatureFailed
+temperature-expires m limit w h i j k e =
+    rw e
+    (record {
+      ports = sym (all-open limit w h i j k);
+      sums = refl;
+      settled = expired-settled (m .temperature .schedule) e;
+      good = expired-good (m .temperature .schedule);
+    })
+
+-- and as the failed delivery does, it sets the bits: of a tick in which nothing else sets one
+no-bits : (s : Status) → joined s noBits ≡ s
+unfolding joined noBits
+no-bits s = simp kept
+
+no-alarm : (s : Status) → joined s (alarmBit false) ≡ s
+unfolding joined alarmBit
+no-alarm s = simp kept
+
+module _ (m : Model) (a : alarmRaised m (clockTicked m) ≡ false) where
+  pub flight-expiry-bits :
+      expires (m .flight .schedule) ≡ true →
+      expires (m .temperature .schedule) ≡ false →
+      tickModel m .status ≡ flightFailed m .status
+  unfolding tickModel tickStatus flightFailed flightStatus temperatureBits
+  flight-expiry-bits e f = rw (a, e, f) (simp (no-alarm, no-bits))
+
+  pub temperature-expiry-bits :
+      (limit : Quanta) (w : List ℕ) →
+      expires (m .temperature .schedule) ≡ true →
+      expires (m .flight .schedule) ≡ false →
+      tickModel m .status ≡ temperatureFailed m limit w .status
+  unfolding tickModel tickStatus temperatureFailed temperatureStatus flightBits
+  temperature-expiry-bits limit w e f = rw (a, e, f) (simp (no-alarm, no-bits))

@@ -1,0 +1,165 @@
+-- What a delivery leaves in the results, good and failed. Which registers read them is in RegisterMeaning.
+use Prim.Native.Nat.{ℕ, zero, suc, _/_, _≤_, _<_}
+use native.Mathlib.Omega.{arith}
+use mathlib.Core.Bool.{true, false}
+use mathlib.Core.List.{List, [], _∷_, map}
+use mathlib.Core.Logic.{_⊎_, ⊎-elim}
+use mathlib.Core.Path.{_≡_, refl, sym}
+use lib.ListN.{length, getD, List·getD-eq-default}
+use borrow.Author.Tests.{le-leb, lt-leb}
+use Rattle.unit.specs.Cases.{by-test, by-ltb}
+use Rattle.unit.specs.declared.Quanta.{Quanta}
+use Rattle.measurement.specs.Difference.{differenceWord}
+use Rattle.measurement.specs.Mean.{sum}
+use Rattle.measurement.specs.Words.{wordOrZero, six, four, average, filled, lost, portPair, portPairs}
+use Rattle.measurement.proofs.Sum.{six-total}
+use Rattle.device.specs.declared.Flight.{Flight}
+use Rattle.device.specs.declared.Model.{Model}
+use Rattle.device.specs.Registers.{half, flightWord, registerWord}
+use Rattle.device.specs.Tick.{lostDifference, lostFlight}
+use Rattle.device.specs.Delivery.{goodDifference, goodFlight, flightFailed, temperatureGood, temperatureFailed}
+use Rattle.device.proofs.RegisterMeaning.{upwards}
+
+word-or-zero : (ws : List ℕ) (i : ℕ) → wordOrZero ws i ≡ getD ws i 0
+unfolding wordOrZero
+word-or-zero ws i =
+    by-ltb i (length ws) (λ h e. rw e) (λ h e. rw e (sym (List·getD-eq-default ws 0 h)))
+
+pub six-means : (ws : List ℕ) (i : ℕ) → i < 6 → getD (six ws) i 0 ≡ getD ws i 0
+unfolding six
+six-means ws zero h = word-or-zero ws 0
+six-means ws (suc zero) h = word-or-zero ws 1
+six-means ws (suc (suc zero)) h = word-or-zero ws 2
+six-means ws (suc (suc (suc zero))) h = word-or-zero ws 3
+six-means ws (suc (suc (suc (suc zero)))) h = word-or-zero ws 4
+six-means ws (suc (suc (suc (suc (suc zero))))) h = word-or-zero ws 5
+six-means ws (suc (suc (suc (suc (suc (suc i)))))) h = absurd (omega arith)
+
+pub four-means : (ws : List ℕ) (i : ℕ) → i < 4 → getD (four ws) i 0 ≡ getD ws i 0
+unfolding four
+four-means ws zero h = word-or-zero ws 0
+four-means ws (suc zero) h = word-or-zero ws 1
+four-means ws (suc (suc zero)) h = word-or-zero ws 2
+four-means ws (suc (suc (suc zero))) h = word-or-zero ws 3
+four-means ws (suc (suc (suc (suc i)))) h = absurd (omega arith)
+
+-- "No word late: HIT pairs 1 to H hold the words, later HIT pairs 0, AVG the sum ÷ H rounded down"
+filled-means :
+    (ws : List ℕ) (n : ℕ) →
+    length ws ≤ 6 →
+    filled (six ws) (average (six ws) n)
+    ≡ getD ws 0 0 ∷ getD ws 1 0 ∷ getD ws 2 0 ∷ getD ws 3 0 ∷ getD ws 4 0 ∷ getD ws 5 0 ∷ sum ws / n ∷ []
+unfolding filled average
+filled-means ws n h =
+    rw (
+      six-means ws 0 (omega arith),
+      six-means ws 1 (omega arith),
+      six-means ws 2 (omega arith),
+      six-means ws 3 (omega arith),
+      six-means ws 4 (omega arith),
+      six-means ws 5 (omega arith),
+      six-total ws h,
+    )
+
+module _ (f : Flight) (n : ℕ) (u d : List ℕ) where
+  pub good-ups :
+      f .up ≡ true →
+      length u ≤ 6 →
+      goodFlight f n (six u) (six d) .ups
+      ≡ getD u 0 0 ∷ getD u 1 0 ∷ getD u 2 0 ∷ getD u 3 0 ∷ getD u 4 0 ∷ getD u 5 0 ∷ sum u / n ∷ []
+  unfolding goodFlight
+  good-ups e h = rw e (filled-means u n h)
+
+  pub good-downs :
+      f .down ≡ true →
+      length d ≤ 6 →
+      goodFlight f n (six u) (six d) .downs
+      ≡ getD d 0 0 ∷ getD d 1 0 ∷ getD d 2 0 ∷ getD d 3 0 ∷ getD d 4 0 ∷ getD d 5 0 ∷ sum d / n ∷ []
+  unfolding goodFlight
+  good-downs e h = rw e (filled-means d n h)
+
+  pub good-ups-kept : f .up ≡ false → goodFlight f n (six u) (six d) .ups ≡ f .ups
+  unfolding goodFlight
+  good-ups-kept e = rw e
+
+  pub good-downs-kept : f .down ≡ false → goodFlight f n (six u) (six d) .downs ≡ f .downs
+  unfolding goodFlight
+  good-downs-kept e = rw e
+
+  -- "for a difference TOF_DIFF = AVGUP − AVGDN"
+  pub good-difference :
+      f .up ≡ true →
+      f .down ≡ true →
+      length u ≤ 6 →
+      length d ≤ 6 →
+      goodFlight f n (six u) (six d) .difference
+      ≡ differenceWord (record { 0 = sum u / n }) (record { 0 = sum d / n })
+  unfolding goodFlight goodDifference average
+  good-difference e g h i = rw (e, g, six-total u h, six-total d i)
+
+  pub good-difference-kept :
+      (f .up ≡ false) ⊎ (f .down ≡ false) → goodFlight f n (six u) (six d) .difference ≡ f .difference
+  unfolding goodFlight goodDifference
+  good-difference-kept = ⊎-elim (λ e. rw e) (λ e. by-test (f .up) (λ g. rw (g, e)) (λ g. rw g))
+
+-- "A word late: the measurement fails, every HIT and AVG of the measured directions and, for a difference, TOF_DIFF become
+-- FFFFh": what the registers read
+module _ (m : Model) where
+  pub failed-ups :
+      m .flight .up ≡ true →
+      map (registerWord (flightFailed m)) (upwards 0xC5 14)
+      ≡ 0xFFFF ∷ 0xFFFF ∷ 0xFFFF ∷ 0xFFFF ∷ 0xFFFF ∷ 0xFFFF ∷ 0xFFFF ∷ 0xFFFF ∷ 0xFFFF ∷ 0xFFFF ∷ 0xFFFF ∷ 0xFFFF ∷ 0xFFFF ∷ 0xFFFF ∷ []
+  unfolding registerWord flightWord half flightFailed lostFlight lost
+  failed-ups e = rw e
+
+  pub failed-downs :
+      m .flight .down ≡ true →
+      map (registerWord (flightFailed m)) (upwards 0xD4 14)
+      ≡ 0xFFFF ∷ 0xFFFF ∷ 0xFFFF ∷ 0xFFFF ∷ 0xFFFF ∷ 0xFFFF ∷ 0xFFFF ∷ 0xFFFF ∷ 0xFFFF ∷ 0xFFFF ∷ 0xFFFF ∷ 0xFFFF ∷ 0xFFFF ∷ 0xFFFF ∷ []
+  unfolding registerWord flightWord half flightFailed lostFlight lost
+  failed-downs e = rw e
+
+  pub failed-difference :
+      m .flight .up ≡ true →
+      m .flight .down ≡ true →
+      map (registerWord (flightFailed m)) (0xE2 ∷ 0xE3 ∷ []) ≡ 0xFFFF ∷ 0xFFFF ∷ []
+  unfolding registerWord flightWord half flightFailed lostFlight lostDifference
+  failed-difference e g = rw (e, g)
+
+  pub failed-ups-kept : m .flight .up ≡ false → flightFailed m .flight .ups ≡ m .flight .ups
+  unfolding flightFailed lostFlight
+  failed-ups-kept e = rw e
+
+  pub failed-downs-kept : m .flight .down ≡ false → flightFailed m .flight .downs ≡ m .flight .downs
+  unfolding flightFailed lostFlight
+  failed-downs-kept e = rw e
+
+  pub failed-difference-kept :
+      (m .flight .up ≡ false) ⊎ (m .flight .down ≡ false) →
+      flightFailed m .flight .difference ≡ m .flight .difference
+  unfolding flightFailed lostFlight lostDifference
+  failed-difference-kept = ⊎-elim (λ e. rw e) (λ e. by-test (m .flight .up) (λ g. rw (g, e)) (λ g. rw g))
+
+-- "An open port reads FFFFh FFFFh, the others their words"
+port-at : (limit : Quanta) (w : List ℕ) (i : ℕ) → i < 4 → getD (portPairs limit w) i 0 ≡ portPair limit (getD w i 0)
+unfolding portPairs
+port-at limit w zero h = refl
+port-at limit w (suc zero) h = refl
+port-at limit w (suc (suc zero)) h = refl
+port-at limit w (suc (suc (suc zero))) h = refl
+port-at limit w (suc (suc (suc (suc i)))) h = absurd (omega arith)
+
+module _ (m : Model) (limit : Quanta) (w : List ℕ) (i : ℕ) (h : i < 4) where
+  pub open-port :
+      limit .0 ≤ getD w i 0 → getD (temperatureFailed m limit (four w) .temperature .ports) i 0 ≡ 0xFFFFFFFF
+  unfolding temperatureFailed portPair
+  open-port l = rw (port-at limit (four w) i h, four-means w i h, le-leb (limit .0) (getD w i 0) l)
+
+  pub whole-port :
+      getD w i 0 < limit .0 → getD (temperatureFailed m limit (four w) .temperature .ports) i 0 ≡ getD w i 0
+  unfolding temperatureFailed portPair
+  whole-port l = rw (port-at limit (four w) i h, four-means w i h, lt-leb (limit .0) (getD w i 0) l)
+
+  pub good-port : getD (temperatureGood m (four w) .temperature .ports) i 0 ≡ getD w i 0
+  unfolding temperatureGood
+  good-port = four-means w i h

@@ -1,0 +1,226 @@
+-- What the definitions that claim and machine share mean, in plain arithmetic.
+use Prim.Native.Nat.{ℕ, _+_, _-_, _≤_, _<_}
+use native.Mathlib.Omega.{arith}
+use mathlib.Core.Bool.{Bool, true, false}
+use mathlib.Core.List.{List, [], _∷_, map}
+use mathlib.Core.Logic.{_↔_, _⊎_, inl, inr, ⊎-elim}
+use mathlib.Core.Path.{_≡_, refl}
+use lib.Dec.{ltb, leb}
+use borrow.Author.Tests.{leb-true, leb-false, lt-ltb, le-ltb, le-leb, lt-leb}
+use Rattle.unit.specs.Choice.{pick, either}
+use Rattle.unit.specs.Cases.{by-test, by-ltb, by-eqb, holds, fails}
+use Rattle.unit.specs.declared.Ticks.{Ticks}
+use Rattle.register.specs.Setup.{flightUnset, temperatureUnset, eventUnset}
+use Rattle.device.specs.declared.Schedule.{Schedule}
+use Rattle.device.specs.declared.Model.{Model}
+use Rattle.device.specs.Event.{awaits, inEvent, begins, single, eventStart, settle}
+use Rattle.device.specs.Event.{tickSchedule, leftAfter, waitAfter, startedAfter}
+use Rattle.device.specs.Model.{kindBusy, busy}
+use Rattle.device.specs.Bus.{mustBeIdle, startsFlight, startsTemperature, isEvent, commandBusy, notReady}
+use Rattle.device.specs.Bus.{flightSideUnset, temperatureSideUnset, eventSideUnset, commandUnset}
+
+-- "while a measurement is awaited or an event runs": ticks are left to the awaited one, or fewer are settled than planned
+pub kind-busy-means : (k : Schedule) → (kindBusy k ≡ true) ↔ ((0 < k .left .0) ⊎ (k .settled < k .planned))
+unfolding kindBusy awaits inEvent
+kind-busy-means k =
+    by-ltb 0 (k .left .0)
+    (λ h e. rw e (holds (inl h)))
+    (λ h e. by-ltb (k .settled) (k .planned)
+    (λ i f. rw (e, f) (holds (inr i)))
+    (λ i f. rw (e, f) (fails false (⊎-elim (λ x. omega arith) (λ x. omega arith)))))
+
+pub busy-means :
+    (m : Model) →
+    (busy m ≡ true)
+    ↔ ((0 < m .flight .schedule .left .0)
+    ⊎ (m .flight .schedule .settled < m .flight .schedule .planned)
+    ⊎ (0 < m .temperature .schedule .left .0)
+    ⊎ (m .temperature .schedule .settled < m .temperature .schedule .planned))
+unfolding busy kindBusy awaits inEvent
+busy-means m =
+    by-ltb 0 (m .flight .schedule .left .0)
+    (λ h e. rw e (holds (inl h)))
+    (λ h e. by-ltb (m .flight .schedule .settled) (m .flight .schedule .planned)
+    (λ i f. rw (e, f) (holds (inr (inl i))))
+    (λ i f. by-ltb 0 (m .temperature .schedule .left .0)
+    (λ j g. rw (e, f, g) (holds (inr (inr (inl j)))))
+    (λ j g. by-ltb (m .temperature .schedule .settled) (m .temperature .schedule .planned)
+    (λ l t. rw (e, f, g, t) (holds (inr (inr (inr l)))))
+    (λ l t. rw (e, f, g, t) (fails false
+    (⊎-elim (λ x. omega arith) (⊎-elim (λ x. omega arith) (⊎-elim (λ x. omega arith) (λ x. omega arith)))))))))
+
+-- "a command but HALT and Reset"
+pub idle-means : (op : ℕ) → (mustBeIdle op ≡ false) ↔ ((op ≡ 4) ⊎ (op ≡ 10))
+unfolding mustBeIdle
+idle-means op =
+    by-eqb op 4
+    (λ h e. rw e (holds (inl h)))
+    (λ n e. by-eqb op 10
+    (λ h f. rw (e, f) (holds (inr h)))
+    (λ o f. rw (e, f) (fails true (⊎-elim n o))))
+
+-- "commands 00h to 05h and 07h to 0Ah"
+abbrev pub commands : List ℕ
+commands = 0 ∷ 1 ∷ 2 ∷ 3 ∷ 4 ∷ 5 ∷ 7 ∷ 8 ∷ 9 ∷ 10 ∷ []
+
+-- "00h to 03h, 07h to 09h before Initialize"
+pub before-initialize :
+    (m : Model) →
+    m .ready ≡ false →
+    map (notReady m) commands
+    ≡ true ∷ true ∷ true ∷ true ∷ false ∷ false ∷ true ∷ true ∷ true ∷ false ∷ []
+unfolding notReady startsFlight startsTemperature
+before-initialize m e = rw e
+
+pub after-initialize : (m : Model) (op : ℕ) → m .ready ≡ true → notReady m op ≡ false
+unfolding notReady
+after-initialize m op e = rw e
+
+-- "TOF_Up (00h), TOF_Down (01h), TOF_Diff (02h) start a flight measurement, Temperature (03h) a temperature one"; "07h
+-- runs both kinds, 08h differences, 09h temperatures."
+pub starts-flight :
+    map startsFlight commands
+    ≡ true ∷ true ∷ true ∷ false ∷ false ∷ false ∷ true ∷ true ∷ false ∷ false ∷ []
+unfolding startsFlight
+starts-flight = refl
+
+pub starts-temperature :
+    map startsTemperature commands
+    ≡ false ∷ false ∷ false ∷ true ∷ false ∷ false ∷ true ∷ false ∷ true ∷ false ∷ []
+unfolding startsTemperature
+starts-temperature = refl
+
+pub event-means : (op : ℕ) → (isEvent op ≡ true) ↔ ((7 ≤ op) × (op ≤ 9))
+unfolding isEvent
+event-means op =
+    by-ltb op 7
+    (λ h e. rw e (fails false (λ x. omega arith)))
+    (λ h e. by-ltb 9 op
+    (λ i f. rw (e, f) (fails false (λ x. omega arith)))
+    (λ i f. rw (e, f) (holds (omega arith))))
+
+-- "busy: a write, or a command but HALT and Reset, while a measurement is awaited or an event runs"
+pub command-busy-means :
+    (m : Model) (op : ℕ) → (commandBusy m op ≡ true) ↔ ((busy m ≡ true) × (¬ (op ≡ 4)) × (¬ (op ≡ 10)))
+unfolding commandBusy mustBeIdle
+command-busy-means m op =
+    by-eqb op 4
+    (λ h e. rw e (fails false (λ x. x .1 h)))
+    (λ h e. by-eqb op 10
+    (λ i f. rw (e, f) (fails false (λ x. x .2 i)))
+    (λ i f. rw (e, f) (λ b. (b, h, i), λ x. x .0)))
+
+-- "Number 9: for flight, PL .. or DPL .. zero; for temperature, TP .. not 11b." "Number 9 also: ET_CONT .. or EOSC is 1; only
+-- the kinds run are judged for PL, DPL and TP.": command by command
+pub unset-means :
+    (m : Model) (f t e : Bool) →
+    flightUnset (m .setup) ≡ f →
+    temperatureUnset (m .setup) ≡ t →
+    eventUnset (m .setup) ≡ e →
+    map (commandUnset m) commands
+    ≡ f ∷ f ∷ f ∷ t ∷ false ∷ false ∷ either e (either f t) ∷ either e f ∷ either e t ∷ false ∷ []
+unfolding commandUnset eventSideUnset flightSideUnset temperatureSideUnset startsFlight startsTemperature isEvent
+unset-means m f t e x y z = rw (x, y, z) (computed f t e)
+  where
+    computed :
+        (f t e : Bool) →
+        pick f true false ∷
+        pick f true false ∷
+        pick f true false ∷
+        t ∷
+        false ∷
+        false ∷
+        pick e true (pick f true t) ∷
+        pick e true (pick f true false) ∷
+        pick e true t ∷
+        false ∷
+        []
+        ≡ f ∷ f ∷ f ∷ t ∷ false ∷ false ∷ either e (either f t) ∷ either e f ∷ either e t ∷ false ∷ []
+    computed true t true = refl
+    computed true t false = refl
+    computed false t true = refl
+    computed false t false = refl
+
+-- A measurement starts, and an event: "A kind is awaited from its start"; 8,192 ticks are left to it. "Acceptance zeroes cycle
+-- counts"
+pub start-means :
+    (p : Ticks) (n : ℕ) →
+    (eventStart p n .left .0 ≡ 8192) ×
+    (eventStart p n .wait ≡ p) ×
+    (eventStart p n .period ≡ p) ×
+    (eventStart p n .planned ≡ n) ×
+    (eventStart p n .started ≡ 1) ×
+    (eventStart p n .settled ≡ 0) ×
+    (eventStart p n .good ≡ 0)
+unfolding eventStart
+start-means p n = (refl, refl, refl, refl, refl, refl, refl)
+
+pub single-means :
+    (k : Schedule) →
+    (single k .left .0 ≡ 8192) ×
+    (single k .planned ≡ k .planned) ×
+    (single k .started ≡ k .started) ×
+    (single k .settled ≡ k .settled) ×
+    (single k .good ≡ k .good)
+unfolding single
+single-means k = (refl, refl, refl, refl, refl)
+
+-- A tick starts one where one is left to start and its time has come.
+pub begins-means : (k : Schedule) → (begins k ≡ true) ↔ ((k .started < k .planned) × (k .wait .0 ≤ 1))
+unfolding begins
+begins-means k =
+    by-ltb (k .started) (k .planned)
+    (λ h e. by-test (leb (k .wait .0) 1)
+    (λ f. rw (e, f) (holds (h, leb-true (k .wait .0) 1 f)))
+    (λ f. let l : 1 < k .wait .0 = leb-false (k .wait .0) 1 f in rw (e, f) (fails false (λ x. omega arith))))
+    (λ h e. rw e (fails false (λ x. omega arith)))
+
+-- "A good measurement of an event adds one to its count, a single one none"; "A measurement is settled when it is good or
+-- failed."; "A kind is awaited .. until an accepted delivery"
+pub settle-event :
+    (k : Schedule) (good : Bool) →
+    k .settled < k .planned →
+    (settle k good .left .0 ≡ 0) ×
+    (settle k good .settled ≡ k .settled + 1) ×
+    (settle k good .good ≡ k .good + pick good 1 0)
+unfolding settle
+settle-event k true h = rw (lt-ltb (k .settled) (k .planned) h) (refl, refl, refl)
+settle-event k false h = rw (lt-ltb (k .settled) (k .planned) h) (refl, refl, omega arith)
+
+pub settle-single :
+    (k : Schedule) (good : Bool) →
+    k .planned ≤ k .settled →
+    (settle k good .left .0 ≡ 0) × (settle k good .settled ≡ k .settled) × (settle k good .good ≡ k .good)
+unfolding settle
+settle-single k good h = rw (le-ltb (k .settled) (k .planned) h) (refl, refl, refl)
+
+-- One tick of a schedule: a start is awaited for 8,192 ticks, else one tick fewer is left; the next start comes one period
+-- after the last; the plan and the count of good ones stay.
+pub left-started : (k : Schedule) → begins k ≡ true → tickSchedule k .left .0 ≡ 8192
+unfolding tickSchedule leftAfter
+left-started k e = rw e
+
+pub left-fewer : (k : Schedule) → begins k ≡ false → tickSchedule k .left .0 ≡ k .left .0 - 1
+unfolding tickSchedule leftAfter
+left-fewer k e = rw e (by-ltb 0 (k .left .0) (λ h f. rw f) (λ h f. rw f (omega arith)))
+
+pub wait-fewer : (k : Schedule) → 1 < k .wait .0 → tickSchedule k .wait .0 ≡ k .wait .0 - 1
+unfolding tickSchedule waitAfter
+wait-fewer k h = rw (lt-leb (k .wait .0) 1 h)
+
+pub wait-again : (k : Schedule) → k .wait .0 ≤ 1 → tickSchedule k .wait .0 ≡ k .period .0
+unfolding tickSchedule waitAfter
+wait-again k h = rw (le-leb (k .wait .0) 1 h)
+
+pub started-means : (k : Schedule) → tickSchedule k .started ≡ k .started + pick (begins k) 1 0
+unfolding tickSchedule startedAfter begins
+started-means k =
+    by-test (ltb (k .started) (k .planned))
+    (λ e. by-test (leb (k .wait .0) 1) (λ f. rw (e, f)) (λ f. rw (e, f) (omega arith)))
+    (λ e. rw e (omega arith))
+
+pub tick-keeps :
+    (k : Schedule) →
+    (tickSchedule k .period ≡ k .period) × (tickSchedule k .planned ≡ k .planned) × (tickSchedule k .good ≡ k .good)
+unfolding tickSchedule
+tick-keeps k = (refl, refl, refl)

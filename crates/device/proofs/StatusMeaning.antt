@@ -1,0 +1,300 @@
+-- What the status bits mean: their places, what sets them, and the INT answer.
+use Prim.Native.Nat.{ℕ, _+_, _*_, _/_, _%_, _<_, max}
+use native.Mathlib.Omega.{arith}
+use mathlib.Core.Bool.{Bool, true, false}
+use mathlib.Core.Logic.{_↔_}
+use mathlib.Core.Path.{_≡_, refl}
+use lib.Dec.{ltb}
+use Rattle.unit.specs.Choice.{pick, either}
+use Rattle.unit.specs.Cases.{by-test, by-ltb, by-eqb, holds, fails}
+use Rattle.register.specs.Setup.{wordOf, interruptEnabled}
+use Rattle.device.specs.declared.Schedule.{Schedule}
+use Rattle.device.specs.declared.Status.{Status}
+use Rattle.device.specs.declared.Model.{Model}
+use Rattle.device.specs.declared.Told.the-variants.{Value}
+use Rattle.device.specs.Event.{inEvent, lastOne, halted}
+use Rattle.device.specs.Status.{noBits, joined, statusWord, shown, flightBits, temperatureBits, initBit, haltBit}
+use Rattle.device.specs.Model.{sound}
+use Rattle.device.specs.Bus.{initialised, haltedModel}
+use Rattle.device.specs.Call.{interruptTold}
+
+-- 1 where the bit is set
+abbrev pub bit : Bool → ℕ
+bit b = pick b 1 0
+
+bit-below : (b : Bool) → bit b < 2
+bit-below true = omega arith
+bit-below false = omega arith
+
+weighed : (b : Bool) (v : ℕ) → pick b v 0 ≡ v * bit b
+weighed true v = omega arith
+weighed false v = omega arith
+
+-- every bit in its place, and no other
+pub record Places (s : Status) (w : ℕ) : Type 0 where
+  pub timeout : w / 32768 % 2 ≡ bit (s .timeout)
+  pub alarm : w / 16384 % 2 ≡ bit (s .alarm)
+  pub tof : w / 4096 % 2 ≡ bit (s .tof)
+  pub te : w / 2048 % 2 ≡ bit (s .te)
+  pub tofevtmg : w / 512 % 2 ≡ bit (s .tofevtmg)
+  pub tempevtmg : w / 256 % 2 ≡ bit (s .tempevtmg)
+  pub halt : w / 32 % 2 ≡ bit (s .halt)
+  pub init : w / 8 % 2 ≡ bit (s .init)
+  pub por : w / 4 % 2 ≡ bit (s .por)
+  pub others :
+      (w / 8192 % 2 ≡ 0) × (w / 1024 % 2 ≡ 0) × (w / 64 % 4 ≡ 0) × (w / 16 % 2 ≡ 0) × (w % 4 ≡ 0) × (w < 65536)
+
+status-sum :
+    (s : Status) →
+    statusWord s
+    ≡ 32768 * bit (s .timeout) + 16384 * bit (s .alarm) + 4096 * bit (s .tof) + 2048 * bit (s .te) +
+    512 * bit (s .tofevtmg) +
+    256 * bit (s .tempevtmg) +
+    32 * bit (s .halt) +
+    8 * bit (s .init) +
+    4 * bit (s .por)
+unfolding statusWord
+status-sum s =
+    omega (
+      arith,
+      weighed (s .timeout) 0x8000,
+      weighed (s .alarm) 0x4000,
+      weighed (s .tof) 0x1000,
+      weighed (s .te) 0x0800,
+      weighed (s .tofevtmg) 0x0200,
+      weighed (s .tempevtmg) 0x0100,
+      weighed (s .halt) 0x0020,
+      weighed (s .init) 0x0008,
+      weighed (s .por) 0x0004,
+    )
+
+-- "Status bits: TO 15, AF 14, TOF 12, TE 11, TOF_EVTMG 9, TEMP_EVTMG 8, HALT 5, INIT 3, POR 2."
+pub status-means : (s : Status) → Places s (statusWord s)
+status-means s =
+    omega (
+      arith,
+      status-sum s,
+      bit-below (s .timeout),
+      bit-below (s .alarm),
+      bit-below (s .tof),
+      bit-below (s .te),
+      bit-below (s .tofevtmg),
+      bit-below (s .tempevtmg),
+      bit-below (s .halt),
+      bit-below (s .init),
+      bit-below (s .por),
+    )
+
+-- "The event ends when all are settled."
+pub event-runs-means : (k : Schedule) → (inEvent k ≡ true) ↔ (k .settled < k .planned)
+unfolding inEvent
+event-runs-means k =
+    by-ltb (k .settled) (k .planned)
+    (λ h e. rw e (holds h))
+    (λ h e. rw e (fails false (λ x. omega arith)))
+
+-- "Settling the N-th sets TOF_EVTMG or TEMP_EVTMG."
+pub last-means : (k : Schedule) → (lastOne k ≡ true) ↔ (k .settled + 1 ≡ k .planned)
+unfolding lastOne
+last-means k =
+    by-ltb (k .settled) (k .planned)
+    (λ h e. by-eqb (k .settled + 1) (k .planned)
+    (λ i f. rw (e, f) (holds i))
+    (λ i f. rw (e, f) (fails false i)))
+    (λ h e. rw e (fails false (λ x. omega arith)))
+
+-- What settling one sets, each bit; where none is settled, no bit. "A single one sets TOF or TE when delivered or failed.";
+-- "With CONT_INT .. each settled one sets TOF or TE"; "the measurement fails, .. TO is set".
+abbrev pub onlyBits : Bool → Bool → Bool → Bool → Bool → Status
+onlyBits timeout tof te tofevtmg tempevtmg =
+    record {
+      timeout = timeout;
+      alarm = false;
+      tof = tof;
+      te = te;
+      tofevtmg = tofevtmg;
+      tempevtmg = tempevtmg;
+      halt = false;
+      init = false;
+      por = false;
+    }
+
+module _ (k : Schedule) (each failed : Bool) where
+  pub flight-single : inEvent k ≡ false → flightBits k each true failed ≡ onlyBits failed true false (lastOne k) false
+  unfolding flightBits shown
+  flight-single e = rw e
+
+  pub flight-cycle : inEvent k ≡ true → flightBits k each true failed ≡ onlyBits failed each false (lastOne k) false
+  unfolding flightBits shown
+  flight-cycle e = rw e
+
+  pub flight-none : flightBits k each false failed ≡ onlyBits false false false false false
+  unfolding flightBits noBits
+  flight-none = refl
+
+  pub temperature-single :
+      inEvent k ≡ false → temperatureBits k each true failed ≡ onlyBits failed false true false (lastOne k)
+  unfolding temperatureBits shown
+  temperature-single e = rw e
+
+  pub temperature-cycle :
+      inEvent k ≡ true → temperatureBits k each true failed ≡ onlyBits failed false each false (lastOne k)
+  unfolding temperatureBits shown
+  temperature-cycle e = rw e
+
+  pub temperature-none : temperatureBits k each false failed ≡ onlyBits false false false false false
+  unfolding temperatureBits noBits
+  temperature-none = refl
+
+-- a single one is never the N-th
+pub single-not-last : (k : Schedule) → inEvent k ≡ false → lastOne k ≡ false
+unfolding inEvent lastOne
+single-not-last k =
+    by-test (ltb (k .settled) (k .planned)) (λ e. rw e (λ f. cc)) (λ e. rw e (λ f. refl))
+
+pub kept : (b : Bool) → either b false ≡ b
+kept true = refl
+kept false = refl
+
+turned : (b : Bool) → either b true ≡ true
+turned true = refl
+turned false = refl
+
+-- A bit once set stays set until a read clears it, and none is set that neither side has.
+both-bits : (a b : Bool) → bit (either a b) ≡ max (bit a) (bit b)
+both-bits true true = refl
+both-bits true false = refl
+both-bits false true = refl
+both-bits false false = refl
+
+pub record Joined (s t u : Status) : Type 0 where
+  pub timeout : bit (u .timeout) ≡ max (bit (s .timeout)) (bit (t .timeout))
+  pub alarm : bit (u .alarm) ≡ max (bit (s .alarm)) (bit (t .alarm))
+  pub tof : bit (u .tof) ≡ max (bit (s .tof)) (bit (t .tof))
+  pub te : bit (u .te) ≡ max (bit (s .te)) (bit (t .te))
+  pub tofevtmg : bit (u .tofevtmg) ≡ max (bit (s .tofevtmg)) (bit (t .tofevtmg))
+  pub tempevtmg : bit (u .tempevtmg) ≡ max (bit (s .tempevtmg)) (bit (t .tempevtmg))
+  pub halt : bit (u .halt) ≡ max (bit (s .halt)) (bit (t .halt))
+  pub init : bit (u .init) ≡ max (bit (s .init)) (bit (t .init))
+  pub por : bit (u .por) ≡ max (bit (s .por)) (bit (t .por))
+
+pub joined-means : (s t : Status) → Joined s t (joined s t)
+unfolding joined
+joined-means s t =
+    record {
+      timeout = both-bits (s .timeout) (t .timeout);
+      alarm = both-bits (s .alarm) (t .alarm);
+      tof = both-bits (s .tof) (t .tof);
+      te = both-bits (s .te) (t .te);
+      tofevtmg = both-bits (s .tofevtmg) (t .tofevtmg);
+      tempevtmg = both-bits (s .tempevtmg) (t .tempevtmg);
+      halt = both-bits (s .halt) (t .halt);
+      init = both-bits (s .init) (t .init);
+      por = both-bits (s .por) (t .por);
+    }
+
+-- "05h Initialize makes the model initialised, until a Reset, and sets INIT."
+pub initialised-means :
+    (m : Model) →
+    initialised m
+    ≡ record {
+      clock = m .clock;
+      setup = m .setup;
+      status =
+          record {
+            timeout = m .status .timeout;
+            alarm = m .status .alarm;
+            tof = m .status .tof;
+            te = m .status .te;
+            tofevtmg = m .status .tofevtmg;
+            tempevtmg = m .status .tempevtmg;
+            halt = m .status .halt;
+            init = true;
+            por = m .status .por;
+          };
+      ready = true;
+      flight = m .flight;
+      temperature = m .temperature;
+    }
+unfolding initialised joined initBit
+initialised-means m = simp (kept, turned)
+
+-- "0Ah HALT drops awaited measurements, ends the event, sets HALT": every other bit, result, count and sum stays
+pub halted-status :
+    (m : Model) →
+    haltedModel m .status
+    ≡ record {
+      timeout = m .status .timeout;
+      alarm = m .status .alarm;
+      tof = m .status .tof;
+      te = m .status .te;
+      tofevtmg = m .status .tofevtmg;
+      tempevtmg = m .status .tempevtmg;
+      halt = true;
+      init = m .status .init;
+      por = m .status .por;
+    }
+unfolding haltedModel joined haltBit
+halted-status m = simp (kept, turned)
+
+pub record HaltKeeps (m n : Model) : Type 0 where
+  pub clock : n .clock ≡ m .clock
+  pub setup : n .setup ≡ m .setup
+  pub ready : n .ready ≡ m .ready
+  pub ups : n .flight .ups ≡ m .flight .ups
+  pub downs : n .flight .downs ≡ m .flight .downs
+  pub difference : n .flight .difference ≡ m .flight .difference
+  pub sum : n .flight .sum ≡ m .flight .sum
+  pub differences : n .flight .schedule .good ≡ m .flight .schedule .good
+  pub ports : n .temperature .ports ≡ m .temperature .ports
+  pub sums : n .temperature .sums ≡ m .temperature .sums
+  pub temperatures : n .temperature .schedule .good ≡ m .temperature .schedule .good
+
+pub halt-keeps : (m : Model) → HaltKeeps m (haltedModel m)
+unfolding haltedModel halted
+halt-keeps m =
+    record {
+      clock = refl;
+      setup = refl;
+      ready = refl;
+      ups = refl;
+      downs = refl;
+      difference = refl;
+      sum = refl;
+      differences = refl;
+      ports = refl;
+      sums = refl;
+      temperatures = refl;
+    }
+
+-- "The INT answer is yes exactly when INT_EN (bit 9 of 42h) is 1 and the status is not 0."
+pub interrupt-yes :
+    (m : Model) →
+    (interruptTold m ≡ Value 1)
+    ↔ ((sound m ≡ true) × (wordOf (m .setup) 0x42 / 512 % 2 ≡ 1) × (¬ (statusWord (m .status) ≡ 0)))
+unfolding interruptTold interruptEnabled
+interrupt-yes m =
+    by-test (sound m)
+    (λ s. rw s
+    (by-eqb (wordOf (m .setup) 0x42 / 512 % 2) 1
+    (λ h e. by-eqb (statusWord (m .status)) 0
+    (λ i f. rw (e, f) (λ t. let z : _≡_ {A = ℕ} 0 1 = cc in absurd (omega arith), λ x. absurd (x .2 i)))
+    (λ i f. rw (e, f) (λ t. (refl, h, i), λ x. refl)))
+    (λ h e. rw e (λ t. let z : _≡_ {A = ℕ} 0 1 = cc in absurd (omega arith), λ x. absurd (h (x .1))))))
+    (λ s. rw s (
+      λ t. let z : _≡_ {A = ℕ} 0 1 = cc in absurd (omega arith),
+      λ x. let z : _≡_ {A = ℕ} 0 1 = cc in absurd (omega arith),
+    ))
+
+pub interrupt-no :
+    (m : Model) →
+    sound m ≡ true →
+    (interruptTold m ≡ Value 0) ↔ (¬ ((wordOf (m .setup) 0x42 / 512 % 2 ≡ 1) × (¬ (statusWord (m .status) ≡ 0))))
+unfolding interruptTold interruptEnabled
+interrupt-no m s =
+    rw s
+    (by-eqb (wordOf (m .setup) 0x42 / 512 % 2) 1
+    (λ h e. by-eqb (statusWord (m .status)) 0
+    (λ i f. rw (e, f) (λ t x. x .1 i, λ n. refl))
+    (λ i f. rw (e, f) (λ t. let z : _≡_ {A = ℕ} 0 1 = cc in absurd (omega arith), λ n. absurd (n (h, i)))))
+    (λ h e. rw e (λ t x. h (x .0), λ n. refl)))

@@ -1,0 +1,88 @@
+// What a session counts.
+use crate::Session;
+use device::Answer;
+use device::Model;
+use device::Reply;
+
+pub fn fresh_session() -> Session {
+    let model = converter::fresh();
+    Session {
+        model,
+        lines: 0,
+        calls: 0,
+        refused: 0,
+        bad: 0,
+        differ: 0,
+        held: 0,
+        more: true,
+    }
+}
+
+// n + k, or the largest number that fits.
+pub fn more(n: u64, k: u64) -> u64 {
+    if n <= u64::MAX - k { n + k } else { u64::MAX }
+}
+
+// 1 for a refusal.
+pub fn refusals(answer: Answer) -> u64 {
+    match answer {
+        Answer::Refused(_) => 1,
+        Answer::Accepted(_, _) => 0,
+        Answer::Ticked(_, _) => 0,
+        Answer::Good => 0,
+        Answer::Failed => 0,
+    }
+}
+
+// After a call with this reply.
+pub fn after_call(s: Session, reply: Reply) -> Session {
+    let mut t = s;
+    let model = reply.model;
+    t.model = model;
+    t.calls = more(s.calls, 1);
+    let answer = reply.answer;
+    t.refused = more(s.refused, refusals(answer));
+    t
+}
+
+// On another model.
+pub fn with_model(s: Session, model: Model) -> Session {
+    let mut t = s;
+    t.model = model;
+    t
+}
+
+// With one more line read.
+pub fn with_line(s: Session) -> Session {
+    let mut t = s;
+    t.lines = more(s.lines, 1);
+    t
+}
+
+// With one more bad line.
+pub fn with_bad(s: Session) -> Session {
+    let mut t = s;
+    t.bad = more(s.bad, 1);
+    t
+}
+
+// With n more words that differ.
+pub fn with_differing(s: Session, n: u64) -> Session {
+    let mut t = s;
+    t.differ = more(s.differ, n);
+    t
+}
+
+// With n bytes of the next line held.
+pub fn with_held(s: Session, n: usize) -> Session {
+    let mut t = s;
+    t.held = n;
+    t
+}
+
+// At the end of the input.
+pub fn ended(s: Session) -> Session {
+    let mut t = s;
+    t.more = false;
+    t
+}

@@ -1,0 +1,65 @@
+// The lines `regs`, `int` and `awaited`.
+use crate::output::write_line;
+use device::Model;
+use device::Told;
+
+// The number told, or 0.
+pub fn value(told: Told) -> u32 {
+    match told {
+        Told::Value(v) => v,
+        Told::Refused(_) => 0,
+    }
+}
+
+// The word that a read of one register would give.
+pub fn word(m: Model, a: u32) -> u32 {
+    value(converter::peek(m, a))
+}
+
+// Ten lines of eight registers.
+pub fn write_registers(m: Model) {
+    let mut a = 176;
+    while a < 256 {
+        write_row(m, a);
+        a += 8;
+    }
+}
+
+fn write_row(m: Model, a: u32) {
+    let mut out = [0u8; 64];
+    let start = numeral::put_hex(&mut out, 0, 2, a);
+    let end = put_row(&mut out, start, m, a);
+    write_line(&mut out, end);
+}
+
+// A blank and a word, for each of the eight registers from a on.
+fn put_row(out: &mut [u8], at: usize, m: Model, a: u32) -> usize {
+    let mut place = at;
+    let mut i = 0;
+    while i < 8 {
+        let blank = numeral::put_text(out, place, b" ");
+        place = numeral::put_hex(out, blank, 4, word(m, std::num::wrapping_add_u32(a, i)));
+        i += 1;
+    }
+    place
+}
+
+pub fn write_interrupt(m: Model) {
+    let mut out = [0u8; 16];
+    if value(converter::interrupt_pending(m)) == 0 {
+        let n = numeral::put_text(&mut out, 0, b"int no");
+        write_line(&mut out, n);
+    } else {
+        let n = numeral::put_text(&mut out, 0, b"int yes");
+        write_line(&mut out, n);
+    }
+}
+
+pub fn write_awaited(m: Model) {
+    let mut out = [0u8; 32];
+    let a = numeral::put_text(&mut out, 0, b"awaited ");
+    let b = numeral::put_decimal(&mut out, a, value(converter::flight_awaited(m)) as u64);
+    let c = numeral::put_text(&mut out, b, b" ");
+    let d = numeral::put_decimal(&mut out, c, value(converter::temperature_awaited(m)) as u64);
+    write_line(&mut out, d);
+}

@@ -1,0 +1,102 @@
+// The lines `bus`.
+use crate::Session;
+use crate::counts::after_call;
+use crate::output::first_bytes;
+use crate::output::put_refusal;
+use crate::output::write_line;
+use device::Answer;
+
+// A transaction of the low bytes of these words, with an output buffer of `size` bytes.
+pub fn bus(s: Session, words: &[u32], size: usize) -> Session {
+    let mut frame = [0u8; 200];
+    let n = numeral::put_low_bytes(&mut frame, 0, words);
+    let mut buffer = [238u8; 200];
+    bus_sized(s, first_bytes(&frame, n), &mut buffer, size)
+}
+
+// With the first `size` bytes of a buffer; all of it where it has fewer.
+fn bus_sized(s: Session, frame: &[u8], buffer: &mut [u8], size: usize) -> Session {
+    if size <= buffer.len() {
+        bus_call(s, frame, &mut buffer[..size])
+    } else {
+        bus_call(s, frame, buffer)
+    }
+}
+
+fn bus_call(s: Session, frame: &[u8], buffer: &mut [u8]) -> Session {
+    let model = s.model;
+    let reply = converter::transaction(model, frame, buffer);
+    let answer = reply.answer;
+    write_bus(answer, buffer);
+    after_call(s, reply)
+}
+
+// The output buffer of a frame whose line does not give it.
+pub fn buffer_size(words: &[u32]) -> usize {
+    let n = words.len();
+    if n == 0 {
+        return 0;
+    }
+    let first = words[0];
+    if first == 0x90 {
+        return 2;
+    }
+    if first < 0xb0 {
+        return 0;
+    }
+    (n - 1) / 2 * 2
+}
+
+fn write_bus(answer: Answer, buffer: &[u8]) {
+    let mut out = [0u8; 512];
+    let a = numeral::put_text(&mut out, 0, b"bus");
+    let b = put_answer(&mut out, a, answer);
+    let c = put_buffer(&mut out, b, buffer);
+    write_line(&mut out, c);
+}
+
+fn put_answer(out: &mut [u8], at: usize, answer: Answer) -> usize {
+    match answer {
+        Answer::Refused(number) => put_refusal(out, at, number),
+        Answer::Accepted(flight, temperature) => put_started(out, at, flight, temperature),
+        Answer::Ticked(_, _) => at,
+        Answer::Good => at,
+        Answer::Failed => at,
+    }
+}
+
+fn put_started(out: &mut [u8], at: usize, flight: bool, temperature: bool) -> usize {
+    if flight {
+        if temperature {
+            return numeral::put_text(out, at, b" ok flight+temperature");
+        }
+        return numeral::put_text(out, at, b" ok flight");
+    }
+    if temperature {
+        return numeral::put_text(out, at, b" ok temperature");
+    }
+    numeral::put_text(out, at, b" ok -")
+}
+
+// ` out ` and the buffer, where it has bytes.
+fn put_buffer(out: &mut [u8], at: usize, buffer: &[u8]) -> usize {
+    if buffer.len() == 0 {
+        return at;
+    }
+    let start = numeral::put_text(out, at, b" out ");
+    put_bytes(out, start, buffer)
+}
+
+fn put_bytes(out: &mut [u8], at: usize, bytes: &[u8]) -> usize {
+    let mut place = at;
+    let mut i = 0;
+    while i < bytes.len() {
+        place = numeral::put_hex(out, place, 2, wide(bytes[i]));
+        i += 1;
+    }
+    place
+}
+
+fn wide(x: u8) -> u32 {
+    x as u32
+}

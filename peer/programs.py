@@ -56,9 +56,18 @@ def make_items(seed, size):
 
 
 def stored_items():
-    """The paths of the repository's items."""
+    """The paths of the repository's items: the examples, and the input of each stored replay."""
     found = []
     for folder, folders, files in os.walk(ROOT):
         folders[:] = [name for name in folders if name != "target" and not name.startswith(".")]
         found += [os.path.join(folder, name) for name in files if name.endswith(".item")]
-    return sorted(found)
+    crates = os.path.join(ROOT, "crates")
+    for name in ("replay_all", "replay_bad"):
+        found.append(os.path.join(crates, name, "stdin"))
+    return sorted(path for path in found if os.path.exists(path))
+
+
+def stored_answers(path):
+    """Where the stored answers to an item are."""
+    folder, name = os.path.split(path)
+    return os.path.join(folder, "stdout") if name == "stdin" else path[: -len(".item")] + ".expected"

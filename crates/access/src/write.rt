@@ -45,10 +45,8 @@ fn setup_after(setup: [u16; 16], words: &[u8], op: u32, n: usize) -> [u16; 16]
     let mut i: usize = 0;
     while i < n {
         let w = frame::word(words, i) as u16;
-        let a = op as usize + i;
-        if 0x34 <= a {
-            s[a - 0x34] = w;
-        }
+        let next = with_word(s, op as usize + i, w);
+        s = next;
         i += 1;
     }
     s

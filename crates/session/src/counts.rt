@@ -1,4 +1,6 @@
 // What a session counts.
+ghost use mathlib.Core.Path.{_≡_};
+ghost use Prim.Native.Nat.{_+_, min};
 use crate::Session;
 use device::Answer;
 use device::Model;
@@ -21,7 +23,9 @@ pub fn fresh_session() -> Session {
 }
 
 // n + k, or the largest number that fits.
-pub fn more(n: u64, k: u64) -> u64 {
+pub fn more(n: u64, k: u64) -> u64
+    ensures { λ r. ⌜ r ≡ min (n + k) 18446744073709551615 ⌝ }
+{
     if n <= u64::MAX - k { n + k } else { u64::MAX }
 }
 

@@ -1,4 +1,6 @@
 // The input, line by line.
+ghost use Prim.Native.Nat.{_≤_};
+ghost use lib.ListN.{length};
 use crate::Session;
 use crate::counts::ended;
 use crate::counts::fresh_session;
@@ -58,7 +60,10 @@ fn feed(s: Session, part: &[u8], held: &mut [u8], answers: &mut [u8]) -> Session
 }
 
 // The place of the first line feed from `at` on, or the end.
-fn line_end(part: &[u8], at: usize) -> usize {
+fn line_end(part: &[u8], at: usize) -> usize
+    requires { ⌜ at ≤ length (now part) ⌝ }
+    ensures { λ r. ⌜ (at ≤ r) × (r ≤ length (now (part .entry))) ⌝ }
+{
     let mut i = at;
     while i < part.len() {
         if part[i] == 10 {

@@ -1,19 +1,28 @@
 // Bytes to standard output, and the texts that several answers share.
+ghost use mathlib.Core.Path.{_≡_};
+ghost use lib.ListN.{take, drop};
 use libc::STDOUT_FILENO;
 
 // The first n bytes of a buffer; all of it where it has fewer.
-pub fn first_bytes(bytes: &[u8], n: usize) -> &[u8] {
+pub fn first_bytes(bytes: &[u8], n: usize) -> &[u8]
+    ensures { λ r. ⌜ now r ≡ take n (now (bytes .entry)) ⌝ }
+{
     if n <= bytes.len() { &bytes[..n] } else { bytes }
 }
 
 // The first n words of a buffer; all of it where it has fewer.
-pub fn first_words(words: &[u32], n: usize) -> &[u32] {
+pub fn first_words(words: &[u32], n: usize) -> &[u32]
+    ensures { λ r. ⌜ now r ≡ take n (now (words .entry)) ⌝ }
+{
     if n <= words.len() { &words[..n] } else { words }
 }
 
-// The words from the place n on.
-pub fn words_from(words: &[u32], n: usize) -> &[u32] {
-    if n <= words.len() { &words[n..] } else { words }
+// The words from the place n on; none where it has fewer.
+pub fn words_from(words: &[u32], n: usize) -> &[u32]
+    ensures { λ r. ⌜ now r ≡ drop n (now (words .entry)) ⌝ }
+{
+    let end = words.len();
+    if n <= end { &words[n..] } else { &words[end..] }
 }
 
 // Answers that are not written yet may use this many places when another is begun. Behind them the

@@ -1,7 +1,6 @@
 // The lines `tick`.
 use crate::Session;
 use crate::counts::after_call;
-use crate::counts::with_model;
 use crate::output::add;
 use crate::output::make_room;
 use device::Answer;
@@ -11,11 +10,7 @@ use device::Report;
 // n single ticks.
 pub fn tick(s: Session, n: u32, answers: &mut [u8]) -> Session {
     let used = add_count(answers, s.used, n);
-    let t = run(s, used, n, answers);
-    let answer = Answer::Good;
-    let model = t.model;
-    let end = numeral::put_text(answers, t.used, b"\n");
-    after_call(t, Reply { answer, model }, end)
+    run(s, used, n, answers)
 }
 
 fn add_count(answers: &mut [u8], at: usize, n: u32) -> usize {
@@ -36,7 +31,9 @@ fn run(s: Session, at: usize, n: u32, answers: &mut [u8]) -> Session {
         let answer = reply.answer;
         used = add_reports(answers, used, answer, i);
     }
-    with_model(s, model, used)
+    let answer = Answer::Good;
+    let end = numeral::put_text(answers, used, b"\n");
+    after_call(s, Reply { answer, model }, end)
 }
 
 fn add_reports(answers: &mut [u8], at: usize, answer: Answer, i: u32) -> usize {

@@ -1,4 +1,6 @@
 // The lines `bus`.
+ghost use mathlib.Core.Path.{_≡_};
+ghost use Rattle.session.specs.Buffer.{bufferSize};
 use crate::Session;
 use crate::counts::after_call;
 use crate::output::add_line;
@@ -38,7 +40,9 @@ fn bus_call(s: Session, frame: &[u8], buffer: &mut [u8], answers: &mut [u8]) -> 
 }
 
 // The output buffer of a frame whose line does not give it.
-pub fn buffer_size(words: &[u32]) -> usize {
+pub fn buffer_size(words: &[u32]) -> usize
+    ensures { λ r. ⌜ r ≡ bufferSize (now (words .entry)) ⌝ }
+{
     let n = words.len();
     if n == 0 {
         return 0;

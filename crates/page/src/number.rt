@@ -38,7 +38,7 @@ fn clock_register(x: u8) -> u32 {
 }
 
 // The number that x stands for in a row with the word w. A capital after F is half the number of
-// its small letter, and so 0 where there is at most one.
+// its small letter, and so 0 where that is 0 or 1.
 pub fn number(m: Model, w: u32, x: u8) -> u32 {
     if x < b'G' {
         return bit(w, x);
@@ -60,7 +60,7 @@ fn bit(w: u32, x: u8) -> u32 {
     (w >> (x % 16 + 9)) % 2
 }
 
-// What an alarm of this mode looks at: anything, hours, both, minutes.
+// Whether an alarm of this mode looks at anything, at hours, at both, at minutes.
 fn alarm(mode: u32, x: u8) -> u32 {
     match x {
         b'a' => mode,
@@ -70,6 +70,7 @@ fn alarm(mode: u32, x: u8) -> u32 {
     }
 }
 
+// A field of the word; any other letter is the word itself.
 fn field(w: u32, x: u8) -> u32 {
     match x {
         b'k' => w / 256, // the high byte
@@ -100,7 +101,7 @@ fn hits(stop: u32) -> u32 {
     if 5 < stop { 6 } else { stop + 1 }
 }
 
-// Whether both bytes have bits.
+// Not 0 where both bytes have bits.
 fn both(w: u32) -> u32 {
     if w % 256 == 0 { 0 } else { w / 256 }
 }

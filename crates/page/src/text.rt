@@ -1,12 +1,13 @@
 // What the page says. Marks in the text:
 //
-//   #         the word of the next register from B0h on, in four digits
+//   #         the word of the next register, from B0h on, in four digits
 //   %x        the number that x stands for
 //   $x        a byte of the clock or the alarm, in two digits
 //   ^         the last two registers as a time
-//   [x..|..]  what stands before | where x is not 0, and else what stands after it, if anything
+//   [x..|..]  the first text where x is not 0, and else the second, which may be left out
 //
-// x is a letter, or a bit of the row's word by its number, 0 to F. The file `number` has them.
+// x is a letter, which the file `number` explains, or the number of a bit, 0 to F, of the row's
+// word. That is the word of the last #.
 pub const PAGE: [u8; 2945] = *b"\
 RTC AND WATCHDOG REGISTERS
 B0     Seconds                  #       $s.$S s

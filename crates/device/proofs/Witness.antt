@@ -23,7 +23,7 @@ use Rattle.device.specs.Bus.{temperatureSideUnset, eventSideUnset, comma
 use Rattle.device.specs.Bus.{eventTemperature, startedEvent, initialised, runModel}
 use Rattle.device.specs.Call.{Call, transaction, tick, accepted, verdict, firstOf, table, reply, replyBy}
 use Rattle.device.specs.Call.{noFrame, notCarried, wrongLength, pastRegisters, shortOutput, whileBusy, badCalendar}
-use Rattle.device.specs.Call.{notInitialised, badSetup, notAwaited, miscounted, acceptedAnswer, acceptedModel}
+use Rattle.device.specs.Call.{notInitialised, badSetup, notAwaited, miscounted, tooLong, acceptedAnswer, acceptedModel}
 use Rattle.device.specs.Claim.{Entry, after, log, isRefusal, isReading, onlyReads, command}
 
 -- PL and DPL, TP, Initialize
@@ -41,7 +41,7 @@ later = tick ∷ transaction (0xFE ∷ 0 ∷ 0 ∷ []) (0 ∷ 0 ∷ []) ∷ []
 pub events-accepted :
     map (λ (op : ℕ). verdict (after freshModel before) (command op [])) (7 ∷ 8 ∷ 9 ∷ [])
     ≡ accepted ∷ accepted ∷ accepted ∷ []
-unfolding after reply replyBy verdict firstOf table noFrame notCarried wrongLength pastRegisters shortOutput whileBusy badCalendar notInitialised badSetup notAwaited miscounted acceptedModel freshModel freshWith porBit noFlight noTemperature noSchedule start factory sound sumFits flightSound temperatureSound scheduleSound clockValid dateFits timeFits leap monthLength kindBusy busy awaits inEvent isCommand isWrite isRead notWhole pastEnd wordAt calendarWord word30 word31 word32 word33 bcd hundredthsOf minuteIn hourIn ticksIn clockFrom timeDigits digitsFit wordsValid alarmValid alarmWord covers written withWord setupAfter ticksAfter clockAfter writeInvalid writeModel mustBeIdle startsFlight startsTemperature isEvent commandBusy notReady flightSideUnset temperatureSideUnset eventSideUnset commandUnset flightUnset temperatureUnset eventUnset clockStands runModel initialised joined
+unfolding after reply replyBy verdict firstOf table noFrame notCarried wrongLength pastRegisters shortOutput whileBusy badCalendar notInitialised badSetup notAwaited miscounted tooLong acceptedModel freshModel freshWith porBit noFlight noTemperature noSchedule start factory sound sumFits flightSound temperatureSound scheduleSound clockValid dateFits timeFits leap monthLength kindBusy busy awaits inEvent isCommand isWrite isRead notWhole pastEnd wordAt calendarWord word30 word31 word32 word33 bcd hundredthsOf minuteIn hourIn ticksIn clockFrom timeDigits digitsFit wordsValid alarmValid alarmWord covers written withWord setupAfter ticksAfter clockAfter writeInvalid writeModel mustBeIdle startsFlight startsTemperature isEvent commandBusy notReady flightSideUnset temperatureSideUnset eventSideUnset commandUnset flightUnset temperatureUnset eventUnset clockStands runModel initialised joined
 events-accepted = refl
 
 -- such a list, and none of its calls is refused
@@ -50,5 +50,5 @@ pub later-read :
     ≡ true ∷ true ∷ true ∷ []) ×
     (map (λ (e : Entry). isRefusal (e .answer)) (log (reply (after freshModel before) (command 7 []) .model) later)
     ≡ false ∷ false ∷ [])
-unfolding log onlyReads isRefusal isReading acceptedAnswer startedEvent eventFlight flightEvent eventStart differenceCount eventTemperature temperatureEvent temperatureCount tickModel clockTicked tickClock flightAfter fails tickSchedule settledAfter temperatureAfter after reply replyBy verdict firstOf table noFrame notCarried wrongLength pastRegisters shortOutput whileBusy badCalendar notInitialised badSetup notAwaited miscounted acceptedModel freshModel freshWith porBit noFlight noTemperature noSchedule start factory sound sumFits flightSound temperatureSound scheduleSound clockValid dateFits timeFits leap monthLength kindBusy busy awaits inEvent isCommand isWrite isRead notWhole pastEnd wordAt calendarWord word30 word31 word32 word33 bcd hundredthsOf minuteIn hourIn ticksIn clockFrom timeDigits digitsFit wordsValid alarmValid alarmWord covers written withWord setupAfter ticksAfter clockAfter writeInvalid writeModel mustBeIdle startsFlight startsTemperature isEvent commandBusy notReady flightSideUnset temperatureSideUnset eventSideUnset commandUnset flightUnset temperatureUnset eventUnset clockStands runModel initialised joined
+unfolding log onlyReads isRefusal isReading acceptedAnswer startedEvent eventFlight flightEvent eventStart differenceCount eventTemperature temperatureEvent temperatureCount tickModel clockTicked tickClock flightAfter fails tickSchedule settledAfter temperatureAfter after reply replyBy verdict firstOf table noFrame notCarried wrongLength pastRegisters shortOutput whileBusy badCalendar notInitialised badSetup notAwaited miscounted tooLong acceptedModel freshModel freshWith porBit noFlight noTemperature noSchedule start factory sound sumFits flightSound temperatureSound scheduleSound clockValid dateFits timeFits leap monthLength kindBusy busy awaits inEvent isCommand isWrite isRead notWhole pastEnd wordAt calendarWord word30 word31 word32 word33 bcd hundredthsOf minuteIn hourIn ticksIn clockFrom timeDigits digitsFit wordsValid alarmValid alarmWord covers written withWord setupAfter ticksAfter clockAfter writeInvalid writeModel mustBeIdle startsFlight startsTemperature isEvent commandBusy notReady flightSideUnset temperatureSideUnset eventSideUnset commandUnset flightUnset temperatureUnset eventUnset clockStands runModel initialised joined
 later-read = (refl, refl)

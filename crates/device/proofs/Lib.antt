@@ -14,6 +14,7 @@ pub mod Bench
 pub mod Going
 pub mod Stretch
 pub mod Quiet
+pub mod StretchMeaning
 pub mod Calls
 pub mod Held
 pub mod Third

@@ -221,7 +221,7 @@ quiet-ticked m zero l = sym (none-later m)
 quiet-ticked m (suc q) l =
     ap tickModel (quiet-ticked m q (omega arith)) ∙ model-later m q (omega arith) ∙ ap (λ n. laterModel n m) (add-one q)
 
-ticked-later : (a b : ℕ) (m : Model) → ticked a (ticked b m) ≡ ticked (b + a) m
+pub ticked-later : (a b : ℕ) (m : Model) → ticked a (ticked b m) ≡ ticked (b + a) m
 unfolding ticked
 ticked-later zero b m = let e : b + 0 ≡ b = omega arith in rw e
 ticked-later (suc a) b m = let e : b + suc a ≡ suc (b + a) = omega arith in rw e (ap tickModel (ticked-later a b m))

@@ -167,9 +167,11 @@ pub fn stretch(m: Model, n: u32) -> Reply
         let end = measuring::stretch::run(m, n);
         let flight = end.flight;
         let temperature = end.temperature;
-        let answer = Answer::Stretched(flight, temperature);
         let model = end.model;
-        return Reply { answer, model };
+        return Reply {
+            answer: Answer::Stretched(flight, temperature),
+            model,
+        };
     }
     refused(m, 0)
 }

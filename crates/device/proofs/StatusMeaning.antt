@@ -12,9 +12,10 @@ use Rattle.device.specs.declared.Schedule.{Schedule}
 use Rattle.device.specs.declared.Status.{Status}
 use Rattle.device.specs.declared.Model.{Model}
 use Rattle.device.specs.declared.Told.the-variants.{Value}
-use Rattle.device.specs.Event.{inEvent, lastOne, halted}
-use Rattle.device.specs.Status.{noBits, joined, statusWord, shown, flightBits, temperatureBits, initBit, haltBit}
+use Rattle.device.specs.Event.{fails as expires, inEvent, lastOne, halted}
+use Rattle.device.specs.Status.{noBits, joined, statusWord, shown, flightBits, temperatureBits, alarmBit, initBit, haltBit}
 use Rattle.device.specs.Model.{sound}
+use Rattle.device.specs.Tick.{alarmRaised, tickStatus, tickModel}
 use Rattle.device.specs.Bus.{initialised, haltedModel}
 use Rattle.device.specs.Call.{interruptTold}
 
@@ -298,3 +299,13 @@ interrupt-no m s =
     (λ i f. rw (e, f) (λ t x. x .1 i, λ n. refl))
     (λ i f. rw (e, f) (λ t. let z : _≡_ {A = ℕ} 0 1 = cc in absurd (omega arith), λ n. absurd (n (h, i)))))
     (λ h e. rw e (λ t x. h (x .0), λ n. refl)))
+
+-- "sets AF in a tick where .. change to the alarm's": a tick sets AF where the alarm rings between the clock before it and
+-- the clock that it leaves, and no tick clears it
+pub alarm-set :
+    (m : Model) → (tickModel m) .status .alarm ≡ either (m .status .alarm) (alarmRaised m ((tickModel m) .clock))
+unfolding tickModel tickStatus joined alarmBit flightBits temperatureBits noBits
+alarm-set m =
+    by-test (expires (m .flight .schedule))
+    (λ e. by-test (expires (m .temperature .schedule)) (λ f. rw (e, f) (simp kept)) (λ f. rw (e, f) (simp kept)))
+    (λ e. by-test (expires (m .temperature .schedule)) (λ f. rw (e, f) (simp kept)) (λ f. rw (e, f) (simp kept)))

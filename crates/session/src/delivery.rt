@@ -1,31 +1,31 @@
 // The lines `flight` and `temperature`.
 use crate::Session;
 use crate::counts::after_call;
+use crate::output::add_line;
 use crate::output::put_refusal;
-use crate::output::write_line;
 use device::Answer;
 
-pub fn flight(s: Session, up: &[u32], down: &[u32]) -> Session {
+pub fn flight(s: Session, up: &[u32], down: &[u32], answers: &mut [u8]) -> Session {
     let model = s.model;
     let reply = converter::flight_delivery(model, up, down);
     let answer = reply.answer;
-    write_delivery(b"flight", answer);
-    after_call(s, reply)
+    let used = add_delivery(answers, s.used, b"flight", answer);
+    after_call(s, reply, used)
 }
 
-pub fn temperature(s: Session, words: &[u32]) -> Session {
+pub fn temperature(s: Session, words: &[u32], answers: &mut [u8]) -> Session {
     let model = s.model;
     let reply = converter::temperature_delivery(model, words);
     let answer = reply.answer;
-    write_delivery(b"temperature", answer);
-    after_call(s, reply)
+    let used = add_delivery(answers, s.used, b"temperature", answer);
+    after_call(s, reply, used)
 }
 
-fn write_delivery(word: &[u8], answer: Answer) {
+fn add_delivery(answers: &mut [u8], at: usize, word: &[u8], answer: Answer) -> usize {
     let mut out = [0u8; 128];
     let a = numeral::put_text(&mut out, 0, word);
     let b = put_answer(&mut out, a, answer);
-    write_line(&mut out, b);
+    add_line(answers, at, &mut out, b)
 }
 
 fn put_answer(out: &mut [u8], at: usize, answer: Answer) -> usize {

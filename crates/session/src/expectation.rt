@@ -1,19 +1,30 @@
 // The lines `expect`.
 use crate::Session;
 use crate::counts::with_differing;
-use crate::output::write_line;
+use crate::output::add_line;
 use crate::registers::word;
 use device::Model;
 
 // The words that are expected from the address a on.
-pub fn expect(s: Session, a: u32, words: &[u32]) -> Session {
+pub fn expect(s: Session, a: u32, words: &[u32], answers: &mut [u8]) -> Session {
     let model = s.model;
     let n = differing(model, a, words);
+    let used = add_expectation(answers, s.used, model, a, words, n);
+    with_differing(s, n, used)
+}
+
+fn add_expectation(
+    answers: &mut [u8],
+    at: usize,
+    m: Model,
+    a: u32,
+    words: &[u32],
+    n: u64,
+) -> usize {
     let mut out = [0u8; 2048];
     let start = put_head(&mut out, a, n);
-    let end = put_differing(&mut out, start, model, a, words);
-    write_line(&mut out, end);
-    with_differing(s, n)
+    let end = put_differing(&mut out, start, m, a, words);
+    add_line(answers, at, &mut out, end)
 }
 
 // How many words differ.

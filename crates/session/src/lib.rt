@@ -1,8 +1,9 @@
 // A replay: the lines of an item's text, answered one after the other on the model.
 //
-// Each answer goes to standard output as its line ends. What is kept from line to line is one value,
-// which each function takes and gives back, and the bytes of the line that is not whole yet, which
-// the caller lends.
+// What is kept from line to line is one value, which each function takes and gives back, and two
+// buffers that the caller lends: the bytes of the line that is not whole yet, and the answers that
+// are not written yet. Answers are written when what was read is answered, or when the buffer may
+// not hold another one.
 mod counts;
 mod delivery;
 mod expectation;
@@ -27,6 +28,10 @@ pub struct Session {
     pub differ: u64,
     // How many bytes of the next line are held.
     pub held: usize,
+    // How many bytes of answers are not written yet.
+    pub used: usize,
     // More input may come.
     pub more: bool,
+    // The input could not be read to its end.
+    pub unread: bool,
 }

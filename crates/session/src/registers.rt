@@ -1,5 +1,5 @@
 // The lines `regs`, `int` and `awaited`.
-use crate::output::write_line;
+use crate::output::add_line;
 use device::Model;
 use device::Told;
 
@@ -17,19 +17,21 @@ pub fn word(m: Model, a: u32) -> u32 {
 }
 
 // Ten lines of eight registers.
-pub fn write_registers(m: Model) {
+pub fn add_registers(answers: &mut [u8], at: usize, m: Model) -> usize {
+    let mut place = at;
     let mut a = 176;
     while a < 256 {
-        write_row(m, a);
+        place = add_row(answers, place, m, a);
         a += 8;
     }
+    place
 }
 
-fn write_row(m: Model, a: u32) {
+fn add_row(answers: &mut [u8], at: usize, m: Model, a: u32) -> usize {
     let mut out = [0u8; 64];
     let start = numeral::put_hex(&mut out, 0, 2, a);
     let end = put_row(&mut out, start, m, a);
-    write_line(&mut out, end);
+    add_line(answers, at, &mut out, end)
 }
 
 // A blank and a word, for each of the eight registers from a on.
@@ -44,22 +46,19 @@ fn put_row(out: &mut [u8], at: usize, m: Model, a: u32) -> usize {
     place
 }
 
-pub fn write_interrupt(m: Model) {
-    let mut out = [0u8; 16];
+pub fn add_interrupt(answers: &mut [u8], at: usize, m: Model) -> usize {
     if value(converter::interrupt_pending(m)) == 0 {
-        let n = numeral::put_text(&mut out, 0, b"int no");
-        write_line(&mut out, n);
+        numeral::put_text(answers, at, b"int no\n")
     } else {
-        let n = numeral::put_text(&mut out, 0, b"int yes");
-        write_line(&mut out, n);
+        numeral::put_text(answers, at, b"int yes\n")
     }
 }
 
-pub fn write_awaited(m: Model) {
+pub fn add_awaited(answers: &mut [u8], at: usize, m: Model) -> usize {
     let mut out = [0u8; 32];
     let a = numeral::put_text(&mut out, 0, b"awaited ");
     let b = numeral::put_decimal(&mut out, a, value(converter::flight_awaited(m)) as u64);
     let c = numeral::put_text(&mut out, b, b" ");
     let d = numeral::put_decimal(&mut out, c, value(converter::temperature_awaited(m)) as u64);
-    write_line(&mut out, d);
+    add_line(answers, at, &mut out, d)
 }

@@ -1,30 +1,42 @@
+use native.Mathlib.Omega.{arith}
 use borrow.Author.Needs.{needs}
 use Prim.Native.Nat.{_≤_, _-_}
-use mathlib.Core.Path.{_≡_}
 use lib.ListN.{length}
+use mathlib.Core.Path.{_≡_}
 use Rattle.session.proofs.feed.feed.Statement.{statement}
 use Rattle.session.proofs.feed.feed.Tie as tie
 use Rattle.session.proofs.feed.feed.Reads as reads
 use Rattle.session.proofs.feed.feed.Lts as lts
-use Rattle.session.proofs.feed.take_byte.Reads as take-byte-reads
+use Rattle.session.proofs.feed.hold.Reads as hold-reads
+use Rattle.session.proofs.feed.line_end.Reads as line-end-reads
+use Rattle.session.proofs.feed.whole_line.Reads as whole-line-reads
 
 abbrev Inv-loop : tie.InvT-loop
-Inv-loop part held₀ t₀ i₀ held t i = (i ≤ length part) × (length held ≡ length held₀)
+Inv-loop part held₀ answers₀ t₀ i₀ held answers t i = (i ≤ length part) × (length held ≡ length held₀) × (length answers ≡ length answers₀)
 
 abbrev μ-loop : tie.MeasureT-loop
-μ-loop part held₀ t₀ i₀ held t i = length part - i
+μ-loop part held₀ answers₀ t₀ i₀ held answers t i = length part - i
 
 loop-holds : tie.Need-loop-holds Inv-loop μ-loop
 loop-holds c = search needs
 
-shared-slice-read-take-byte : tie.Need-shared-slice-read-take-byte Inv-loop μ-loop
-shared-slice-read-take-byte c = search needs
+line-end-requires : tie.Need-line-end-requires Inv-loop μ-loop
+line-end-requires c κs = search needs
 
-take-byte-requires : tie.Need-take-byte-requires Inv-loop μ-loop
-take-byte-requires c κs = search needs
+sub-whole-line : tie.Need-sub-whole-line Inv-loop μ-loop
+sub-whole-line c = search needs
+
+part-whole-line-start : tie.Need-part-whole-line-start Inv-loop μ-loop
+part-whole-line-start c = search needs
+
+part-whole-line-end : tie.Need-part-whole-line-end Inv-loop μ-loop
+part-whole-line-end c = search needs
+
+whole-line-requires : tie.Need-whole-line-requires Inv-loop μ-loop
+whole-line-requires c κs = search needs
 
 add-i : tie.Need-add-i Inv-loop μ-loop
-add-i c = search needs
+add-i c = omega (arith, c .before .before .before .before .before .before .before .before .if1 .taken, c .before .before .before .before .before .before .before .before .before .before .before .before .before .before .before .good .1)
 
 loop-less : tie.Need-loop-less Inv-loop μ-loop
 loop-less c = search needs
@@ -32,11 +44,35 @@ loop-less c = search needs
 loop-again : tie.Need-loop-again Inv-loop μ-loop
 loop-again c = search needs
 
+sub-hold : tie.Need-sub-hold Inv-loop μ-loop
+sub-hold c = search needs
+
+part-hold-start : tie.Need-part-hold-start Inv-loop μ-loop
+part-hold-start c = search needs
+
+part-hold-end : tie.Need-part-hold-end Inv-loop μ-loop
+part-hold-end c = search needs
+
+hold-requires : tie.Need-hold-requires Inv-loop μ-loop
+hold-requires c κs = search needs
+
 same-length : tie.Need-same-length Inv-loop μ-loop
 same-length c = search needs
 
+same-length-2 : tie.Need-same-length-2 Inv-loop μ-loop
+same-length-2 c = search needs
+
 returns : tie.Need-returns Inv-loop μ-loop
 returns c = search needs
+
+same-length-3 : tie.Need-same-length-3 Inv-loop μ-loop
+same-length-3 c = search needs
+
+same-length-4 : tie.Need-same-length-4 Inv-loop μ-loop
+same-length-4 c = search needs
+
+returns-2 : tie.Need-returns-2 Inv-loop μ-loop
+returns-2 c = search needs
 
 pub feed-spec : {M : Type 1} → statement M
 feed-spec =
@@ -45,10 +81,21 @@ feed-spec =
     Inv-loop
     μ-loop
     loop-holds
-    shared-slice-read-take-byte
-    take-byte-requires
+    line-end-requires
+    sub-whole-line
+    part-whole-line-start
+    part-whole-line-end
+    whole-line-requires
     add-i
     loop-less
     loop-again
+    sub-hold
+    part-hold-start
+    part-hold-end
+    hold-requires
     same-length
-    returns)
+    same-length-2
+    returns
+    same-length-3
+    same-length-4
+    returns-2)

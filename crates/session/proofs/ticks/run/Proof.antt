@@ -1,17 +1,21 @@
 use borrow.Author.Needs.{needs}
 use Prim.Native.Nat.{_≤_, _-_}
+use lib.ListN.{length}
+use mathlib.Core.Path.{_≡_}
 use Rattle.session.proofs.ticks.run.Statement.{statement}
 use Rattle.session.proofs.ticks.run.Tie as tie
 use Rattle.session.proofs.ticks.run.Reads as reads
 use Rattle.session.proofs.ticks.run.Lts as lts
 use Rattle.converter.proofs.tick.Reads as tick-reads
-use Rattle.session.proofs.ticks.write_reports.Reads as write-reports-reads
+use Rattle.numeral.proofs.put_text.Reads as put-text-reads
+use Rattle.session.proofs.counts.after_call.Reads as after-call-reads
+use Rattle.session.proofs.ticks.add_reports.Reads as add-reports-reads
 
 abbrev Inv-loop : tie.InvT-loop
-Inv-loop n model₀ i₀ model i = i ≤ n
+Inv-loop s at n answers₀ model₀ used₀ i₀ t12 answers model used i = (i ≤ n) × (length answers ≡ length answers₀)
 
 abbrev μ-loop : tie.MeasureT-loop
-μ-loop n model₀ i₀ model i = n - i
+μ-loop s at n answers₀ model₀ used₀ i₀ t12 answers model used i = n - i
 
 loop-holds : tie.Need-loop-holds Inv-loop μ-loop
 loop-holds c = search needs
@@ -22,14 +26,26 @@ add-i c = search needs
 tick-requires : tie.Need-tick-requires Inv-loop μ-loop
 tick-requires c κs = search needs
 
-write-reports-requires : tie.Need-write-reports-requires Inv-loop μ-loop
-write-reports-requires c κs = search needs
+add-reports-requires : tie.Need-add-reports-requires Inv-loop μ-loop
+add-reports-requires c κs = search needs
 
 loop-less : tie.Need-loop-less Inv-loop μ-loop
 loop-less c = search needs
 
 loop-again : tie.Need-loop-again Inv-loop μ-loop
 loop-again c = search needs
+
+slice-aggregate-put-text : tie.Need-slice-aggregate-put-text Inv-loop μ-loop
+slice-aggregate-put-text c = search needs
+
+put-text-requires : tie.Need-put-text-requires Inv-loop μ-loop
+put-text-requires c κs = search needs
+
+after-call-requires : tie.Need-after-call-requires Inv-loop μ-loop
+after-call-requires c κs = search needs
+
+same-length : tie.Need-same-length Inv-loop μ-loop
+same-length c = search needs
 
 returns : tie.Need-returns Inv-loop μ-loop
 returns c = search needs
@@ -43,7 +59,11 @@ run-spec =
     loop-holds
     add-i
     tick-requires
-    write-reports-requires
+    add-reports-requires
     loop-less
     loop-again
+    slice-aggregate-put-text
+    put-text-requires
+    after-call-requires
+    same-length
     returns)

@@ -11,7 +11,7 @@ slice-relend-prefix-bus-call : tie.Need-slice-relend-prefix-bus-call
 slice-relend-prefix-bus-call c = search needs
 
 slice-aggregate-bus-call : tie.Need-slice-aggregate-bus-call
-slice-aggregate-bus-call c = sym (length-take-le _ (c .before .before .before .before .args .buffer .now) (c .before .if1 .taken))
+slice-aggregate-bus-call c = sym (length-take-le _ (c .before .before .before .before .before .args .buffer .now) (c .before .if1 .taken))
 
 bus-call-requires : tie.Need-bus-call-requires
 bus-call-requires c κs = search needs
@@ -22,11 +22,17 @@ bus-call-requires-2 c κs = search needs
 same-length : tie.Need-same-length
 same-length c = search needs
 
+same-length-2 : tie.Need-same-length-2
+same-length-2 c = search needs
+
 returns : tie.Need-returns
 returns c = search needs
 
-same-length-2 : tie.Need-same-length-2
-same-length-2 c = search needs
+same-length-3 : tie.Need-same-length-3
+same-length-3 c = search needs
+
+same-length-4 : tie.Need-same-length-4
+same-length-4 c = search needs
 
 returns-2 : tie.Need-returns-2
 returns-2 c = search needs
@@ -40,6 +46,8 @@ bus-sized-spec =
     bus-call-requires
     bus-call-requires-2
     same-length
-    returns
     same-length-2
+    returns
+    same-length-3
+    same-length-4
     returns-2)

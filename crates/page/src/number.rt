@@ -1,0 +1,102 @@
+// The numbers that the marks of the page stand for.
+use device::Model;
+use device::Told;
+
+// The word that a read of one register would give.
+pub fn word(m: Model, a: u32) -> u32 {
+    match converter::peek(m, a) {
+        Told::Value(w) => w,
+        Told::Refused(_) => 0,
+    }
+}
+
+// The word of 32 bits of a pair of registers, Int and Frac.
+pub fn pair(m: Model, a: u32) -> u32 {
+    word(m, a) % 65536 * 65536 + word(m, std::num::wrapping_add_u32(a, 1)) % 65536
+}
+
+// A byte of the clock or the alarm: a small letter is a register's low byte, and a capital the
+// high one. The alarm's may have reserved bits.
+pub fn clock_byte(m: Model, x: u8) -> u32 {
+    let w = word(m, clock_register(x));
+    match x {
+        b'S' | b'H' | b'Y' => w / 256,
+        b'A' => w / 256 % 128,
+        b'a' => w % 64,
+        _ => w,
+    }
+}
+
+fn clock_register(x: u8) -> u32 {
+    match x {
+        b's' | b'S' => 0xb0,
+        b'h' | b'H' => 0xb1,
+        b'd' => 0xb2,
+        b'y' | b'Y' => 0xb3,
+        _ => 0xb5,
+    }
+}
+
+// The number that x stands for in a row with the word w.
+pub fn number(m: Model, w: u32, x: u8) -> u32 {
+    if x < b'G' {
+        return bit(w, x);
+    }
+    if x < b'e' {
+        return alarm(word(m, 0xc3) / 4 % 4, x);
+    }
+    field(w, x)
+}
+
+// The bit whose number is the hexadecimal digit x.
+fn bit(w: u32, x: u8) -> u32 {
+    if x < b'A' {
+        return (w >> (x % 16)) % 2;
+    }
+    (w >> (x % 16 + 9)) % 2
+}
+
+// What an alarm of this mode looks at: anything, hours, both, minutes.
+fn alarm(mode: u32, x: u8) -> u32 {
+    match x {
+        b'a' => mode,
+        b'b' => mode / 2,
+        b'c' => mode / 3,
+        _ => mode % 2,
+    }
+}
+
+fn field(w: u32, x: u8) -> u32 {
+    match x {
+        b'k' => w / 256,
+        b'p' => pulses(w / 256 % 256),
+        b'l' => w / 16 % 16,
+        b'r' => w / 16 % 16 + 1,
+        b'h' => hits(w / 8192 % 8),
+        b't' => 128 << (w % 8),
+        b'f' => (w / 4096 % 16 + 1) / 2,
+        b'g' => (w / 4096 % 16 + 1) % 2 * 5,
+        b'n' => w / 128 % 32 + 1,
+        b'q' => w / 2 % 64 + 1,
+        b'm' => w / 2048 % 32 + 1,
+        b'u' => 128 * (w % 4 + 1),
+        b'e' => w / 128 % 8,
+        b'x' => both(w),
+        _ => w,
+    }
+}
+
+// Up to 127 pulses are launched.
+fn pulses(pl: u32) -> u32 {
+    if 127 < pl { 127 } else { pl }
+}
+
+// Six hits at most.
+fn hits(stop: u32) -> u32 {
+    if 5 < stop { 6 } else { stop + 1 }
+}
+
+// Whether both bytes have bits.
+fn both(w: u32) -> u32 {
+    if w % 256 == 0 { 0 } else { w / 256 }
+}

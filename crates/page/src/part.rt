@@ -1,0 +1,100 @@
+// What each byte of a text with marks means.
+use crate::number::clock_byte;
+use crate::number::number;
+use crate::number::pair;
+use crate::number::word;
+use device::Model;
+
+// How a byte is read, by what stands before it: as text, as the x of a mark (the mode is the
+// mark's first byte), or not at all.
+pub const TEXT: u8 = 0;
+
+const HIDDEN: u8 = 1;
+
+// What a byte puts.
+pub enum Part {
+    Nothing,
+    Byte(u8),
+    Hex(usize, u32),
+    Decimal(u32),
+    Time(u32, bool),
+    NoTime,
+}
+
+pub fn part_at(m: Model, register: u32, mode: u8, c: u8) -> Part {
+    match mode {
+        TEXT => text_part(m, register, c),
+        b'%' => Part::Decimal(number(m, last(m, register), c)),
+        b'$' => Part::Hex(2, clock_byte(m, c)),
+        _ => Part::Nothing,
+    }
+}
+
+fn text_part(m: Model, register: u32, c: u8) -> Part {
+    match c {
+        b'#' => Part::Hex(4, word(m, register)),
+        b'^' => time_part(m, std::num::wrapping_sub_u32(register, 2)),
+        b'%' | b'$' | b'[' | b'|' | b']' => Part::Nothing,
+        _ => Part::Byte(c),
+    }
+}
+
+// The word of the register before this one.
+fn last(m: Model, register: u32) -> u32 {
+    word(m, std::num::wrapping_sub_u32(register, 1))
+}
+
+fn time_part(m: Model, a: u32) -> Part {
+    if no_time(m, a) {
+        return Part::NoTime;
+    }
+    Part::Time(pair(m, a), a == 0xe2 || a == 0xe5)
+}
+
+// A pair of FFFFh FFFFh is no time. Of TOF_DIFF it is -1, unless AVGUP says that the measurement
+// failed, and of TOF_DIFF_AVG it is always -1.
+fn no_time(m: Model, a: u32) -> bool {
+    if pair(m, a) != 4294967295 {
+        return false;
+    }
+    match a {
+        0xe2 => pair(m, 0xd1) == 4294967295,
+        0xe5 => false,
+        _ => true,
+    }
+}
+
+pub fn register_after(register: u32, mode: u8, c: u8) -> u32 {
+    if mode == TEXT && c == b'#' {
+        return std::num::wrapping_add_u32(register, 1);
+    }
+    register
+}
+
+pub fn mode_after(m: Model, register: u32, mode: u8, c: u8) -> u8 {
+    match mode {
+        TEXT => after_text(c),
+        HIDDEN => after_hidden(c),
+        b'[' => shown(number(m, last(m, register), c)),
+        _ => TEXT,
+    }
+}
+
+fn after_text(c: u8) -> u8 {
+    match c {
+        b'%' | b'$' | b'[' => c,
+        b'|' => HIDDEN,
+        _ => TEXT,
+    }
+}
+
+fn after_hidden(c: u8) -> u8 {
+    match c {
+        b'|' | b']' => TEXT,
+        _ => HIDDEN,
+    }
+}
+
+fn shown(n: u32) -> u8 {
+    if n == 0 { HIDDEN } else { TEXT }
+}

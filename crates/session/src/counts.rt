@@ -35,6 +35,7 @@ pub fn refusals(answer: Answer) -> u64 {
         Answer::Refused(_) => 1,
         Answer::Accepted(_, _) => 0,
         Answer::Ticked(_, _) => 0,
+        Answer::Stretched(_, _) => 0,
         Answer::Good => 0,
         Answer::Failed => 0,
     }

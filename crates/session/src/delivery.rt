@@ -33,6 +33,7 @@ fn put_answer(out: &mut [u8], at: usize, answer: Answer) -> usize {
         Answer::Refused(number) => put_refusal(out, at, number),
         Answer::Accepted(_, _) => at,
         Answer::Ticked(_, _) => at,
+        Answer::Stretched(_, _) => at,
         Answer::Good => numeral::put_text(out, at, b" good"),
         Answer::Failed => numeral::put_text(out, at, b" failed"),
     }

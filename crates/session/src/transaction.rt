@@ -70,6 +70,7 @@ fn put_answer(out: &mut [u8], at: usize, answer: Answer) -> usize {
         Answer::Refused(number) => put_refusal(out, at, number),
         Answer::Accepted(flight, temperature) => put_started(out, at, flight, temperature),
         Answer::Ticked(_, _) => at,
+        Answer::Stretched(_, _) => at,
         Answer::Good => at,
         Answer::Failed => at,
     }

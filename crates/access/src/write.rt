@@ -2,7 +2,7 @@
 ghost use mathlib.Core.Path.{_≡_};
 ghost use Prim.Native.Nat.{_<_, _≤_, _+_, _*_};
 ghost use lib.ListN.{length};
-ghost use Rattle.device.specs.Write.{written, withWord, setupAfter, ticksAfter, clockAfter, writeInvalid, writeModel};
+ghost use Rattle.device.specs.Write.{written, setupAfter, ticksAfter, clockAfter, writeInvalid, writeModel};
 use crate::read::calendar_word;
 use calendar::Clock;
 use device::Model;
@@ -22,21 +22,7 @@ fn word_after(words: &[u8], op: u32, n: usize, a: u32, current: u32) -> u32
     current
 }
 
-// The set-up with a word at register a; the calendar's registers are not in it.
-fn with_word(setup: [u16; 16], a: usize, w: u16) -> [u16; 16]
-    requires { ⌜ a < 68 ⌝ }
-    ensures { λ r. ⌜ r ≡ withWord setup a w ⌝ }
-{
-    let mut s = setup;
-    if a < 0x34 {
-        return s;
-    }
-    let place = a - 0x34;
-    s[place] = w;
-    s
-}
-
-// The set-up after the write.
+// The set-up after the write; the calendar's registers are not in it.
 fn setup_after(setup: [u16; 16], words: &[u8], op: u32, n: usize) -> [u16; 16]
     requires { ⌜ (48 ≤ op) × (op + n ≤ 68) × (2 * n ≤ length (now words)) ⌝ }
     ensures { λ r. ⌜ r ≡ setupAfter (now (words .entry)) op setup n ⌝ }
@@ -45,8 +31,10 @@ fn setup_after(setup: [u16; 16], words: &[u8], op: u32, n: usize) -> [u16; 16]
     let mut i: usize = 0;
     while i < n {
         let w = frame::word(words, i) as u16;
-        let next = with_word(s, op as usize + i, w);
-        s = next;
+        let a = op as usize + i;
+        if 0x34 <= a {
+            s[a - 0x34] = w;
+        }
         i += 1;
     }
     s

@@ -1,8 +1,8 @@
 // The registers as a page for a person to read, put into a lent buffer: each by its address, its
 // name in the data sheet, its words and what they mean. No line has more than 80 characters.
 //
-// `text` has the page as it stands, with marks; `put` puts a text with marks, and `number` says
-// which number each letter of a mark stands for.
+// `text` has the page as it stands, with marks for what varies. `part` says what each mark puts,
+// `number` which number a letter stands for, and `put` puts the text into the buffer.
 //
 // No public function has a `requires`. Where the buffer has no room for the whole page, the answer
 // is numeral::NO_ROOM.

@@ -37,10 +37,14 @@ fn clock_register(x: u8) -> u32 {
     }
 }
 
-// The number that x stands for in a row with the word w.
+// The number that x stands for in a row with the word w. A capital after F is half the number of
+// its small letter, and so 0 where that is 0 or 1.
 pub fn number(m: Model, w: u32, x: u8) -> u32 {
     if x < b'G' {
         return bit(w, x);
+    }
+    if x < b'a' {
+        return field(w, x + 32) / 2;
     }
     if x < b'e' {
         return alarm(word(m, 0xc3) / 4 % 4, x);
@@ -56,7 +60,7 @@ fn bit(w: u32, x: u8) -> u32 {
     (w >> (x % 16 + 9)) % 2
 }
 
-// What an alarm of this mode looks at: anything, hours, both, minutes.
+// Whether an alarm of this mode looks at anything, at hours, at both, at minutes.
 fn alarm(mode: u32, x: u8) -> u32 {
     match x {
         b'a' => mode,
@@ -66,21 +70,22 @@ fn alarm(mode: u32, x: u8) -> u32 {
     }
 }
 
+// A field of the word; any other letter is the word itself.
 fn field(w: u32, x: u8) -> u32 {
     match x {
-        b'k' => w / 256,
-        b'p' => pulses(w / 256 % 256),
-        b'l' => w / 16 % 16,
-        b'r' => w / 16 % 16 + 1,
-        b'h' => hits(w / 8192 % 8),
-        b't' => 128 << (w % 8),
-        b'f' => (w / 4096 % 16 + 1) / 2,
-        b'g' => (w / 4096 % 16 + 1) % 2 * 5,
-        b'n' => w / 128 % 32 + 1,
-        b'q' => w / 2 % 64 + 1,
-        b'm' => w / 2048 % 32 + 1,
-        b'u' => 128 * (w % 4 + 1),
-        b'e' => w / 128 % 8,
+        b'k' => w / 256, // the high byte
+        b'p' => pulses(w / 256 % 256), // PL
+        b'l' => w / 16 % 16, // DPL
+        b'r' => w / 16 % 16 + 1, // what 2 MHz is divided by
+        b'h' => hits(w / 8192 % 8), // STOP
+        b't' => 128 << (w % 8), // TIMOUT in microseconds
+        b'f' => (w / 4096 % 16 + 1) / 2, // TDF in seconds
+        b'g' => (w / 4096 % 16 + 1) % 2 * 5, // and its decimal
+        b'n' => w / 128 % 32 + 1, // TDM
+        b'q' => w / 2 % 64 + 1, // TMF in seconds
+        b'm' => w / 2048 % 32 + 1, // TMM
+        b'u' => 128 * (w % 4 + 1), // PORTCYC in microseconds
+        b'e' => w / 128 % 8, // INT_EN, ET_CONT or CONT_INT
         b'x' => both(w),
         _ => w,
     }
@@ -96,7 +101,7 @@ fn hits(stop: u32) -> u32 {
     if 5 < stop { 6 } else { stop + 1 }
 }
 
-// Whether both bytes have bits.
+// Not 0 where both bytes have bits.
 fn both(w: u32) -> u32 {
     if w % 256 == 0 { 0 } else { w / 256 }
 }

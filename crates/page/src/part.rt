@@ -11,7 +11,7 @@ pub const TEXT: u8 = 0;
 
 const HIDDEN: u8 = 1;
 
-// What a byte puts.
+// What a byte puts: so many hexadecimal digits of a number; a word of quanta, with a sign or not.
 pub enum Part {
     Nothing,
     Byte(u8),
@@ -21,6 +21,7 @@ pub enum Part {
     NoTime,
 }
 
+// What the byte c puts where `register` is the next one.
 pub fn part_at(m: Model, register: u32, mode: u8, c: u8) -> Part {
     match mode {
         TEXT => text_part(m, register, c),
@@ -44,6 +45,7 @@ fn last(m: Model, register: u32) -> u32 {
     word(m, std::num::wrapping_sub_u32(register, 1))
 }
 
+// The pair of registers from a on.
 fn time_part(m: Model, a: u32) -> Part {
     if no_time(m, a) {
         return Part::NoTime;
@@ -64,6 +66,7 @@ fn no_time(m: Model, a: u32) -> bool {
     }
 }
 
+// The next register after the byte c.
 pub fn register_after(register: u32, mode: u8, c: u8) -> u32 {
     if mode == TEXT && c == b'#' {
         return std::num::wrapping_add_u32(register, 1);
@@ -71,6 +74,7 @@ pub fn register_after(register: u32, mode: u8, c: u8) -> u32 {
     register
 }
 
+// How the byte after c is read.
 pub fn mode_after(m: Model, register: u32, mode: u8, c: u8) -> u8 {
     match mode {
         TEXT => after_text(c),

@@ -7,6 +7,7 @@ use crate::part::register_after;
 use device::Model;
 use numeral::NO_ROOM;
 
+// The text, its marks replaced.
 pub fn put_text(buf: &mut [u8], at: usize, m: Model, text: &[u8]) -> usize {
     let mut place = at;
     let mut register = 0xb0;
@@ -42,7 +43,6 @@ fn put_byte(buf: &mut [u8], at: usize, c: u8) -> usize {
     NO_ROOM
 }
 
-// A time at the right end of 14 places, and the unit.
 fn put_time(buf: &mut [u8], at: usize, w: u32, signed: bool) -> usize {
     let mut field = [b' '; 32];
     let end = put_nanoseconds(&mut field, w, signed);
@@ -57,7 +57,7 @@ fn put_nanoseconds(field: &mut [u8], w: u32, signed: bool) -> usize {
     }
 }
 
-// The 14 bytes before `end`, and the unit.
+// The time that ends at `end`, right-justified in 14 places, and the unit.
 fn put_right(buf: &mut [u8], at: usize, field: &[u8], end: usize) -> usize {
     if end < 14 || field.len() < end {
         return at;

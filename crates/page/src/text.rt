@@ -1,13 +1,14 @@
 // What the page says. Marks in the text:
 //
-//   #         the word of the next register from B0h on, in four digits
+//   #         the word of the next register, from B0h on, in four digits
 //   %x        the number that x stands for
 //   $x        a byte of the clock or the alarm, in two digits
 //   ^         the last two registers as a time
-//   [x..|..]  what stands before | where x is not 0, and else what stands after it, if anything
+//   [x..|..]  the first text where x is not 0, and else the second, which may be left out
 //
-// x is a letter, or a bit of the row's word by its number, 0 to F. The file `number` has them.
-pub const PAGE: [u8; 2933] = *b"\
+// x is a letter, which the file `number` explains, or the number of a bit, 0 to F, of the row's
+// word. That is the word of the last #.
+pub const PAGE: [u8; 2945] = *b"\
 RTC AND WATCHDOG REGISTERS
 B0     Seconds                  #       $s.$S s
 B1     Mins_Hrs                 #       $h:$H
@@ -19,15 +20,15 @@ B5     Alarm                    #       $a:$A, [a|no alarm][bhours][c and ][dmin
 CONFIGURATION REGISTERS
 B6     Reserved                 #       stored only
 B7     Reserved                 #       stored only
-B8     TOF1                     #       PL [p%p pulses|off], DPL [l2 MHz / %r|reserved]
-B9     TOF2                     #       STOP %h hits, TIMOUT %t us
+B8     TOF1                     #       PL [p%p pulse|off][Ps], DPL [l2 MHz / %r|reserved]
+B9     TOF2                     #       STOP %h hit[Hs], TIMOUT %t us
 BA     TOF3                     #       stored only
 BB     TOF4                     #       stored only
 BC     TOF5                     #       stored only
 BD     TOF6                     #       stored only
 BE     TOF7                     #       stored only
-BF     Event Timing 1           #       TDF %f.%g s, TDM %n cycles, TMF %q s
-C0     Event Timing 2           #       TMM %m cycles, TP %6%5b, PORTCYC %u us
+BF     Event Timing 1           #       TDF %f.%g s, TDM %n cycle[Ns], TMF %q s
+C0     Event Timing 2           #       TMM %m cycle[Ms], TP %6%5b, PORTCYC %u us
 C1     TOF Measurement Delay    #       stored only
 C2     Calibration and Control  #      [9 INT_EN][8 ET_CONT][7 CONT_INT][e| none]
 C3     Real-Time Clock          #       EOSC %4 clock [4stands|runs], AM %3%2b

@@ -4,8 +4,8 @@ ghost use mathlib.Core.Bool.{true};
 ghost use Prim.Native.Nat.{_≤_, _+_, _*_};
 ghost use lib.ListN.{length};
 ghost use Rattle.frame.specs.declared.Decoded.{Decoded};
-ghost use Rattle.device.specs.Model.{sound, freshModel};
-ghost use Rattle.device.specs.Call.{Call, reply, output, refuse, accept, commandReply, writeReply, readReply, readOutput, refusalNumber, interruptTold, awaitedTold, flightFits, flightReply, readFits, registerTold, temperatureReply};
+ghost use Rattle.device.specs.Model.{freshModel};
+ghost use Rattle.device.specs.Call.{Call, reply, output, refuse, accept, commandReply, writeReply, readReply, readOutput, refusalNumber, readFits};
 use access::read::fill_words;
 use access::write::write_invalid;
 use access::write::write_model;
@@ -22,24 +22,18 @@ use command::state::is_sound;
 use device::Answer;
 use device::Model;
 use device::Reply;
-use device::Schedule;
-use device::Told;
 use event::interrupt::por_bit;
-use event::interrupt::status_word;
 use event::schedule::is_awaited;
 use frame::Decoded;
-use measurement::limit::any_from;
-use measurement::limit::late_from;
-use measurement::limit::open_from;
-use measurement::words::four_words;
-use measurement::words::six_words;
-use measuring::delivery::flight_failed;
-use measuring::delivery::flight_good;
 use measuring::delivery::flight_miscounted;
-use measuring::delivery::temperature_failed;
-use measuring::delivery::temperature_good;
+use measuring::delivery::flight_words;
+use measuring::delivery::temperature_words;
 use measuring::tick::report_of;
 use measuring::tick::tick_model;
+pub use question::flight_awaited;
+pub use question::interrupt_pending;
+pub use question::peek;
+pub use question::temperature_awaited;
 
 pub fn fresh() -> Model
     ensures { λ r. ⌜ r ≡ freshModel ⌝ }
@@ -196,35 +190,6 @@ pub fn flight_delivery(m: Model, up: &[u32], down: &[u32]) -> Reply
     refused(m, 0)
 }
 
-// A flight delivery of the right counts.
-fn flight_words(m: Model, up: &[u32], down: &[u32]) -> Reply
-    requires { ⌜ flightFits m (now up) (now down) ≡ true ⌝ }
-    ensures { λ r. ⌜ r ≡ flightReply m (now (up .entry)) (now (down .entry)) ⌝ }
-{
-    let setup = m.setup;
-    let limit = late_from(register::timeout_code(setup));
-    if any_from(limit, up) {
-        let model = flight_failed(m);
-        return Reply {
-            answer: Answer::Failed,
-            model,
-        };
-    }
-    if any_from(limit, down) {
-        let model = flight_failed(m);
-        return Reply {
-            answer: Answer::Failed,
-            model,
-        };
-    }
-    let hits = register::hits(setup);
-    let model = flight_good(m, hits, six_words(up), six_words(down));
-    Reply {
-        answer: Answer::Good,
-        model,
-    }
-}
-
 // The words of an awaited temperature measurement, T1 to T4.
 pub fn temperature_delivery(m: Model, words: &[u32]) -> Reply
     ensures { λ r. ⌜ r ≡ reply m (Call.temperature (now (words .entry))) ⌝ }
@@ -241,88 +206,4 @@ pub fn temperature_delivery(m: Model, words: &[u32]) -> Reply
         return refused(m, 10);
     }
     refused(m, 0)
-}
-
-// A temperature delivery of four words.
-fn temperature_words(m: Model, words: &[u32]) -> Reply
-    requires { ⌜ sound m ≡ true ⌝ }
-    ensures { λ r. ⌜ r ≡ temperatureReply m (now (words .entry)) ⌝ }
-{
-    let setup = m.setup;
-    let limit = open_from(register::port_cycle(setup));
-    let w = four_words(words);
-    if any_from(limit, words) {
-        let model = temperature_failed(m, limit, w);
-        return Reply {
-            answer: Answer::Failed,
-            model,
-        };
-    }
-    let model = temperature_good(m, w);
-    Reply {
-        answer: Answer::Good,
-        model,
-    }
-}
-
-// The INT answer: 1 for yes, 0 for no.
-pub fn interrupt_pending(m: Model) -> Told
-    ensures { λ r. ⌜ r ≡ interruptTold m ⌝ }
-{
-    if is_sound(m) {
-        let setup = m.setup;
-        let status = m.status;
-        if register::interrupt_enabled(setup) {
-            if status_word(status) == 0 {
-                return Told::Value(0);
-            }
-            return Told::Value(1);
-        }
-        return Told::Value(0);
-    }
-    Told::Refused(0)
-}
-
-fn told_awaited(m: Model, k: Schedule) -> Told
-    ensures { λ r. ⌜ r ≡ awaitedTold m k ⌝ }
-{
-    if is_sound(m) {
-        if is_awaited(k) {
-            return Told::Value(1);
-        }
-        return Told::Value(0);
-    }
-    Told::Refused(0)
-}
-
-// Whether a flight measurement is awaited: 1 or 0.
-pub fn flight_awaited(m: Model) -> Told
-    ensures { λ r. ⌜ r ≡ awaitedTold m (m .flight .schedule) ⌝ }
-{
-    let f = m.flight;
-    told_awaited(m, f.schedule)
-}
-
-// Whether a temperature measurement is awaited: 1 or 0.
-pub fn temperature_awaited(m: Model) -> Told
-    ensures { λ r. ⌜ r ≡ awaitedTold m (m .temperature .schedule) ⌝ }
-{
-    let t = m.temperature;
-    told_awaited(m, t.schedule)
-}
-
-// The word that a read at address a, B0h to FFh, would give, with nothing cleared.
-pub fn peek(m: Model, a: u32) -> Told
-    ensures { λ r. ⌜ r ≡ registerTold m a ⌝ }
-{
-    if is_sound(m) {
-        if a < 0xb0 {
-            return Told::Refused(4);
-        }
-        if 0xff < a {
-            return Told::Refused(4);
-        }
-        return Told::Value(access::read::register_word(m, a));
-    }
-    Told::Refused(0)
 }

@@ -3,11 +3,14 @@ ghost use mathlib.Core.Path.{_≡_};
 ghost use mathlib.Core.Bool.{true};
 ghost use Prim.Native.Nat.{_<_, _*_};
 ghost use Rattle.measurement.specs.Words.{sixTotal};
-ghost use Rattle.device.specs.Model.{flightSound, temperatureSound};
+ghost use Rattle.device.specs.Model.{sound, flightSound, temperatureSound};
+ghost use Rattle.device.specs.Call.{flightFits, flightReply, temperatureReply};
 ghost use Rattle.device.specs.Delivery.{flightMiscounted, goodDifference, goodSum, goodFlight, flightStatus, goodSums, temperatureStatus, flightFailed, flightGood, sameCount, temperatureFailed, temperatureGood};
 use crate::tick::lose_flight;
+use device::Answer;
 use device::Flight;
 use device::Model;
+use device::Reply;
 use device::Status;
 use device::Temperature;
 use event::interrupt::flight_bits;
@@ -16,11 +19,16 @@ use event::interrupt::temperature_bits;
 use event::schedule::settle_one;
 use measurement::difference::biased_difference;
 use measurement::difference::difference_word;
+use measurement::limit::any_from;
+use measurement::limit::late_from;
+use measurement::limit::open_from;
 use measurement::words::average_of;
 use measurement::words::choose_pairs;
+use measurement::words::four_words;
 use measurement::words::pairs;
 use measurement::words::plus_each;
 use measurement::words::port_pairs;
+use measurement::words::six_words;
 use unit::Quanta;
 
 fn same_count(measured: bool, hits: u32, given: usize) -> bool
@@ -111,7 +119,7 @@ fn flight_status(m: Model, failed: bool) -> Status
 }
 
 // The model after a flight delivery of the right counts.
-pub fn flight_failed(m: Model) -> Model
+fn flight_failed(m: Model) -> Model
     requires { ⌜ flightSound (m .flight) ≡ true ⌝ }
     ensures { λ r. ⌜ r ≡ flightFailed m ⌝ }
 {
@@ -126,7 +134,7 @@ pub fn flight_failed(m: Model) -> Model
     next
 }
 
-pub fn flight_good(m: Model, hits: u32, ups: [u32; 6], downs: [u32; 6]) -> Model
+fn flight_good(m: Model, hits: u32, ups: [u32; 6], downs: [u32; 6]) -> Model
     requires { ⌜ (sixTotal ups < hits * 2147483648) × (sixTotal downs < hits * 2147483648) × (flightSound (m .flight) ≡ true) ⌝ }
     ensures { λ r. ⌜ r ≡ flightGood m hits ups downs ⌝ }
 {
@@ -162,7 +170,7 @@ fn temperature_status(m: Model, failed: bool) -> Status
     join(old, temperature_bits(k, each, true, failed))
 }
 
-pub fn temperature_failed(m: Model, limit: Quanta, w: [u32; 4]) -> Model
+fn temperature_failed(m: Model, limit: Quanta, w: [u32; 4]) -> Model
     requires { ⌜ temperatureSound (m .temperature) ≡ true ⌝ }
     ensures { λ r. ⌜ r ≡ temperatureFailed m limit w ⌝ }
 {
@@ -183,7 +191,7 @@ pub fn temperature_failed(m: Model, limit: Quanta, w: [u32; 4]) -> Model
     next
 }
 
-pub fn temperature_good(m: Model, w: [u32; 4]) -> Model
+fn temperature_good(m: Model, w: [u32; 4]) -> Model
     requires { ⌜ temperatureSound (m .temperature) ≡ true ⌝ }
     ensures { λ r. ⌜ r ≡ temperatureGood m w ⌝ }
 {
@@ -201,4 +209,55 @@ pub fn temperature_good(m: Model, w: [u32; 4]) -> Model
     next.status = status;
     next.temperature = temperature;
     next
+}
+
+// A flight delivery of the right counts.
+pub fn flight_words(m: Model, up: &[u32], down: &[u32]) -> Reply
+    requires { ⌜ flightFits m (now up) (now down) ≡ true ⌝ }
+    ensures { λ r. ⌜ r ≡ flightReply m (now (up .entry)) (now (down .entry)) ⌝ }
+{
+    let setup = m.setup;
+    let limit = late_from(register::timeout_code(setup));
+    if any_from(limit, up) {
+        let model = flight_failed(m);
+        return Reply {
+            answer: Answer::Failed,
+            model,
+        };
+    }
+    if any_from(limit, down) {
+        let model = flight_failed(m);
+        return Reply {
+            answer: Answer::Failed,
+            model,
+        };
+    }
+    let hits = register::hits(setup);
+    let model = flight_good(m, hits, six_words(up), six_words(down));
+    Reply {
+        answer: Answer::Good,
+        model,
+    }
+}
+
+// A temperature delivery of four words.
+pub fn temperature_words(m: Model, words: &[u32]) -> Reply
+    requires { ⌜ sound m ≡ true ⌝ }
+    ensures { λ r. ⌜ r ≡ temperatureReply m (now (words .entry)) ⌝ }
+{
+    let setup = m.setup;
+    let limit = open_from(register::port_cycle(setup));
+    let w = four_words(words);
+    if any_from(limit, words) {
+        let model = temperature_failed(m, limit, w);
+        return Reply {
+            answer: Answer::Failed,
+            model,
+        };
+    }
+    let model = temperature_good(m, w);
+    Reply {
+        answer: Answer::Good,
+        model,
+    }
 }

@@ -4,7 +4,7 @@ use device::Told;
 
 // The word that a read of one register would give.
 pub fn word(m: Model, a: u32) -> u32 {
-    match converter::peek(m, a) {
+    match question::peek(m, a) {
         Told::Value(w) => w,
         Told::Refused(_) => 0,
     }

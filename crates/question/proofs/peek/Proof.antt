@@ -1,9 +1,9 @@
--- `converter::peek` meets its contract.
+-- `question::peek` meets its contract.
 use borrow.Author.Tests.{le-ltb, lt-ltb}
 use Rattle.device.specs.Call.{registerTold}
 use borrow.Author.Needs.{needs}
-use Rattle.converter.proofs.peek.Statement.{statement}
-use Rattle.converter.proofs.peek.Tie as tie
+use Rattle.question.proofs.peek.Statement.{statement}
+use Rattle.question.proofs.peek.Tie as tie
 
 is-sound-requires : tie.Need-is-sound-requires
 is-sound-requires c κs = search needs

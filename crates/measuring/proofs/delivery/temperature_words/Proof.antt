@@ -1,10 +1,10 @@
--- `converter::temperature_words` meets its contract.
+-- `measuring::delivery::temperature_words` meets its contract.
 use Rattle.device.specs.Call.{temperatureReply, acceptedAnswer, acceptedModel, anyOpen}
 use Rattle.device.proofs.Sound.{sound-temperature}
 use Rattle.device.specs.Call.{temperatureReply}
 use borrow.Author.Needs.{needs}
-use Rattle.converter.proofs.temperature_words.Statement.{statement}
-use Rattle.converter.proofs.temperature_words.Tie as tie
+use Rattle.measuring.proofs.delivery.temperature_words.Statement.{statement}
+use Rattle.measuring.proofs.delivery.temperature_words.Tie as tie
 
 port-cycle-requires : tie.Need-port-cycle-requires
 port-cycle-requires c κs = search needs

@@ -1,4 +1,4 @@
--- `converter::flight_words` meets its contract.
+-- `measuring::delivery::flight_words` meets its contract.
 use Rattle.register.specs.Setup.{timeout}
 use Rattle.measurement.specs.Limit.{lateFrom, anyFrom}
 use denote.Ref.{now}
@@ -9,8 +9,8 @@ use Rattle.device.proofs.Sound.{flight-ready}
 use Rattle.device.specs.Call.{flightReply, acceptedAnswer, acceptedModel, anyLate}
 use Rattle.device.specs.Call.{flightReply}
 use borrow.Author.Needs.{needs}
-use Rattle.converter.proofs.flight_words.Statement.{statement}
-use Rattle.converter.proofs.flight_words.Tie as tie
+use Rattle.measuring.proofs.delivery.flight_words.Statement.{statement}
+use Rattle.measuring.proofs.delivery.flight_words.Tie as tie
 
 timeout-code-requires : tie.Need-timeout-code-requires
 timeout-code-requires c κs = search needs

@@ -1,9 +1,9 @@
--- `converter::interrupt_pending` meets its contract.
+-- `question::interrupt_pending` meets its contract.
 use borrow.Author.Tests.{eq-eqb, ne-eqb}
 use Rattle.device.specs.Call.{interruptTold}
 use borrow.Author.Needs.{needs}
-use Rattle.converter.proofs.interrupt_pending.Statement.{statement}
-use Rattle.converter.proofs.interrupt_pending.Tie as tie
+use Rattle.question.proofs.interrupt_pending.Statement.{statement}
+use Rattle.question.proofs.interrupt_pending.Tie as tie
 
 is-sound-requires : tie.Need-is-sound-requires
 is-sound-requires c κs = search needs

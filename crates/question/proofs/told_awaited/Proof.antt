@@ -1,8 +1,8 @@
--- `converter::told_awaited` meets its contract.
+-- `question::told_awaited` meets its contract.
 use Rattle.device.specs.Call.{awaitedTold}
 use borrow.Author.Needs.{needs}
-use Rattle.converter.proofs.told_awaited.Statement.{statement}
-use Rattle.converter.proofs.told_awaited.Tie as tie
+use Rattle.question.proofs.told_awaited.Statement.{statement}
+use Rattle.question.proofs.told_awaited.Tie as tie
 
 is-sound-requires : tie.Need-is-sound-requires
 is-sound-requires c κs = search needs

@@ -1,0 +1,71 @@
+// Questions about a model: INT, what is awaited, and a register's word. They change nothing.
+ghost use mathlib.Core.Path.{_≡_};
+ghost use Rattle.device.specs.Call.{interruptTold, awaitedTold, registerTold};
+use command::state::is_sound;
+use device::Model;
+use device::Schedule;
+use device::Told;
+use event::interrupt::status_word;
+use event::schedule::is_awaited;
+
+// The INT answer: 1 for yes, 0 for no.
+pub fn interrupt_pending(m: Model) -> Told
+    ensures { λ r. ⌜ r ≡ interruptTold m ⌝ }
+{
+    if is_sound(m) {
+        let setup = m.setup;
+        let status = m.status;
+        if register::interrupt_enabled(setup) {
+            if status_word(status) == 0 {
+                return Told::Value(0);
+            }
+            return Told::Value(1);
+        }
+        return Told::Value(0);
+    }
+    Told::Refused(0)
+}
+
+fn told_awaited(m: Model, k: Schedule) -> Told
+    ensures { λ r. ⌜ r ≡ awaitedTold m k ⌝ }
+{
+    if is_sound(m) {
+        if is_awaited(k) {
+            return Told::Value(1);
+        }
+        return Told::Value(0);
+    }
+    Told::Refused(0)
+}
+
+// Whether a flight measurement is awaited: 1 or 0.
+pub fn flight_awaited(m: Model) -> Told
+    ensures { λ r. ⌜ r ≡ awaitedTold m (m .flight .schedule) ⌝ }
+{
+    let f = m.flight;
+    told_awaited(m, f.schedule)
+}
+
+// Whether a temperature measurement is awaited: 1 or 0.
+pub fn temperature_awaited(m: Model) -> Told
+    ensures { λ r. ⌜ r ≡ awaitedTold m (m .temperature .schedule) ⌝ }
+{
+    let t = m.temperature;
+    told_awaited(m, t.schedule)
+}
+
+// The word that a read at address a, B0h to FFh, would give, with nothing cleared.
+pub fn peek(m: Model, a: u32) -> Told
+    ensures { λ r. ⌜ r ≡ registerTold m a ⌝ }
+{
+    if is_sound(m) {
+        if a < 0xb0 {
+            return Told::Refused(4);
+        }
+        if 0xff < a {
+            return Told::Refused(4);
+        }
+        return Told::Value(access::read::register_word(m, a));
+    }
+    Told::Refused(0)
+}

@@ -1,6 +1,5 @@
 // The lines `tick`.
-ghost use mathlib.Core.Path.{_≡_};
-ghost use Prim.Native.Nat.{min};
+ghost use Prim.Native.Nat.{_<_, _≤_};
 use crate::Session;
 use crate::counts::after_call;
 use crate::output::add;
@@ -42,7 +41,8 @@ fn run(s: Session, at: usize, n: u32, answers: &mut [u8]) -> Session {
 
 // The next stretch, where so many ticks are left.
 fn span_of(left: u32) -> u32
-    ensures { λ r. ⌜ r ≡ min left 16384 ⌝ }
+    requires { ⌜ 0 < left ⌝ }
+    ensures { λ r. ⌜ (0 < r) × (r ≤ left) ⌝ }
 {
     if left <= 16384 { left } else { 16384 }
 }

@@ -69,7 +69,7 @@ named-once test k (suc n) j l once =
     by-eqb j n
     (λ e _. rw e
     (by-test (test (scheduleTicked n k))
-    (λ t. rw (t, eq-eqb (n + 1) (n + 1) refl))
+    (λ t. rw t (eq-eqb (n + 1) (n + 1) refl))
     (λ t. rw (t, ne-eqb (lastTick test k n) (n + 1) (λ q. absurd (omega (arith, last-below test k n)))))))
     (λ d _. by-test (test (scheduleTicked n k))
     (λ t. rw (t, ne-eqb (n + 1) (j + 1) (λ q. d (omega arith)))

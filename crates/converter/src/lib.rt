@@ -150,6 +150,26 @@ pub fn tick(m: Model) -> Reply
     refused(m, 0)
 }
 
+// n such periods at once, at most 16,384.
+pub fn stretch(m: Model, n: u32) -> Reply
+    ensures { λ r. ⌜ r ≡ reply m (Call.stretch n) ⌝ }
+{
+    if is_sound(m) {
+        if 16384 < n {
+            return refused(m, 12);
+        }
+        let end = measuring::stretch::run(m, n);
+        let flight = end.flight;
+        let temperature = end.temperature;
+        let model = end.model;
+        return Reply {
+            answer: Answer::Stretched(flight, temperature),
+            model,
+        };
+    }
+    refused(m, 0)
+}
+
 // The hit words of an awaited flight measurement: the up list and the down list.
 pub fn flight_delivery(m: Model, up: &[u32], down: &[u32]) -> Reply
     ensures { λ r. ⌜ r ≡ reply m (Call.flight (now (up .entry)) (now (down .entry))) ⌝ }

@@ -27,7 +27,7 @@ use Rattle.device.specs.Bus.{flightStarted, flightEvent}
 use Rattle.device.proofs.StatusMeaning.{kept}
 use Rattle.device.specs.Call.{flight, temperature, refused, verdict, table, firstOf, awaitedTold}
 use Rattle.device.specs.Call.{noFrame, notCarried, wrongLength, pastRegisters, shortOutput, whileBusy, badCalendar}
-use Rattle.device.specs.Call.{notInitialised, badSetup, notAwaited, miscounted}
+use Rattle.device.specs.Call.{notInitialised, badSetup, notAwaited, miscounted, tooLong}
 
 -- "an up list and a down list, each of H words ..; the unmeasured direction's list is empty"
 same-means : (measured : Bool) (hits given : ℕ) → (sameCount measured hits given ≡ true) ↔ (given ≡ pick measured hits 0)
@@ -69,7 +69,7 @@ pub awaited-flight :
     sound m ≡ true →
     (u d : List ℕ) →
     (awaitedTold m (m .flight .schedule) ≡ Value 0) ↔ (verdict m (flight u d) ≡ refused 10)
-unfolding awaitedTold verdict table firstOf noFrame notCarried wrongLength pastRegisters shortOutput whileBusy badCalendar notInitialised badSetup notAwaited miscounted
+unfolding awaitedTold verdict table firstOf noFrame notCarried wrongLength pastRegisters shortOutput whileBusy badCalendar notInitialised badSetup notAwaited miscounted tooLong
 awaited-flight m s u d =
     rw s
     (by-test (awaits (m .flight .schedule))
@@ -83,7 +83,7 @@ pub awaited-temperature :
     sound m ≡ true →
     (w : List ℕ) →
     (awaitedTold m (m .temperature .schedule) ≡ Value 0) ↔ (verdict m (temperature w) ≡ refused 10)
-unfolding awaitedTold verdict table firstOf noFrame notCarried wrongLength pastRegisters shortOutput whileBusy badCalendar notInitialised badSetup notAwaited miscounted
+unfolding awaitedTold verdict table firstOf noFrame notCarried wrongLength pastRegisters shortOutput whileBusy badCalendar notInitialised badSetup notAwaited miscounted tooLong
 awaited-temperature m s w =
     rw s
     (by-test (awaits (m .temperature .schedule))
@@ -160,11 +160,11 @@ temperature-expires m limit w h i j k e =
     })
 
 -- and as the failed delivery does, it sets the bits: of a tick in which nothing else sets one
-no-bits : (s : Status) → joined s noBits ≡ s
+pub no-bits : (s : Status) → joined s noBits ≡ s
 unfolding joined noBits
 no-bits s = simp kept
 
-no-alarm : (s : Status) → joined s (alarmBit false) ≡ s
+pub no-alarm : (s : Status) → joined s (alarmBit false) ≡ s
 unfolding joined alarmBit
 no-alarm s = simp kept
 

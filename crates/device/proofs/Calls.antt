@@ -8,7 +8,7 @@ use lib.Dec.{ltb, leb}
 use borrow.Author.Tests.{ltb-false, lt-ltb, le-ltb}
 use Rattle.unit.specs.Choice.{pick, either}
 use Rattle.unit.specs.Cases.{by-test}
-use Rattle.calendar.specs.Calendar.{tickClock}
+use Rattle.calendar.specs.Moment.{afterTicks}
 use Rattle.calendar.proofs.Laws.{passed}
 use Rattle.register.specs.Setup.{clockStands, hitCount, portCycle}
 use Rattle.frame.specs.Frame.{isCommand, isWrite, isRead}
@@ -17,19 +17,21 @@ use Rattle.measurement.specs.Words.{six, four}
 use Rattle.device.specs.declared.Status.{Status}
 use Rattle.device.specs.declared.Model.{Model}
 use Rattle.device.specs.declared.Reply.{Reply}
-use Rattle.device.specs.declared.Answer.the-variants.{Ticked, Good, Failed}
+use Rattle.device.specs.declared.Answer.the-variants.{Ticked, Stretched, Good, Failed}
 use Rattle.device.specs.Status.{noBits}
 use Rattle.device.specs.Model.{sound, withStatus}
 use Rattle.device.specs.Tick.{clockTicked, tickModel, reportOf}
+use Rattle.device.specs.Stretch.{ticked, stretchReport}
 use Rattle.device.specs.Delivery.{flightGood, flightFailed, temperatureGood, temperatureFailed}
 use Rattle.device.specs.Bus.{readModel}
-use Rattle.device.specs.Call.{Call, transaction, tick, flight, temperature, opcode, words}
+use Rattle.device.specs.Call.{Call, transaction, tick, flight, temperature, stretch, opcode, words}
 use Rattle.device.specs.Call.{noFrame, notCarried, wrongLength, pastRegisters, shortOutput, whileBusy}
-use Rattle.device.specs.Call.{badCalendar, notInitialised, badSetup, notAwaited, miscounted}
+use Rattle.device.specs.Call.{badCalendar, notInitialised, badSetup, notAwaited, miscounted, tooLong}
 use Rattle.device.specs.Call.{table, Verdict, accepted, refused, firstOf, verdict, anyLate, anyOpen}
 use Rattle.device.specs.Call.{acceptedAnswer, acceptedModel, refuse, accept, replyBy, reply}
-use Rattle.device.specs.Claim.{isRefusal, isReading, isTick}
+use Rattle.device.specs.Claim.{isRefusal, isReading, isTick, spanOf, stretchIn, ticksIn}
 use Rattle.device.proofs.Table.{NoneHolds, none-holds}
+use Rattle.device.proofs.Stretch.{setup-ticked, clock-ticked}
 
 pub data Step (m : Model) : Call → Reply → Type 0 where
   refusal : (c : Call) (n : ℕ) → isTick c ≡ false → Step m c (refuse n m)
@@ -62,6 +64,14 @@ pub data Step (m : Model) : Call → Reply → Type 0 where
       NoneHolds m (temperature w) →
       anyOpen m w ≡ false →
       Step m (temperature w) (record { answer = Good; model = temperatureGood m (four w) })
+  stretching :
+      (n : ℕ) →
+      n ≤ 16384 →
+      Step m (stretch n)
+      (record {
+        answer = Stretched (stretchReport (m .flight .schedule) n) (stretchReport (m .temperature .schedule) n);
+        model = ticked n m;
+      })
 
 read-alone : (op : ℕ) → isRead op ≡ true → (isCommand op ≡ false) × (isWrite op ≡ false)
 unfolding isRead isCommand isWrite
@@ -87,7 +97,7 @@ accepted-step :
     NoneHolds m c →
     either (isRefusal (acceptedAnswer m c)) (isReading c) ≡ true →
     Step m c (record { answer = acceptedAnswer m c; model = acceptedModel m c })
-unfolding acceptedAnswer acceptedModel isReading
+unfolding acceptedAnswer acceptedModel isReading tooLong
 accepted-step m (transaction f o) n p =
     let (c, w) = read-alone (opcode f) (rw (no-refusal m f o) at p) in rw (c, w) (read-step m f o)
 accepted-step m tick n p = ticking
@@ -95,10 +105,11 @@ accepted-step m (flight u d) n p =
     by-test (anyLate m u d) (λ l. rw l (flight-failed u d n l)) (λ l. rw l (flight-good u d n l))
 accepted-step m (temperature w) n p =
     by-test (anyOpen m w) (λ l. rw l (ports-failed w n l)) (λ l. rw l (ports-good w n l))
+accepted-step m (stretch k) n p = stretching k (ltb-false 16384 k (n .row12))
 
 -- a sound model refuses no tick
 tick-accepted : (m : Model) → sound m ≡ true → verdict m tick ≡ accepted
-unfolding verdict firstOf table noFrame notCarried wrongLength pastRegisters shortOutput whileBusy badCalendar notInitialised badSetup notAwaited miscounted
+unfolding verdict firstOf table noFrame notCarried wrongLength pastRegisters shortOutput whileBusy badCalendar notInitialised badSetup notAwaited miscounted tooLong
 tick-accepted m v = rw v
 
 refused-other : (m : Model) (c : Call) (n : ℕ) → sound m ≡ true → verdict m c ≡ refused n → isTick c ≡ false
@@ -107,6 +118,7 @@ refused-other m (transaction f o) n v e = refl
 refused-other m tick n v e = cc (tick-accepted m v)
 refused-other m (flight u d) n v e = refl
 refused-other m (temperature w) n v e = refl
+refused-other m (stretch k) n v e = refl
 
 pub stepped :
     (m : Model) (c : Call) →
@@ -124,7 +136,7 @@ stepped m c v = go (verdict m c) refl
     go accepted e p = accepted-step m c (none-holds m c e) p
     go (refused n) e p = refusal c n (refused-other m c n v e)
 
--- no such call changes the set-up, and only a tick moves the clock
+-- no such call changes the set-up, and only ticks move the clock
 pub setup-kept : (m : Model) {c : Call} {r : Reply} → Step m c r → r .model .setup ≡ m .setup
 unfolding tickModel flightFailed flightGood temperatureFailed temperatureGood
 setup-kept m (refusal c n t) = refl
@@ -134,13 +146,14 @@ setup-kept m (flight-failed u d n l) = refl
 setup-kept m (flight-good u d n l) = refl
 setup-kept m (ports-failed w n l) = refl
 setup-kept m (ports-good w n l) = refl
+setup-kept m (stretching n l) = setup-ticked n m
 
 pub clock-step :
     (m : Model) {c : Call} {r : Reply} →
     Step m c r →
     clockStands (m .setup) ≡ false →
-    r .model .clock ≡ pick (isTick c) (tickClock (m .clock)) (m .clock)
-unfolding tickModel clockTicked flightFailed flightGood temperatureFailed temperatureGood isTick
+    r .model .clock ≡ afterTicks (ticksIn (record { call = c; answer = r .answer })) (m .clock)
+unfolding tickModel clockTicked flightFailed flightGood temperatureFailed temperatureGood isTick ticksIn stretchIn spanOf isRefusal afterTicks
 clock-step m (refusal c n t) e = rw t
 clock-step m (reading f o s) e = refl
 clock-step m ticking e = rw e
@@ -148,3 +161,4 @@ clock-step m (flight-failed u d n l) e = refl
 clock-step m (flight-good u d n l) e = refl
 clock-step m (ports-failed w n l) e = refl
 clock-step m (ports-good w n l) e = refl
+clock-step m (stretching n l) e = clock-ticked n m e

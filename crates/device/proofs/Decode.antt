@@ -20,7 +20,7 @@ use Rattle.device.specs.Model.{sound, busy}
 use Rattle.device.specs.Write.{writeInvalid}
 use Rattle.device.specs.Bus.{commandBusy, notReady, commandUnset}
 use Rattle.device.specs.Call.{Call, transaction, opcode, further, words, refuse, bufferOf, reply, replyBy, output, outputBy, verdict, table, firstOf}
-use Rattle.device.specs.Call.{noFrame, notCarried, wrongLength, pastRegisters, shortOutput, whileBusy, badCalendar, notInitialised, badSetup, notAwaited, miscounted}
+use Rattle.device.specs.Call.{noFrame, notCarried, wrongLength, pastRegisters, shortOutput, whileBusy, badCalendar, notInitialised, badSetup, notAwaited, miscounted, tooLong}
 use Rattle.device.specs.Call.{acceptedAnswer, acceptedModel, acceptedOutput, commandReply, writeReply, readReply, readOutput, readFits}
 use Rattle.device.proofs.Table.{picked}
 
@@ -114,7 +114,7 @@ abbrev Answers : Model → List ℕ → List ℕ → Decoded → Type 0
 Answers m f o d = (replyOf m f d ≡ reply m (transaction f o)) × (readOutput m d o ≡ output m (transaction f o))
 
 answers : (m : Model) (f o : List ℕ) → sound m ≡ true → Answers m f o (decodeFrame f (length o))
-unfolding replyOf decodeFrame writeFrame readFrame reply replyBy output outputBy bufferOf verdict table firstOf noFrame notCarried wrongLength pastRegisters shortOutput whileBusy badCalendar notInitialised badSetup notAwaited miscounted acceptedAnswer acceptedModel acceptedOutput commandReply writeReply readReply readOutput
+unfolding replyOf decodeFrame writeFrame readFrame reply replyBy output outputBy bufferOf verdict table firstOf noFrame notCarried wrongLength pastRegisters shortOutput whileBusy badCalendar notInitialised badSetup notAwaited miscounted tooLong acceptedAnswer acceptedModel acceptedOutput commandReply writeReply readReply readOutput
 answers m f o s =
     by-test (eqb (length f) 0)
     (λ z. simp (s, z) (refl, refl))

@@ -7,7 +7,7 @@ use mathlib.Core.List.{List}
 use mathlib.Core.Path.{_≡_, refl, _∙_}
 use lib.ListN.{length, getD, set, length-set}
 use lib.Seq.{getD-set-same, getD-set-other}
-use lib.Dec.{eqb}
+use lib.Dec.{ltb, eqb}
 use borrow.Author.Tests.{lt-ltb, le-ltb, le-leb, lt-leb, eq-eqb, ne-eqb}
 use Rattle.unit.specs.Choice.{pick}
 use Rattle.unit.specs.Cases.{by-test, by-ltb}
@@ -20,7 +20,7 @@ use Rattle.frame.specs.Frame.{wordAt}
 use Rattle.device.specs.declared.Schedule.{Schedule}
 use Rattle.device.specs.declared.Flight.{Flight}
 use Rattle.device.specs.declared.Model.{Model}
-use Rattle.device.specs.declared.Answer.the-variants.{Ticked}
+use Rattle.device.specs.declared.Answer.the-variants.{Ticked, Stretched}
 use Rattle.device.specs.Event.{awaits, inEvent, single, eventStart, halted}
 use Rattle.device.specs.Status.{noBits, porBit, statusWord, joined, flightBits}
 use Rattle.device.specs.Model.{sound, kindBusy, busy, withStatus, freshWith, freshModel, resetModel}
@@ -30,9 +30,10 @@ use Rattle.device.specs.Tick.{tickModel, reportOf}
 use Rattle.device.specs.Delivery.{flightMiscounted, flightStatus, flightGood, flightFailed}
 use Rattle.device.specs.Bus.{flightStarted, flightEvent, haltedModel, readModel}
 use Rattle.device.proofs.Sound.{bounds-of}
-use Rattle.device.specs.Call.{tick, flight, temperature, refuse, flightReply, temperatureReply, reply, replyBy, verdict, table, firstOf}
+use Rattle.device.specs.Stretch.{progress}
+use Rattle.device.specs.Call.{tick, flight, temperature, stretch, refuse, flightReply, temperatureReply, reply, replyBy, verdict, table, firstOf}
 use Rattle.device.specs.Call.{noFrame, notCarried, wrongLength, pastRegisters, shortOutput, whileBusy, badCalendar}
-use Rattle.device.specs.Call.{notInitialised, badSetup, notAwaited, miscounted, acceptedAnswer, acceptedModel}
+use Rattle.device.specs.Call.{notInitialised, badSetup, notAwaited, miscounted, tooLong, acceptedAnswer, acceptedModel}
 
 -- "A kind is awaited from its start"
 pub single-awaited : (k : Schedule) → awaits (single k) ≡ true
@@ -309,8 +310,19 @@ module _ (m : Model) (s : sound m ≡ true) where
         answer = Ticked (reportOf (m .flight .schedule)) (reportOf (m .temperature .schedule));
         model = tickModel m;
       }
-  unfolding reply replyBy verdict table firstOf noFrame notCarried wrongLength pastRegisters shortOutput whileBusy badCalendar notInitialised badSetup notAwaited miscounted acceptedAnswer acceptedModel
+  unfolding reply replyBy verdict table firstOf noFrame notCarried wrongLength pastRegisters shortOutput whileBusy badCalendar notInitialised badSetup notAwaited miscounted tooLong acceptedAnswer acceptedModel
   reply-tick = rw s
+
+  pub reply-stretch :
+      (n : ℕ) →
+      reply m (stretch n)
+      ≡ pick (ltb 16384 n) (refuse 12 m)
+      (record {
+        answer = Stretched (progress m n .flight) (progress m n .temperature);
+        model = progress m n .model;
+      })
+  unfolding reply replyBy verdict table firstOf noFrame notCarried wrongLength pastRegisters shortOutput whileBusy badCalendar notInitialised badSetup notAwaited miscounted tooLong acceptedAnswer acceptedModel progress
+  reply-stretch n = by-test (ltb 16384 n) (λ e. rw (s, e)) (λ e. rw (s, e))
 
   pub reply-flight :
       (u d : List ℕ) →
@@ -318,7 +330,7 @@ module _ (m : Model) (s : sound m ≡ true) where
       ≡ pick (awaits (m .flight .schedule))
       (pick (flightMiscounted (m .flight) (hitCount (m .setup)) (length u) (length d)) (refuse 11 m) (flightReply m u d))
       (refuse 10 m)
-  unfolding reply replyBy verdict table firstOf noFrame notCarried wrongLength pastRegisters shortOutput whileBusy badCalendar notInitialised badSetup notAwaited miscounted flightReply
+  unfolding reply replyBy verdict table firstOf noFrame notCarried wrongLength pastRegisters shortOutput whileBusy badCalendar notInitialised badSetup notAwaited miscounted tooLong flightReply
   reply-flight u d =
       by-test (awaits (m .flight .schedule))
       (λ a. by-test (flightMiscounted (m .flight) (hitCount (m .setup)) (length u) (length d))
@@ -332,7 +344,7 @@ module _ (m : Model) (s : sound m ≡ true) where
       ≡ pick (awaits (m .temperature .schedule))
       (pick (eqb (length w) 4) (temperatureReply m w) (refuse 11 m))
       (refuse 10 m)
-  unfolding reply replyBy verdict table firstOf noFrame notCarried wrongLength pastRegisters shortOutput whileBusy badCalendar notInitialised badSetup notAwaited miscounted temperatureReply
+  unfolding reply replyBy verdict table firstOf noFrame notCarried wrongLength pastRegisters shortOutput whileBusy badCalendar notInitialised badSetup notAwaited miscounted tooLong temperatureReply
   reply-temperature w =
       by-test (awaits (m .temperature .schedule))
       (λ a. by-test (eqb (length w) 4) (λ c. rw (s, a, c)) (λ c. rw (s, a, c)))

@@ -86,7 +86,7 @@ reached-are P (suc N) s t o l d n =
     rw (lt-leb (N * P) t f, append-nil, reached-are P N s t o h d (λ u. n (omega arith))))
 
 -- how a tick begins a measurement, or not
-by-begins :
+pub by-begins :
     {G : Type 0} (k : Schedule) →
     (k .started < k .planned → k .wait .0 ≤ 1 → begins k ≡ true → startedAfter k ≡ k .started + 1 → G) →
     ((k .started < k .planned → 2 ≤ k .wait .0) → begins k ≡ false → startedAfter k ≡ k .started → G) →
@@ -101,7 +101,7 @@ by-begins k f g =
 
 module _ (P N : ℕ) (h : History) (k : Schedule) (g : Going P N h k) where
   -- at a start nothing is awaited, since the period is longer than a measurement may last
-  none-awaited : k .started < k .planned → k .wait .0 ≤ 1 → k .left .0 ≡ 0
+  pub none-awaited : k .started < k .planned → k .wait .0 ≤ 1 → k .left .0 ≡ 0
   none-awaited l w =
       by-ltb 0 (k .left .0)
       (λ p _. absurd (omega (arith, g .since p, g .begun .next (omega arith))))

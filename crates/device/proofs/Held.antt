@@ -1,7 +1,7 @@
 -- What a kind holds after each call of an event: its schedule, and the sums of what was good so far.
-use Prim.Native.Nat.{ℕ, zero, suc, _+_, _/_, _%_, _<_}
+use Prim.Native.Nat.{ℕ, zero, suc, _+_, _/_, _%_, _≤_, _<_}
 use native.Mathlib.Omega.{arith}
-use mathlib.Core.Path.{_≡_, refl, ap}
+use mathlib.Core.Path.{_≡_, refl, ap, sym, subst, _∙_}
 use mathlib.Core.Bool.{Bool, true, false}
 use mathlib.Core.List.{List, [], _∷_, _++_, map, map-append}
 use lib.ListN.{length, length-map, getD}
@@ -27,16 +27,20 @@ use Rattle.device.specs.declared.Answer.the-variants.{Refused}
 use Rattle.device.specs.Event.{awaits, begins, fails, settle}
 use Rattle.device.specs.Registers.{half, flightWord, temperatureWord, registerWord}
 use Rattle.device.specs.Tick.{lostFlight, flightAfter, temperatureAfter, tickModel, reportOf}
+use Rattle.device.specs.Stretch.{ticked, scheduleTicked, lastTick, stretchReport}
 use Rattle.device.specs.Delivery.{sameCount, flightMiscounted, goodSum, goodFlight, goodSums, flightGood, flightFailed, temperatureGood, temperatureFailed}
 use Rattle.device.specs.Call.{Call, flight, temperature, notAwaited, miscounted, anyLate, anyOpen}
 use Rattle.device.specs.Claim.{Kind, differences, temperatures, periodOf, countOf, History, noteTick, noteGood, noteFailed, note}
 use Rattle.device.specs.Claim.{isTick, isDelivery, isGood, isFailed, startReported, failureReported, noneLost}
+use Rattle.device.specs.Claim.{isRefusal, spanOf, stretchIn, named, noteTicks}
 use Rattle.device.specs.Claim.{averagesOf, portWord, awaitedNow, deliveryOf, countRegister, Complete, KindClaim}
 use Rattle.device.proofs.Table.{NoneHolds, negated, picked}
 use Rattle.device.proofs.Sound.{hits-counted, hits-below}
 use Rattle.device.proofs.Sound
 use Rattle.device.proofs.Going.{Going, all-append, going-tick, going-good, going-failed, unsettled, all-reached, balanced, recent}
+use Rattle.device.proofs.Stretch.{scheduleOf, schedule-ticked, setup-ticked, Apart, apart, start-named, failure-named}
 use Rattle.device.proofs.Calls.{Step, refusal, reading, ticking, flight-failed, flight-good, ports-failed, ports-good}
+use Rattle.device.proofs.Calls.{stretching}
 
 pub record FlightHeld (s : List ℕ) (h : History) (f : Flight) : Type 0 where
   pub going : Going (differencePeriod s .0) (differenceCount s) h (f .schedule)
@@ -237,12 +241,51 @@ module _ (m : Model) (h : History) (i : TemperatureHeld (m .setup) h (m .tempera
             (eqb-true (length w) 4 (negated (eqb (length w) 4) (n .row11)));
       }
 
+-- one tick of either kind
+tick-held :
+    (k : Kind) (m : Model) (h : History) →
+    KindHeld k (m .setup) h m →
+    KindHeld k (m .setup) (noteTick (begins (scheduleOf k m)) (fails (scheduleOf k m)) h) (tickModel m)
+unfolding tickModel
+tick-held differences m h i = flight-ticks m h i
+tick-held temperatures m h i = ports-tick m h i
+
+held-apart : (k : Kind) (s : List ℕ) (h : History) (m : Model) → KindHeld k s h m → Apart (scheduleOf k m)
+held-apart differences s h m i = apart _ _ h (m .flight .schedule) (i .going)
+held-apart temperatures s h m i = apart _ _ h (m .temperature .schedule) (i .going)
+
+-- a stretch tells what its ticks would: up to tick j of its n
+stretch-held :
+    (k : Kind) (m : Model) (h : History) (n j : ℕ) →
+    n ≤ 16384 →
+    j ≤ n →
+    KindHeld k (m .setup) h m →
+    KindHeld k (m .setup) (noteTicks j (stretchReport (scheduleOf k m) n) h) (ticked j m)
+unfolding noteTicks ticked stretchReport
+stretch-held k m h n zero l u i = i
+stretch-held k m h n (suc j) l u i =
+    let g : History = noteTicks j (stretchReport (scheduleOf k m) n) h in
+    let p = stretch-held k m h n j l (omega arith) i in
+    let a : Apart (scheduleTicked j (scheduleOf k m)) = subst Apart (schedule-ticked k j m) (held-apart k (m .setup) g (ticked j m) p) in
+    let t : KindHeld k (m .setup) (noteTick (begins (scheduleOf k (ticked j m))) (fails (scheduleOf k (ticked j m))) g) (tickModel (ticked j m)) =
+    subst
+    (λ (s : List ℕ).
+    KindHeld k s g (ticked j m) → KindHeld k s (noteTick (begins (scheduleOf k (ticked j m))) (fails (scheduleOf k (ticked j m))) g) (tickModel (ticked j m)))
+    (setup-ticked j m) (tick-held k (ticked j m) g) p
+    in
+    rw (
+      start-named (scheduleOf k m) n j (omega arith) l a,
+      failure-named (scheduleOf k m) n j (omega arith) l a,
+      ← (schedule-ticked k j m),
+    )
+    t
+
 -- a refused call tells nothing
 note-refused :
     (k : Kind) (s : List ℕ) (c : Call) (n : ℕ) (h : History) →
     isTick c ≡ false →
     note k s (record { call = c; answer = Refused n }) h ≡ h
-unfolding note isGood isFailed
+unfolding note isGood isFailed noteTicks stretchIn isRefusal
 note-refused k s c n h t = rw t (by-test (isDelivery k c) (λ e. rw e) (λ e. rw e))
 
 pub held-step :
@@ -250,7 +293,7 @@ pub held-step :
     Step m c r →
     KindHeld k (m .setup) h m →
     KindHeld k (m .setup) (note k (m .setup) (record { call = c; answer = r .answer }) h) (r .model)
-unfolding note isTick isDelivery isGood isFailed startReported failureReported reportOf tickModel flightFailed flightGood temperatureFailed temperatureGood
+unfolding note noteTicks stretchIn spanOf isRefusal named isTick isDelivery isGood isFailed startReported failureReported reportOf tickModel flightFailed flightGood temperatureFailed temperatureGood
 held-step differences m h (refusal c n t) i = rw (note-refused differences (m .setup) c n h t) i
 held-step differences m h (reading f o s) i = i
 held-step differences m h ticking i = flight-ticks m h i
@@ -258,6 +301,7 @@ held-step differences m h (flight-failed u d n l) i = flight-fails m h i u d n l
 held-step differences m h (flight-good u d n l) i = flight-adds m h i u d n l
 held-step differences m h (ports-failed w n l) i = i
 held-step differences m h (ports-good w n l) i = i
+held-step differences m h (stretching n l) i = stretch-held differences m h n n l (omega arith) i
 held-step temperatures m h (refusal c n t) i = rw (note-refused temperatures (m .setup) c n h t) i
 held-step temperatures m h (reading f o s) i = i
 held-step temperatures m h ticking i = ports-tick m h i
@@ -265,6 +309,7 @@ held-step temperatures m h (flight-failed u d n l) i = i
 held-step temperatures m h (flight-good u d n l) i = i
 held-step temperatures m h (ports-failed w n l) i = ports-fail m h i w _ n l
 held-step temperatures m h (ports-good w n l) i = ports-add m h i w n l
+held-step temperatures m h (stretching n l) i = stretch-held temperatures m h n n l (omega arith) i
 
 -- "The averages are what E5h, E6h and F0h to F7h hold."
 difference-average :

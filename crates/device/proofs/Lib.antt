@@ -12,6 +12,9 @@ pub mod CallMeaning
 pub mod Witness
 pub mod Bench
 pub mod Going
+pub mod Stretch
+pub mod Quiet
+pub mod StretchMeaning
 pub mod Calls
 pub mod Held
 pub mod Third

@@ -1,5 +1,5 @@
 -- Soundness as plain bounds; a fresh model is sound, and every call keeps a model so.
-use Prim.Native.Nat.{ℕ, _+_, _*_, _≤_, _<_}
+use Prim.Native.Nat.{ℕ, zero, suc, _+_, _*_, _≤_, _<_}
 use native.Mathlib.Omega.{arith}
 use mathlib.Core.Bool.{Bool, true, false}
 use mathlib.Core.List.{List}
@@ -32,10 +32,11 @@ use Rattle.device.specs.declared.Model.{Model}
 use Rattle.device.specs.Model.{sound, flightSound, temperatureSound, sumFits, freshWith, freshModel, resetModel, noFlight, noTemperature}
 use Rattle.device.specs.Write.{clockAfter, writeInvalid, writeModel}
 use Rattle.device.specs.Tick.{lostFlight, flightAfter, temperatureAfter, clockTicked, tickModel}
+use Rattle.device.specs.Stretch.{ticked}
 use Rattle.device.specs.Delivery.{sameCount, flightMiscounted, goodSum, goodSums, goodFlight, flightGood, flightFailed, temperatureGood, temperatureFailed}
 use Rattle.device.specs.Bus.{startsFlight, startsTemperature, isEvent, flightStarted, flightEvent, temperatureEvent}
 use Rattle.device.specs.Bus.{eventFlight, eventTemperature, startedEvent, initialised, haltedModel, singleStarted, runModel, readModel}
-use Rattle.device.specs.Call.{Call, transaction, tick, flight, temperature, Verdict, accepted, refused, opcode, words}
+use Rattle.device.specs.Call.{Call, transaction, tick, flight, temperature, stretch, Verdict, accepted, refused, opcode, words}
 use Rattle.device.specs.Call.{flightFits, anyLate, anyOpen, acceptedModel, miscounted, badCalendar, verdict, reply, replyBy}
 use Rattle.device.proofs.Table.{NoneHolds, none-holds, negated, picked}
 use Rattle.device.specs.Event.{scheduleSound, noSchedule, single, eventStart, tickSchedule, settledAfter, fails, settle, halted}
@@ -457,11 +458,17 @@ transaction-bounds m f o e b =
     (λ w. rw (c, w) (write-bounds (drop 1 f) (opcode f) (words f) m (rw (c, w) at e) b))
     (λ w. rw (c, w) (read-bounds m (opcode f) (words f) b)))
 
+ticked-bounds : (n : ℕ) (m : Model) → Bounds m → Bounds (ticked n m)
+unfolding ticked
+ticked-bounds zero m b = b
+ticked-bounds (suc n) m b = tick-model-bounds (ticked n m) (ticked-bounds n m b)
+
 accepted-bounds : (m : Model) (c : Call) → NoneHolds m c → Bounds m → Bounds (acceptedModel m c)
 accepted-bounds m (transaction f o) n b = transaction-bounds m f o (n .row7) b
 accepted-bounds m tick n b = unfold acceptedModel in tick-model-bounds m b
 accepted-bounds m (flight u d) n b = flight-bounds m u d (n .row11) b
 accepted-bounds m (temperature w) n b = temperature-bounds m w (n .row11) b
+accepted-bounds m (stretch k) n b = unfold acceptedModel in ticked-bounds k m b
 
 -- "a fresh model is sound and every call keeps it so"
 pub fresh-sound : sound freshModel ≡ true

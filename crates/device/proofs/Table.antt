@@ -12,8 +12,8 @@ use Rattle.device.specs.declared.Model.{Model}
 use Rattle.device.specs.Model.{sound}
 use Rattle.device.specs.Call.{Call, Row, accepted, refused, verdict, firstOf, table, reply, replyBy, output, outputBy, bufferOf}
 use Rattle.device.specs.Call.{noFrame, notCarried, wrongLength, pastRegisters, shortOutput, whileBusy, badCalendar}
-use Rattle.device.specs.Call.{notInitialised, badSetup, notAwaited, miscounted}
-use Rattle.device.specs.Call.{transaction, tick, flight, temperature, anyLate, anyOpen, acceptedAnswer, numberIn}
+use Rattle.device.specs.Call.{notInitialised, badSetup, notAwaited, miscounted, tooLong}
+use Rattle.device.specs.Call.{transaction, tick, flight, temperature, stretch, anyLate, anyOpen, acceptedAnswer, numberIn}
 use Rattle.frame.specs.Frame.{isCommand, isWrite}
 use lib.ListN.{getD}
 
@@ -29,7 +29,7 @@ negated false e = sym e
 -- "Checked in this order"
 pub numbers :
     (m : Model) (c : Call) →
-    map (λ (r : Row). r .number) (table m c) ≡ 0 ∷ 1 ∷ 2 ∷ 3 ∷ 4 ∷ 5 ∷ 6 ∷ 7 ∷ 8 ∷ 9 ∷ 10 ∷ 11 ∷ []
+    map (λ (r : Row). r .number) (table m c) ≡ 0 ∷ 1 ∷ 2 ∷ 3 ∷ 4 ∷ 5 ∷ 6 ∷ 7 ∷ 8 ∷ 9 ∷ 10 ∷ 11 ∷ 12 ∷ []
 unfolding table
 numbers m c = refl
 
@@ -72,6 +72,7 @@ pub record NoneHolds (m : Model) (c : Call) : Type 0 where
   pub row9 : badSetup m c ≡ false
   pub row10 : notAwaited m c ≡ false
   pub row11 : miscounted m c ≡ false
+  pub row12 : tooLong c ≡ false
 
 pub none-holds : (m : Model) (c : Call) → verdict m c ≡ accepted → NoneHolds m c
 unfolding verdict table
@@ -90,6 +91,7 @@ none-holds m c e =
       row9 = search;
       row10 = search;
       row11 = search;
+      row12 = search;
     }
 
 -- "A refusal answers its number; model and output buffer keep every value."
@@ -110,6 +112,7 @@ accepted-number m (transaction f o) =
 accepted-number m tick = refl
 accepted-number m (flight u d) = picked (λ a. numberIn a ≡ []) (anyLate m u d) (λ _. refl) (λ _. refl)
 accepted-number m (temperature w) = picked (λ a. numberIn a ≡ []) (anyOpen m w) (λ _. refl) (λ _. refl)
+accepted-number m (stretch n) = refl
 
 pub number-refused : (m : Model) (c : Call) (n : ℕ) → verdict m c ≡ refused n → numberIn (reply m c .answer) ≡ n ∷ []
 unfolding reply replyBy numberIn

@@ -20,12 +20,14 @@ use Rattle.frame.specs.Frame.{isCommand}
 use Rattle.measurement.specs.Mean.{sum, biasedTotal}
 use Rattle.device.specs.declared.Model.{Model}
 use Rattle.device.specs.declared.Reply.{Reply}
+use Rattle.device.specs.declared.StretchReport.{StretchReport}
 use Rattle.device.specs.Model.{sound, freshModel}
 use Rattle.device.specs.Bus.{startsFlight, startsTemperature, isEvent, eventSideUnset, commandUnset, flightEvent, temperatureEvent, eventFlight, eventTemperature, startedEvent, runModel}
-use Rattle.device.specs.Call.{Call, badSetup, accepted, verdict, acceptedAnswer, acceptedModel, accept, replyBy, reply}
+use Rattle.device.specs.Call.{Call, transaction, tick, flight, temperature, stretch, badSetup, accepted, verdict, acceptedAnswer, acceptedModel, accept, replyBy, reply}
 use Rattle.device.specs.Claim.{Kind, differences, temperatures, Entry, History, note, noteTick, noteGood, noteFailed, history, after, log, onlyReads, isTick, isDelivery, isGood, isFailed}
-use Rattle.device.specs.Claim.{startReported, beginning, runs, tickCount, command, ThirdDemand}
-use Rattle.device.proofs.Table.{none-holds}
+use Rattle.device.specs.Claim.{startReported, beginning, runs, isRefusal, spanOf, stretchIn, named, noteTicks, ticksIn, tickCount}
+use Rattle.device.specs.Claim.{command, ThirdDemand}
+use Rattle.device.proofs.Table.{none-holds, picked}
 use Rattle.device.proofs.Sound.{bounds-of, fresh-sound, keeps-sound}
 use Rattle.device.proofs.Going.{going-start}
 use Rattle.device.proofs.Calls.{stepped, setup-kept, clock-step}
@@ -55,25 +57,26 @@ all-held k s (c ∷ cs) m h e v p i =
     KindHeld k s h m → KindHeld k s (note k s (record { call = c; answer = reply m c .answer }) h) (reply m c .model))
     e (held-step k m h t) i)
 
-after-tick : (n : ℕ) (c : Clock) → afterTicks n (tickClock c) ≡ tickClock (afterTicks n c)
+after-ticks : (a b : ℕ) (c : Clock) → afterTicks a (afterTicks b c) ≡ afterTicks (b + a) c
 unfolding afterTicks
-after-tick zero c = refl
-after-tick (suc n) c = ap tickClock (after-tick n c)
+after-ticks zero b c = let e : b + 0 ≡ b = omega arith in rw e
+after-ticks (suc a) b c = let e : b + suc a ≡ suc (b + a) = omega arith in rw e (ap tickClock (after-ticks a b c))
 
 all-ticks :
     (cs : List Call) (m : Model) →
     clockStands (m .setup) ≡ false →
     sound m ≡ true →
     onlyReads (log m cs) ≡ true →
-    (after m cs) .clock ≡ afterTicks (tickCount cs) (m .clock)
+    (after m cs) .clock ≡ afterTicks (tickCount (log m cs)) (m .clock)
 unfolding log onlyReads after tickCount afterTicks
 all-ticks [] m e v p = refl
 all-ticks (c ∷ cs) m e v p =
     let (now, rest) = both-true _ _ p in
     let t = stepped m c v now in
+    let n : ℕ = tickCount (log (reply m c .model) cs) in
     all-ticks cs (reply m c .model) (ap clockStands (setup-kept m t) ∙ e) (keeps-sound m c v) rest ∙
-    ap (afterTicks (tickCount cs)) (clock-step m t e) ∙
-    by-test (isTick c) (λ d. rw (d, add-one (tickCount cs)) (after-tick (tickCount cs) (m .clock))) (λ d. rw d)
+    ap (afterTicks n) (clock-step m t e) ∙
+    after-ticks n (ticksIn (record { call = c; answer = reply m c .answer })) (m .clock)
 
 sound-after : (cs : List Call) (m : Model) → sound m ≡ true → sound (after m cs) ≡ true
 unfolding after
@@ -161,25 +164,41 @@ held-start temperatures m op r =
       complete = tt;
     })
 
--- each `tick` of the list counts
-note-ticks : (k : Kind) (s : List ℕ) (c : Entry) (h : History) → (note k s c h) .ticks ≡ pick (isTick (c .call)) (h .ticks + 1) (h .ticks)
-unfolding note noteTick noteGood noteFailed
-note-ticks k s c h =
-    by-test (isTick (c .call)) (λ a. rw a)
-    (λ a. by-test (both (isDelivery k (c .call)) (isGood (c .answer))) (λ b. rw (a, b))
-    (λ b. by-test (both (isDelivery k (c .call)) (isFailed (c .answer))) (λ d. rw (a, b, d)) (λ d. rw (a, b, d))))
+-- each tick of the list counts, and each of an accepted stretch
+noted-ticks : (n : ℕ) (r : StretchReport) (h : History) → (noteTicks n r h) .ticks ≡ h .ticks + n
+unfolding noteTicks noteTick
+noted-ticks zero r h = omega arith
+noted-ticks (suc n) r h = omega (arith, noted-ticks n r h)
+
+no-span : (k : Kind) (c : Call) → isDelivery k c ≡ true → spanOf c ≡ 0
+unfolding isDelivery spanOf
+no-span k (transaction f o) d = refl
+no-span k tick d = refl
+no-span k (flight u d) e = refl
+no-span k (temperature w) d = refl
+no-span k (stretch n) d = cc
+
+delivered-none : (k : Kind) (e : Entry) → isDelivery k (e .call) ≡ true → stretchIn e ≡ 0
+unfolding stretchIn
+delivered-none k e d =
+    rw (no-span k (e .call) d) (picked (λ x. x ≡ 0) (isRefusal (e .answer)) (λ _. refl) (λ _. refl))
+
+note-ticks : (k : Kind) (s : List ℕ) (e : Entry) (h : History) → (note k s e h) .ticks ≡ h .ticks + ticksIn e
+unfolding note noteTick noteGood noteFailed ticksIn
+note-ticks k s e h =
+    by-test (isTick (e .call)) (λ a. rw a)
+    (λ a. by-test (both (isDelivery k (e .call)) (isGood (e .answer))) (λ b. rw (a, b, delivered-none k e (both-true _ _ b .0)) (omega arith))
+    (λ b. by-test (both (isDelivery k (e .call)) (isFailed (e .answer))) (λ d. rw (a, b, d, delivered-none k e (both-true _ _ d .0)) (omega arith))
+    (λ d. rw (a, b, d) (noted-ticks (stretchIn e) (named k (e .answer)) h))))
 
 all-counted :
     (k : Kind) (s : List ℕ) (cs : List Call) (m : Model) (h : History) →
-    (history k s (log m cs) h) .ticks ≡ h .ticks + tickCount cs
+    (history k s (log m cs) h) .ticks ≡ h .ticks + tickCount (log m cs)
 unfolding log history tickCount
 all-counted k s [] m h = omega arith
 all-counted k s (c ∷ cs) m h =
     let e : Entry = record { call = c; answer = reply m c .answer } in
-    all-counted k s cs (reply m c .model) (note k s e h) ∙
-    by-test (isTick c)
-    (λ a. rw (note-ticks k s e h, a) (omega arith))
-    (λ a. rw (note-ticks k s e h, a))
+    all-counted k s cs (reply m c .model) (note k s e h) ∙ rw (note-ticks k s e h) (omega arith)
 
 event-codes : (op : ℕ) → 0x07 ≤ op → op ≤ 0x09 → isEvent op ≡ true
 unfolding isEvent
@@ -194,9 +213,10 @@ third-demand before op o later from to v p =
     let s : sound m ≡ true = sound-after before freshModel fresh-sound in
     let k : sound n ≡ true = keeps-sound m (command op o) s in
     let q = accepted-event m op o e v in
-    let c : (after n later) .clock ≡ afterTicks (tickCount later) (m .clock) =
+    let t : ℕ = tickCount (log n later) in
+    let c : (after n later) .clock ≡ afterTicks t (m .clock) =
     all-ticks later n (ap (λ (r : Reply). clockStands (r .model .setup)) q ∙ clock-runs m op o e v) k p ∙
-    ap (λ (r : Reply). afterTicks (tickCount later) (r .model .clock)) q in
+    ap (λ (r : Reply). afterTicks (t) (r .model .clock)) q in
     record {
       kinds =
           λ j r.
@@ -205,11 +225,11 @@ third-demand before op o later from to v p =
           (ap (λ (r : Reply). r .model .setup) q) k p
           (subst (λ (r : Reply). KindHeld j (m .setup) (beginning j (r .answer)) (r .model)) (sym q) (held-start j m op r)));
       ticks =
-          λ j. all-counted j (m .setup) later n (beginning j (reply m (command op o) .answer)) ∙ zero-add (tickCount later);
+          λ j. all-counted j (m .setup) later n (beginning j (reply m (command op o) .answer)) ∙ zero-add (t);
       clock =
           record {
             valid = bounds-of (after n later) (sound-after later n k) .clock;
-            shown = ap moment c ∙ after-moment (tickCount later) (m .clock) (bounds-of m s .clock);
-            weekday = ap (λ (c : Clock). c .weekday) c ∙ after-weekday (tickCount later) (m .clock) (bounds-of m s .clock);
+            shown = ap moment c ∙ after-moment (t) (m .clock) (bounds-of m s .clock);
+            weekday = ap (λ (c : Clock). c .weekday) c ∙ after-weekday (t) (m .clock) (bounds-of m s .clock);
           };
     }

@@ -15,7 +15,7 @@ use Rattle.device.specs.declared.Schedule.{Schedule}
 use Rattle.device.specs.declared.Model.{Model}
 use Rattle.device.specs.declared.Reply.{Reply}
 use Rattle.device.specs.declared.Answer.{Answer}
-use Rattle.device.specs.declared.Answer.the-variants.{Refused, Accepted, Ticked, Good, Failed}
+use Rattle.device.specs.declared.Answer.the-variants.{Refused, Accepted, Ticked, Stretched, Good, Failed}
 use Rattle.device.specs.declared.Told.{Told}
 use Rattle.device.specs.declared.Told.the-variants.{Value, Refused as NotTold}
 use Rattle.device.specs.Event.{awaits}
@@ -24,6 +24,7 @@ use Rattle.device.specs.Model.{sound, busy}
 use Rattle.device.specs.Registers.{registerWord, fill}
 use Rattle.device.specs.Write.{writeInvalid, writeModel}
 use Rattle.device.specs.Tick.{tickModel, reportOf}
+use Rattle.device.specs.Stretch.{ticked, stretchReport}
 use Rattle.device.specs.Delivery.{flightMiscounted, flightGood, flightFailed, temperatureGood, temperatureFailed}
 use Rattle.device.specs.Bus.{startsFlight, startsTemperature, commandBusy, notReady, commandUnset, runModel, readModel}
 
@@ -33,6 +34,7 @@ pub data Call : Type 0 where
   tick : Call
   flight : List ℕ → List ℕ → Call
   temperature : List ℕ → Call
+  stretch : ℕ → Call
 
 -- "The opcode is the first byte"; the bytes after it; how many whole words these are
 abbrev pub opcode : List ℕ → ℕ
@@ -56,6 +58,7 @@ noFrame (transaction f o) = eqb (length f) 0
 noFrame tick = false
 noFrame (flight u d) = false
 noFrame (temperature w) = false
+noFrame (stretch n) = false
 
 -- 2 "first byte not carried"
 unfoldable pub notCarried : Call → Bool
@@ -63,6 +66,7 @@ notCarried (transaction f o) = bySort f false false (negate (isRead (opcode f)))
 notCarried tick = false
 notCarried (flight u d) = false
 notCarried (temperature w) = false
+notCarried (stretch n) = false
 
 -- 3 "a command with more bytes, or a read or write whose further bytes are not n ≥ 1 whole words"
 unfoldable pub wrongLength : Call → Bool
@@ -70,6 +74,7 @@ wrongLength (transaction f o) = bySort f (negate (eqb (further f) 0)) (notWhole 
 wrongLength tick = false
 wrongLength (flight u d) = false
 wrongLength (temperature w) = false
+wrongLength (stretch n) = false
 
 -- 4 "a write past 43h or a read past FFh"
 unfoldable pub pastRegisters : Call → Bool
@@ -78,6 +83,7 @@ pastRegisters (transaction f o) =
 pastRegisters tick = false
 pastRegisters (flight u d) = false
 pastRegisters (temperature w) = false
+pastRegisters (stretch n) = false
 
 -- 5 "a read with an output buffer below 2n bytes"
 unfoldable pub shortOutput : Call → Bool
@@ -85,6 +91,7 @@ shortOutput (transaction f o) = bySort f false false (ltb (length o) (2 * words 
 shortOutput tick = false
 shortOutput (flight u d) = false
 shortOutput (temperature w) = false
+shortOutput (stretch n) = false
 
 -- 6 "a write, or a command but HALT and Reset, while a measurement is awaited or an event runs"
 unfoldable pub whileBusy : Model → Call → Bool
@@ -92,6 +99,7 @@ whileBusy m (transaction f o) = bySort f (commandBusy m (opcode f)) (busy m) fal
 whileBusy m tick = false
 whileBusy m (flight u d) = false
 whileBusy m (temperature w) = false
+whileBusy m (stretch n) = false
 
 -- 7 "the clock after the write, or the alarm, would be invalid"
 unfoldable pub badCalendar : Model → Call → Bool
@@ -99,6 +107,7 @@ badCalendar m (transaction f o) = bySort f false (writeInvalid (drop 1 f) (opcod
 badCalendar m tick = false
 badCalendar m (flight u d) = false
 badCalendar m (temperature w) = false
+badCalendar m (stretch n) = false
 
 -- 8 "00h to 03h, 07h to 09h before Initialize"
 unfoldable pub notInitialised : Model → Call → Bool
@@ -106,6 +115,7 @@ notInitialised m (transaction f o) = bySort f (notReady m (opcode f)) false fals
 notInitialised m tick = false
 notInitialised m (flight u d) = false
 notInitialised m (temperature w) = false
+notInitialised m (stretch n) = false
 
 -- 9 "see each command"
 unfoldable pub badSetup : Model → Call → Bool
@@ -113,6 +123,7 @@ badSetup m (transaction f o) = bySort f (commandUnset m (opcode f)) false false
 badSetup m tick = false
 badSetup m (flight u d) = false
 badSetup m (temperature w) = false
+badSetup m (stretch n) = false
 
 -- 10 "a delivery of a kind that is not awaited"
 unfoldable pub notAwaited : Model → Call → Bool
@@ -120,6 +131,7 @@ notAwaited m (transaction f o) = false
 notAwaited m tick = false
 notAwaited m (flight u d) = negate (awaits (m .flight .schedule))
 notAwaited m (temperature w) = negate (awaits (m .temperature .schedule))
+notAwaited m (stretch n) = false
 
 -- 11 "a delivery with another number of words"
 unfoldable pub miscounted : Model → Call → Bool
@@ -127,6 +139,15 @@ miscounted m (transaction f o) = false
 miscounted m tick = false
 miscounted m (flight u d) = flightMiscounted (m .flight) (hitCount (m .setup)) (length u) (length d)
 miscounted m (temperature w) = negate (eqb (length w) 4)
+miscounted m (stretch n) = false
+
+-- 12 "span, for a larger n" than 16,384, "after number 0" (Note 1)
+unfoldable pub tooLong : Call → Bool
+tooLong (transaction f o) = false
+tooLong tick = false
+tooLong (flight u d) = false
+tooLong (temperature w) = false
+tooLong (stretch n) = ltb 16384 n
 
 -- The table: a number and whether its condition holds.
 pub record Row : Type 0 where
@@ -150,6 +171,7 @@ table m c =
     row 9 (badSetup m c) ∷
     row 10 (notAwaited m c) ∷
     row 11 (miscounted m c) ∷
+    row 12 (tooLong c) ∷
     []
 
 -- "Checked in this order: the first whose condition holds is given, none when none holds."
@@ -166,7 +188,7 @@ verdict m c = firstOf (table m c)
 
 -- What an accepted call answers: "An accepted transaction answers the kinds that it started, none for a read, a write or
 -- another command." "A delivery's answer says good or failed; a tick's answer says for each kind whether one started and
--- whether one failed in it."
+-- whether one failed in it." A stretch's answer names the ticks (Note 1).
 unfoldable pub anyLate : Model → List ℕ → List ℕ → Bool
 anyLate m u d = either (anyFrom (lateFrom (timeout (m .setup))) u) (anyFrom (lateFrom (timeout (m .setup))) d)
 
@@ -179,6 +201,8 @@ acceptedAnswer m (transaction f o) =
 acceptedAnswer m tick = Ticked (reportOf (m .flight .schedule)) (reportOf (m .temperature .schedule))
 acceptedAnswer m (flight u d) = pick (anyLate m u d) Failed Good
 acceptedAnswer m (temperature w) = pick (anyOpen m w) Failed Good
+acceptedAnswer m (stretch n) =
+    Stretched (stretchReport (m .flight .schedule) n) (stretchReport (m .temperature .schedule) n)
 
 -- The model that an accepted call leaves.
 unfoldable pub acceptedModel : Model → Call → Model
@@ -189,6 +213,7 @@ acceptedModel m (flight u d) =
     pick (anyLate m u d) (flightFailed m) (flightGood m (hitCount (m .setup)) (six u) (six d))
 acceptedModel m (temperature w) =
     pick (anyOpen m w) (temperatureFailed m (openFrom (portCycle (m .setup))) (four w)) (temperatureGood m (four w))
+acceptedModel m (stretch n) = ticked n m
 
 -- The output buffer that an accepted transaction leaves.
 unfoldable pub acceptedOutput : Model → Call → List ℕ
@@ -196,6 +221,7 @@ acceptedOutput m (transaction f o) = bySort f o o (fill m (opcode f) o (words f)
 acceptedOutput m tick = []
 acceptedOutput m (flight u d) = []
 acceptedOutput m (temperature w) = []
+acceptedOutput m (stretch n) = []
 
 -- "A refusal answers its number; model and output buffer keep every value."
 abbrev pub refuse : ℕ → Model → Reply
@@ -214,6 +240,7 @@ unfoldable pub numberIn : Answer → List ℕ
 numberIn (Refused n) = n ∷ []
 numberIn (Accepted f t) = []
 numberIn (Ticked f t) = []
+numberIn (Stretched f t) = []
 numberIn Good = []
 numberIn Failed = []
 
@@ -222,6 +249,7 @@ bufferOf (transaction f o) = o
 bufferOf tick = []
 bufferOf (flight u d) = []
 bufferOf (temperature w) = []
+bufferOf (stretch n) = []
 
 unfoldable pub outputBy : Verdict → Model → Call → List ℕ
 outputBy accepted m c = acceptedOutput m c

@@ -17,11 +17,12 @@ use Rattle.device.specs.declared.Schedule.{Schedule}
 use Rattle.device.specs.declared.Model.{Model}
 use Rattle.device.specs.declared.Reply.{Reply}
 use Rattle.device.specs.declared.Report.{Report}
+use Rattle.device.specs.declared.StretchReport.{StretchReport}
 use Rattle.device.specs.declared.Answer.{Answer}
-use Rattle.device.specs.declared.Answer.the-variants.{Refused, Accepted, Ticked, Good, Failed}
+use Rattle.device.specs.declared.Answer.the-variants.{Refused, Accepted, Ticked, Stretched, Good, Failed}
 use Rattle.device.specs.Registers.{registerWord}
 use Rattle.device.specs.Model.{freshModel}
-use Rattle.device.specs.Call.{Call, transaction, tick, flight, temperature, opcode, reply, verdict, Verdict, accepted, notAwaited}
+use Rattle.device.specs.Call.{Call, transaction, tick, flight, temperature, stretch, opcode, reply, verdict, Verdict, accepted, notAwaited}
 
 -- "Both its lists run on one model: each call is handed the model that the call before it returned or left".
 unfoldable pub after : Model → List Call → Model
@@ -42,6 +43,7 @@ unfoldable pub isRefusal : Answer → Bool
 isRefusal (Refused n) = true
 isRefusal (Accepted f t) = false
 isRefusal (Ticked f t) = false
+isRefusal (Stretched f t) = false
 isRefusal Good = false
 isRefusal Failed = false
 
@@ -50,6 +52,7 @@ isReading (transaction f o) = isRead (opcode f)
 isReading tick = true
 isReading (flight u d) = true
 isReading (temperature w) = true
+isReading (stretch n) = true
 
 unfoldable pub onlyReads : List Entry → Bool
 onlyReads [] = true
@@ -80,6 +83,7 @@ startReported differences (Accepted f t) = f
 startReported temperatures (Accepted f t) = t
 startReported differences (Ticked f t) = f .started
 startReported temperatures (Ticked f t) = t .started
+startReported k (Stretched f t) = false
 startReported k Good = false
 startReported k Failed = false
 
@@ -88,13 +92,25 @@ failureReported k (Refused n) = false
 failureReported k (Accepted f t) = false
 failureReported differences (Ticked f t) = f .failed
 failureReported temperatures (Ticked f t) = t .failed
+failureReported k (Stretched f t) = false
 failureReported k Good = false
 failureReported k Failed = false
+
+-- What a stretch names of a kind.
+unfoldable pub named : Kind → Answer → StretchReport
+named k (Refused n) = record { started = 0; failed = 0 }
+named k (Accepted f t) = record { started = 0; failed = 0 }
+named k (Ticked f t) = record { started = 0; failed = 0 }
+named differences (Stretched f t) = f
+named temperatures (Stretched f t) = t
+named k Good = record { started = 0; failed = 0 }
+named k Failed = record { started = 0; failed = 0 }
 
 unfoldable pub isGood : Answer → Bool
 isGood (Refused n) = false
 isGood (Accepted f t) = false
 isGood (Ticked f t) = false
+isGood (Stretched f t) = false
 isGood Good = true
 isGood Failed = false
 
@@ -102,6 +118,7 @@ unfoldable pub isFailed : Answer → Bool
 isFailed (Refused n) = false
 isFailed (Accepted f t) = false
 isFailed (Ticked f t) = false
+isFailed (Stretched f t) = false
 isFailed Good = false
 isFailed Failed = true
 
@@ -110,6 +127,15 @@ isTick (transaction f o) = false
 isTick tick = true
 isTick (flight u d) = false
 isTick (temperature w) = false
+isTick (stretch n) = false
+
+-- The ticks of a stretch; no other call has any.
+unfoldable pub spanOf : Call → ℕ
+spanOf (transaction f o) = 0
+spanOf tick = 0
+spanOf (flight u d) = 0
+spanOf (temperature w) = 0
+spanOf (stretch n) = n
 
 unfoldable pub isDelivery : Kind → Call → Bool
 isDelivery k (transaction f o) = false
@@ -118,6 +144,7 @@ isDelivery differences (flight u d) = true
 isDelivery temperatures (flight u d) = false
 isDelivery differences (temperature w) = false
 isDelivery temperatures (temperature w) = true
+isDelivery k (stretch n) = false
 
 -- "By the set-up at acceptance, an accepted flight delivery is answered good exactly when none of its words is late, a
 -- temperature one exactly when none is open."
@@ -127,6 +154,7 @@ noneLost s tick = false
 noneLost s (flight u d) =
     negate (either (anyFrom (lateFrom (timeout s)) u) (anyFrom (lateFrom (timeout s)) d))
 noneLost s (temperature w) = negate (anyFrom (openFrom (portCycle s)) w)
+noneLost s (stretch n) = false
 
 -- "A flight delivery's difference is the up list's sum ÷ H rounded down, less the same of the down list"
 unfoldable pub averagesOf : List ℕ → Call → Averages
@@ -134,6 +162,7 @@ averagesOf s (transaction f o) = record { up = 0; down = 0 }
 averagesOf s tick = record { up = 0; down = 0 }
 averagesOf s (flight u d) = record { up = sum u / hitCount s; down = sum d / hitCount s }
 averagesOf s (temperature w) = record { up = 0; down = 0 }
+averagesOf s (stretch n) = record { up = 0; down = 0 }
 
 -- "a temperature delivery's port words are the four delivered, each port with a mean of its own": port 0 to 3
 unfoldable pub portWord : ℕ → Call → ℕ
@@ -141,6 +170,7 @@ portWord i (transaction f o) = 0
 portWord i tick = 0
 portWord i (flight u d) = 0
 portWord i (temperature w) = getD w i 0
+portWord i (stretch n) = 0
 
 -- A failure that a tick reports: the kind's last start before it, and the tick.
 pub record Expiry : Type 0 where
@@ -188,6 +218,15 @@ noteTick started failed h =
       misjudged = h .misjudged;
     }
 
+-- "each accepted one counts as its n ticks, and a start or failure named in its answer as reported by that tick" (Note 1)
+unfoldable pub noteTicks : ℕ → StretchReport → History → History
+noteTicks zero r h = h
+noteTicks (suc n) r h = noteTick (eqb (r .started) (n + 1)) (eqb (r .failed) (n + 1)) (noteTicks n r h)
+
+-- The ticks of an accepted stretch.
+unfoldable pub stretchIn : Entry → ℕ
+stretchIn e = pick (isRefusal (e .answer)) 0 (spanOf (e .call))
+
 -- A delivery answered good, or failed.
 unfoldable pub noteGood : List ℕ → Call → History → History
 noteGood s c h =
@@ -218,7 +257,8 @@ unfoldable pub note : Kind → List ℕ → Entry → History → History
 note k s e h =
     pick (isTick (e .call)) (noteTick (startReported k (e .answer)) (failureReported k (e .answer)) h)
     (pick (both (isDelivery k (e .call)) (isGood (e .answer))) (noteGood s (e .call) h)
-    (pick (both (isDelivery k (e .call)) (isFailed (e .answer))) (noteFailed s (e .call) h) h))
+    (pick (both (isDelivery k (e .call)) (isFailed (e .answer))) (noteFailed s (e .call) h)
+    (noteTicks (stretchIn e) (named k (e .answer)) h)))
 
 unfoldable pub history : Kind → List ℕ → List Entry → History → History
 history k s [] h = h
@@ -259,6 +299,7 @@ Complete s (transaction f o) = ⊥
 Complete s tick = ⊥
 Complete s (flight u d) = (length u ≡ hitCount s) × (length d ≡ hitCount s)
 Complete s (temperature w) = length w ≡ 4
+Complete s (stretch n) = ⊥
 
 -- "cycle counts (E4h, EFh)"
 unfoldable pub countRegister : Kind → ℕ
@@ -285,9 +326,12 @@ pub record KindClaim (k : Kind) (s : List ℕ) (h : History) (m : Model) : Type 
 
 -- "And the clock shows the moment that lies as many ticks after acceptance as the list holds, 2000 following 2099." "Its
 -- weekday has stepped once for each midnight passed."
-unfoldable pub tickCount : List Call → ℕ
+unfoldable pub ticksIn : Entry → ℕ
+ticksIn e = pick (isTick (e .call)) 1 (stretchIn e)
+
+unfoldable pub tickCount : List Entry → ℕ
 tickCount [] = 0
-tickCount (c ∷ cs) = pick (isTick c) (tickCount cs + 1) (tickCount cs)
+tickCount (e ∷ es) = ticksIn e + tickCount es
 
 pub record ClockClaim (m : Model) (n : ℕ) (end : Model) : Type 0 where
   pub shown : moment (end .clock) ≡ (moment (m .clock) + n) % century
@@ -308,8 +352,11 @@ pub record EventClaim (m : Model) (op : ℕ) (o : List ℕ) (later : List Call) 
       runs k op ≡ true →
       KindClaim k (m .setup) (toldOf k m op o later) (after (reply m (command op o) .model) later)
   -- both count the same ticks
-  pub ticks : (k : Kind) → (toldOf k m op o later) .ticks ≡ tickCount later
-  pub clock : ClockClaim m (tickCount later) (after (reply m (command op o) .model) later)
+  pub ticks :
+      (k : Kind) → (toldOf k m op o later) .ticks ≡ tickCount (log (reply m (command op o) .model) later)
+  pub clock :
+      ClockClaim m (tickCount (log (reply m (command op o) .model) later))
+      (after (reply m (command op o) .model) later)
 
 -- The third demand: "Let a model grow from a fresh one by any list of transactions, ticks and deliveries, refused ones among
 -- them, and then accept an event command. For every list of ticks, deliveries, register reads and refused calls that

@@ -4,6 +4,7 @@ pub mod Model
 pub mod Registers
 pub mod Write
 pub mod Tick
+pub mod Stretch
 pub mod Delivery
 pub mod Bus
 pub mod Call

@@ -67,6 +67,12 @@ pub struct Report {
     pub failed: bool,
 }
 
+// The ticks of a stretch, from 1 on, in which a measurement of a kind started and one failed; 0 for none.
+pub struct StretchReport {
+    pub started: u32,
+    pub failed: u32,
+}
+
 pub enum Answer {
     // The number of the refusal.
     Refused(u32),
@@ -74,6 +80,8 @@ pub enum Answer {
     Accepted(bool, bool),
     // A tick: flight, temperature.
     Ticked(Report, Report),
+    // A stretch of ticks: flight, temperature.
+    Stretched(StretchReport, StretchReport),
     // A delivery.
     Good,
     Failed,
@@ -82,6 +90,14 @@ pub enum Answer {
 pub struct Reply {
     pub answer: Answer,
     pub model: Model,
+}
+
+// A stretch under way: the model and the reports after so many of its ticks.
+pub struct Progress {
+    pub model: Model,
+    pub done: u32,
+    pub flight: StretchReport,
+    pub temperature: StretchReport,
 }
 
 // The answer of a question that changes nothing.

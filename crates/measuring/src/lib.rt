@@ -1,3 +1,4 @@
-// One tick, and the deliveries of hit words.
+// One tick, stretches of ticks, and the deliveries of hit words.
 pub mod delivery;
+pub mod stretch;
 pub mod tick;

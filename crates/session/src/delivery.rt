@@ -2,7 +2,6 @@
 use crate::Session;
 use crate::counts::after_call;
 use crate::output::add_line;
-use crate::output::put_refusal;
 use device::Answer;
 
 pub fn flight(s: Session, up: &[u32], down: &[u32], answers: &mut [u8]) -> Session {
@@ -23,17 +22,6 @@ pub fn temperature(s: Session, words: &[u32], answers: &mut [u8]) -> Session {
 
 fn add_delivery(answers: &mut [u8], at: usize, word: &[u8], answer: Answer) -> usize {
     let mut out = [0u8; 128];
-    let a = numeral::put_text(&mut out, 0, word);
-    let b = put_answer(&mut out, a, answer);
-    add_line(answers, at, &mut out, b)
-}
-
-fn put_answer(out: &mut [u8], at: usize, answer: Answer) -> usize {
-    match answer {
-        Answer::Refused(number) => put_refusal(out, at, number),
-        Answer::Accepted(_, _) => at,
-        Answer::Ticked(_, _) => at,
-        Answer::Good => numeral::put_text(out, at, b" good"),
-        Answer::Failed => numeral::put_text(out, at, b" failed"),
-    }
+    let n = wording::delivery::put_delivery(&mut out, word, answer);
+    add_line(answers, at, &mut out, n)
 }

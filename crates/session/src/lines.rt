@@ -21,16 +21,19 @@ pub fn answer(s: Session, text: &[u8], answers: &mut [u8]) -> Session {
 fn run(s: Session, call: Call, text: &[u8], numbers: &[u32], answers: &mut [u8]) -> Session {
     match call {
         Call::Nothing => s,
-        Call::TooLong => bad(s, b": too long", answers),
-        Call::UnknownWord => bad(s, b": unknown word", answers),
-        Call::BadNumber => bad(s, b": bad number", answers),
-        Call::WrongCount => bad(s, b": wrong count", answers),
         Call::Item => item(s, text, answers),
         Call::Bus { bytes } => bus(s, first_words(numbers, bytes), answers),
         Call::BusOut { out, bytes } => {
             crate::transaction::bus(s, first_words(numbers, bytes), out as usize, answers)
         }
         Call::Tick(n) => crate::ticks::tick(s, n, answers),
+        _ => deliver(s, call, numbers, answers),
+    }
+}
+
+// The calls that deliver words, or else.
+fn deliver(s: Session, call: Call, numbers: &[u32], answers: &mut [u8]) -> Session {
+    match call {
         Call::Flight { up, down } => flight(
             s,
             first_words(numbers, up),
@@ -39,13 +42,21 @@ fn run(s: Session, call: Call, text: &[u8], numbers: &[u32], answers: &mut [u8])
             answers,
         ),
         Call::Temperature(n) => crate::delivery::temperature(s, first_words(numbers, n), answers),
-        Call::Int => interrupt(s, answers),
-        Call::Awaited => awaited(s, answers),
-        Call::Regs => regs(s, answers),
         Call::Expect { address, words } => {
             crate::expectation::expect(s, address, first_words(numbers, words), answers)
         }
+        _ => tell(s, call, answers),
+    }
+}
+
+// The questions, or else a line that is no call.
+fn tell(s: Session, call: Call, answers: &mut [u8]) -> Session {
+    match call {
+        Call::Int => interrupt(s, answers),
+        Call::Awaited => awaited(s, answers),
+        Call::Regs => regs(s, answers),
         Call::Show => show(s, answers),
+        _ => bad(s, call, answers),
     }
 }
 
@@ -58,12 +69,10 @@ fn flight(s: Session, up: &[u32], rest: &[u32], down: usize, answers: &mut [u8])
 }
 
 // A line that is no call.
-fn bad(s: Session, why: &[u8], answers: &mut [u8]) -> Session {
+fn bad(s: Session, call: Call, answers: &mut [u8]) -> Session {
     let mut out = [0u8; 64];
-    let a = numeral::put_text(&mut out, 0, b"line ");
-    let b = numeral::put_decimal(&mut out, a, s.lines);
-    let c = numeral::put_text(&mut out, b, why);
-    with_bad(s, add_line(answers, s.used, &mut out, c))
+    let n = wording::fault::put_fault(&mut out, s.lines, call);
+    with_bad(s, add_line(answers, s.used, &mut out, n))
 }
 
 fn item(s: Session, text: &[u8], answers: &mut [u8]) -> Session {

@@ -1,13 +1,14 @@
 // The lines `tick`.
+ghost use Prim.Native.Nat.{_<_, _≤_};
 use crate::Session;
 use crate::counts::after_call;
 use crate::output::add;
 use crate::output::make_room;
 use device::Answer;
 use device::Reply;
-use device::Report;
+use device::StretchReport;
 
-// n single ticks.
+// n ticks.
 pub fn tick(s: Session, n: u32, answers: &mut [u8]) -> Session {
     let used = add_count(answers, s.used, n);
     run(s, used, n, answers)
@@ -20,63 +21,52 @@ fn add_count(answers: &mut [u8], at: usize, n: u32) -> usize {
     add(answers, at, &out, b)
 }
 
+// In stretches, which end as so many single ticks do.
 fn run(s: Session, at: usize, n: u32, answers: &mut [u8]) -> Session {
     let mut model = s.model;
     let mut used = at;
-    let mut i = 0;
-    while i < n {
-        i += 1;
-        let reply = converter::tick(model);
+    let mut done = 0;
+    while done < n {
+        let span = span_of(n - done);
+        let reply = converter::stretch(model, span);
         model = reply.model;
         let answer = reply.answer;
-        used = add_reports(answers, used, answer, i);
+        used = add_reports(answers, used, answer, done);
+        done += span;
     }
     let answer = Answer::Good;
     let end = numeral::put_text(answers, used, b"\n");
     after_call(s, Reply { answer, model }, end)
 }
 
-fn add_reports(answers: &mut [u8], at: usize, answer: Answer, i: u32) -> usize {
+// The next stretch, where so many ticks are left.
+fn span_of(left: u32) -> u32
+    requires { ⌜ 0 < left ⌝ }
+    ensures { λ r. ⌜ (0 < r) × (r ≤ left) ⌝ }
+{
+    if left <= 16384 { left } else { 16384 }
+}
+
+fn add_reports(answers: &mut [u8], at: usize, answer: Answer, done: u32) -> usize {
     match answer {
-        Answer::Ticked(flight, temperature) => {
-            if has_happened(flight) {
-                return add_both(answers, at, flight, temperature, i);
+        Answer::Stretched(flight, temperature) => {
+            if wording::ticks::none_named(flight, temperature) {
+                return at;
             }
-            if has_happened(temperature) {
-                return add_both(answers, at, flight, temperature, i);
-            }
-            at
+            add_named(answers, at, flight, temperature, done)
         }
-        Answer::Refused(_) => at,
-        Answer::Accepted(_, _) => at,
-        Answer::Good => at,
-        Answer::Failed => at,
+        _ => at,
     }
 }
 
-fn has_happened(report: Report) -> bool {
-    if report.failed { true } else { report.started }
-}
-
-fn add_both(answers: &mut [u8], at: usize, flight: Report, temperature: Report, i: u32) -> usize {
+fn add_named(
+    answers: &mut [u8],
+    at: usize,
+    flight: StretchReport,
+    temperature: StretchReport,
+    done: u32,
+) -> usize {
     let mut out = [0u8; 128];
-    let a = put_report(&mut out, 0, flight.failed, b" failed-flight@", i);
-    let b = put_report(&mut out, a, flight.started, b" started-flight@", i);
-    let c = put_report(&mut out, b, temperature.failed, b" failed-temperature@", i);
-    let d = put_report(
-        &mut out,
-        c,
-        temperature.started,
-        b" started-temperature@",
-        i,
-    );
-    add(answers, make_room(answers, at), &out, d)
-}
-
-fn put_report(out: &mut [u8], at: usize, holds: bool, what: &[u8], i: u32) -> usize {
-    if holds {
-        let a = numeral::put_text(out, at, what);
-        return numeral::put_decimal(out, a, i as u64);
-    }
-    at
+    let n = wording::ticks::put_named(&mut out, flight, temperature, done);
+    add(answers, make_room(answers, at), &out, n)
 }

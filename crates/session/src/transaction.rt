@@ -5,7 +5,6 @@ use crate::Session;
 use crate::counts::after_call;
 use crate::output::add_line;
 use crate::output::first_bytes;
-use crate::output::put_refusal;
 use device::Answer;
 
 // A transaction of the low bytes of these words, with an output buffer of `size` bytes.
@@ -59,54 +58,6 @@ pub fn buffer_size(words: &[u32]) -> usize
 
 fn add_bus(answers: &mut [u8], at: usize, answer: Answer, buffer: &[u8]) -> usize {
     let mut out = [0u8; 512];
-    let a = numeral::put_text(&mut out, 0, b"bus");
-    let b = put_answer(&mut out, a, answer);
-    let c = put_buffer(&mut out, b, buffer);
-    add_line(answers, at, &mut out, c)
-}
-
-fn put_answer(out: &mut [u8], at: usize, answer: Answer) -> usize {
-    match answer {
-        Answer::Refused(number) => put_refusal(out, at, number),
-        Answer::Accepted(flight, temperature) => put_started(out, at, flight, temperature),
-        Answer::Ticked(_, _) => at,
-        Answer::Good => at,
-        Answer::Failed => at,
-    }
-}
-
-fn put_started(out: &mut [u8], at: usize, flight: bool, temperature: bool) -> usize {
-    if flight {
-        if temperature {
-            return numeral::put_text(out, at, b" ok flight+temperature");
-        }
-        return numeral::put_text(out, at, b" ok flight");
-    }
-    if temperature {
-        return numeral::put_text(out, at, b" ok temperature");
-    }
-    numeral::put_text(out, at, b" ok -")
-}
-
-// ` out ` and the buffer, where it has bytes.
-fn put_buffer(out: &mut [u8], at: usize, buffer: &[u8]) -> usize {
-    if buffer.len() == 0 {
-        return at;
-    }
-    let start = numeral::put_text(out, at, b" out ");
-    put_bytes(out, start, buffer)
-}
-
-fn put_bytes(out: &mut [u8], at: usize, bytes: &[u8]) -> usize {
-    let mut place = at;
-    let mut i = 0;
-    while i < bytes.len() {
-        place = numeral::put_hex(out, place, 2, wide(bytes[i]));
-        i += 1;
-    }
-    place
-}
-
-fn wide(x: u8) -> u32 {
-    x as u32
+    let n = wording::bus::put_bus(&mut out, answer, buffer);
+    add_line(answers, at, &mut out, n)
 }

@@ -25,7 +25,7 @@ returns : tie.Need-returns
 returns c =
     let m = c .before .before .before .before .before .before .before .before .before .args .m in
     let s : sound m ≡ true = sym (c .before .before .before .before .before .before .before .before .is-sound .ensures) ∙ c .before .before .before .before .before .before .before .if1 .taken in
-    cc (reply-tick m s)
+    simp (reply-tick m s, ← c .tick-model .ensures, ← c .before .report-of2 .ensures, ← c .before .before .report-of .ensures)
 
 refused-requires : tie.Need-refused-requires
 refused-requires c κs = search needs

@@ -6,7 +6,6 @@ use Rattle.session.proofs.expectation.put_differing.Statement.{statemen
 use Rattle.session.proofs.expectation.put_differing.Tie as tie
 use Rattle.session.proofs.expectation.put_differing.Reads as reads
 use Rattle.session.proofs.expectation.put_differing.Lts as lts
-use Rattle.session.proofs.expectation.put_pair.Reads as put-pair-reads
 use Rattle.session.proofs.registers.word.Reads as word-reads
 use Rattle.std.proofs.num.wrapping_add_u32.Reads as wrapping-add-u32-reads
 

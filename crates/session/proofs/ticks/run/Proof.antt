@@ -4,30 +4,30 @@ use lib.ListN.{length}
 use mathlib.Core.Path.{_≡_}
 use Rattle.session.proofs.ticks.run.Statement.{statement}
 use Rattle.session.proofs.ticks.run.Tie as tie
-use Rattle.session.proofs.ticks.run.Reads as reads
-use Rattle.session.proofs.ticks.run.Lts as lts
-use Rattle.converter.proofs.tick.Reads as tick-reads
-use Rattle.numeral.proofs.put_text.Reads as put-text-reads
-use Rattle.session.proofs.counts.after_call.Reads as after-call-reads
-use Rattle.session.proofs.ticks.add_reports.Reads as add-reports-reads
 
 abbrev Inv-loop : tie.InvT-loop
-Inv-loop s at n answers₀ model₀ used₀ i₀ t12 answers model used i = (i ≤ n) × (length answers ≡ length answers₀)
+Inv-loop s at n answers₀ model₀ used₀ done₀ t13 answers model used done = (done ≤ n) × (length answers ≡ length answers₀)
 
 abbrev μ-loop : tie.MeasureT-loop
-μ-loop s at n answers₀ model₀ used₀ i₀ t12 answers model used i = n - i
+μ-loop s at n answers₀ model₀ used₀ done₀ t13 answers model used done = n - done
 
 loop-holds : tie.Need-loop-holds Inv-loop μ-loop
 loop-holds c = search needs
 
-add-i : tie.Need-add-i Inv-loop μ-loop
-add-i c = search needs
+sub-span-of : tie.Need-sub-span-of Inv-loop μ-loop
+sub-span-of c = search needs
 
-tick-requires : tie.Need-tick-requires Inv-loop μ-loop
-tick-requires c κs = search needs
+span-of-requires : tie.Need-span-of-requires Inv-loop μ-loop
+span-of-requires c κs = search needs
+
+stretch-requires : tie.Need-stretch-requires Inv-loop μ-loop
+stretch-requires c κs = search needs
 
 add-reports-requires : tie.Need-add-reports-requires Inv-loop μ-loop
 add-reports-requires c κs = search needs
+
+add-done : tie.Need-add-done Inv-loop μ-loop
+add-done c = search needs
 
 loop-less : tie.Need-loop-less Inv-loop μ-loop
 loop-less c = search needs
@@ -57,9 +57,11 @@ run-spec =
     Inv-loop
     μ-loop
     loop-holds
-    add-i
-    tick-requires
+    sub-span-of
+    span-of-requires
+    stretch-requires
     add-reports-requires
+    add-done
     loop-less
     loop-again
     slice-aggregate-put-text

@@ -2,12 +2,12 @@ use mathlib.Core.Path.{_≡_}
 use borrow.Author.Needs.{needs}
 use Prim.Native.Nat.{_≤_, _-_}
 use lib.ListN.{length}
-use Rattle.session.proofs.transaction.put_bytes.Statement.{statement}
-use Rattle.session.proofs.transaction.put_bytes.Tie as tie
-use Rattle.session.proofs.transaction.put_bytes.Reads as reads
-use Rattle.session.proofs.transaction.put_bytes.Lts as lts
+use Rattle.wording.proofs.bus.put_bytes.Statement.{statement}
+use Rattle.wording.proofs.bus.put_bytes.Tie as tie
+use Rattle.wording.proofs.bus.put_bytes.Reads as reads
+use Rattle.wording.proofs.bus.put_bytes.Lts as lts
 use Rattle.numeral.proofs.put_hex.Reads as put-hex-reads
-use Rattle.session.proofs.transaction.wide.Reads as wide-reads
+use Rattle.wording.proofs.bus.wide.Reads as wide-reads
 
 abbrev Inv-loop : tie.InvT-loop
 Inv-loop out₀ at bytes place₀ i₀ out place i = (i ≤ length bytes) × (length out ≡ length out₀)

@@ -1,0 +1,241 @@
+-- A stretch against its single ticks: each start and failure in it is the only one of its sort, so that the tick which the
+-- answer names is exactly the tick that reports it.
+use Prim.Native.Nat.{ℕ, zero, suc, _+_, _≤_, _<_}
+use native.Mathlib.Omega.{arith}
+use mathlib.Core.Path.{_≡_, refl, ap, sym, _∙_}
+use mathlib.Core.Bool.{Bool, true, false}
+use mathlib.Core.Logic.{_⊎_, inl, inr, ⊎-elim}
+use lib.Dec.{eqb}
+use borrow.Author.Tests.{le-leb, lt-leb, eq-eqb, ne-eqb, eqb-true}
+use Rattle.unit.specs.Choice.{pick}
+use Rattle.unit.specs.Cases.{by-test, by-ltb, by-eqb}
+use Rattle.calendar.specs.Calendar.{tickClock}
+use Rattle.calendar.specs.Moment.{afterTicks}
+use Rattle.calendar.proofs.Laws.{held}
+use Rattle.register.specs.Setup.{clockStands}
+use Rattle.unit.specs.declared.Ticks.{Ticks}
+use Rattle.device.specs.declared.Schedule.{Schedule}
+use Rattle.device.specs.declared.Model.{Model}
+use Rattle.device.specs.Event.{begins, fails, leftAfter, waitAfter, startedAfter, tickSchedule}
+use Rattle.device.specs.Tick.{lostFlight, flightAfter, temperatureAfter, clockTicked, tickModel}
+use Rattle.device.specs.Stretch.{ticked, scheduleTicked, lastTick}
+use Rattle.device.specs.Claim.{Kind, differences, temperatures, History}
+use Rattle.device.proofs.Table.{picked}
+use Rattle.device.proofs.Going.{Going, by-begins, none-awaited}
+
+-- The schedule of a kind.
+abbrev pub scheduleOf : Kind → Model → Schedule
+scheduleOf differences m = m .flight .schedule
+scheduleOf temperatures m = m .temperature .schedule
+
+schedule-tick : (k : Kind) (m : Model) → scheduleOf k (tickModel m) ≡ tickSchedule (scheduleOf k m)
+unfolding tickModel flightAfter lostFlight temperatureAfter
+schedule-tick differences m = by-test (fails (m .flight .schedule)) (λ e. rw e) (λ e. rw e)
+schedule-tick temperatures m = by-test (fails (m .temperature .schedule)) (λ e. rw e) (λ e. rw e)
+
+pub schedule-ticked : (k : Kind) (n : ℕ) (m : Model) → scheduleOf k (ticked n m) ≡ scheduleTicked n (scheduleOf k m)
+unfolding ticked scheduleTicked
+schedule-ticked k zero m = refl
+schedule-ticked k (suc n) m = schedule-tick k (ticked n m) ∙ ap tickSchedule (schedule-ticked k n m)
+
+-- ticks keep the set-up, and move a clock that does not stand
+pub setup-ticked : (n : ℕ) (m : Model) → (ticked n m) .setup ≡ m .setup
+unfolding ticked tickModel
+setup-ticked zero m = refl
+setup-ticked (suc n) m = setup-ticked n m
+
+pub clock-ticked :
+    (n : ℕ) (m : Model) → clockStands (m .setup) ≡ false → (ticked n m) .clock ≡ afterTicks n (m .clock)
+unfolding ticked tickModel clockTicked afterTicks
+clock-ticked zero m e = refl
+clock-ticked (suc n) m e = rw (setup-ticked n m, e) (ap tickClock (clock-ticked n m e))
+
+-- The tick that is named.
+last-below : (test : Schedule → Bool) (k : Schedule) (n : ℕ) → lastTick test k n ≤ n
+unfolding lastTick
+last-below test k zero = omega arith
+last-below test k (suc n) =
+    picked (λ x. x ≤ suc n) (test (scheduleTicked n k)) (λ _. omega arith) (λ _. omega (arith, last-below test k n))
+
+-- where what the test asks happens once in n ticks, the named tick is where it happens
+pub named-once :
+    (test : Schedule → Bool) (k : Schedule) (n j : ℕ) →
+    j < n →
+    ((i : ℕ) → j < i → i < n → test (scheduleTicked j k) ≡ true → test (scheduleTicked i k) ≡ false) →
+    eqb (lastTick test k n) (j + 1) ≡ test (scheduleTicked j k)
+unfolding lastTick
+named-once test k zero j l once = absurd (omega arith)
+named-once test k (suc n) j l once =
+    by-eqb j n
+    (λ e _. rw e
+    (by-test (test (scheduleTicked n k))
+    (λ t. rw t (eq-eqb (n + 1) (n + 1) refl))
+    (λ t. rw (t, ne-eqb (lastTick test k n) (n + 1) (λ q. absurd (omega (arith, last-below test k n)))))))
+    (λ d _. by-test (test (scheduleTicked n k))
+    (λ t. rw (t, ne-eqb (n + 1) (j + 1) (λ q. d (omega arith)))
+    (by-test (test (scheduleTicked j k))
+    (λ u. sym (once n (omega arith) (omega arith) u) ∙ t ∙ sym u)
+    (λ u. sym u)))
+    (λ t. rw t (named-once test k n j (omega arith) (λ i a b. once i a (omega arith)))))
+
+-- Starts lie a period apart.
+period-ticked : (n : ℕ) (k : Schedule) → (scheduleTicked n k) .period ≡ k .period
+unfolding scheduleTicked tickSchedule
+period-ticked zero k = refl
+period-ticked (suc n) k = period-ticked n k
+
+-- after a start at tick j + 1, the wait at i
+wait-counts :
+    (k : Schedule) (j i : ℕ) →
+    (scheduleTicked j k) .wait .0 ≤ 1 →
+    j < i →
+    i < j + k .period .0 →
+    (scheduleTicked i k) .wait .0 + i ≡ k .period .0 + (j + 1)
+unfolding scheduleTicked tickSchedule waitAfter
+wait-counts k j zero w a b = absurd (omega arith)
+wait-counts k j (suc i) w a b =
+    by-eqb j i
+    (λ e _. let v = rw e at w in rw (le-leb ((scheduleTicked i k) .wait .0) 1 v, e, period-ticked i k) (omega arith))
+    (λ d _.
+    let c = wait-counts k j i w (omega arith) (omega arith) in
+    let v : 1 < (scheduleTicked i k) .wait .0 = omega arith in
+    rw (lt-leb ((scheduleTicked i k) .wait .0) 1 v) (omega arith))
+
+begins-waits : (k : Schedule) → begins k ≡ true → k .wait .0 ≤ 1
+begins-waits k e = by-begins k (λ l w b s. w) (λ f b s. let z : _≡_ {A = ℕ} 0 1 = cc in absurd (omega arith))
+
+waits-rests : (k : Schedule) → 1 < k .wait .0 → begins k ≡ false
+waits-rests k v = by-begins k (λ l w b s. absurd (omega arith)) (λ f b s. b)
+
+pub starts-once :
+    (k : Schedule) (j i : ℕ) →
+    16384 ≤ k .period .0 →
+    j < i →
+    i < 16384 →
+    begins (scheduleTicked j k) ≡ true →
+    begins (scheduleTicked i k) ≡ false
+starts-once k j i p a b e =
+    let c = wait-counts k j i (begins-waits (scheduleTicked j k) e) a (omega arith) in
+    waits-rests (scheduleTicked i k) (omega arith)
+
+-- After a failure in tick j + 1 nothing is awaited until the next start, and that one has its 8,192 ticks.
+abbrev Rests : ℕ → ℕ → Schedule → Type 0
+Rests j i k =
+    ((k .left .0 ≡ 0) × (k .started < k .planned → 8193 + j ≤ k .wait .0 + i)) ⊎
+    ((16385 + j ≤ k .left .0 + i) × (8192 + j ≤ i))
+
+rests-starts :
+    (j i : ℕ) (k : Schedule) →
+    Rests j i k →
+    k .started < k .planned →
+    k .wait .0 ≤ 1 →
+    begins k ≡ true →
+    startedAfter k ≡ k .started + 1 →
+    Rests j (suc i) (tickSchedule k)
+unfolding tickSchedule leftAfter
+rests-starts j i k r l w b s =
+    let c : 8192 + j ≤ i = ⊎-elim (λ p. omega (arith, p .1 l)) (λ q. omega arith) r in
+    rw b (inr (omega arith))
+
+rests-on :
+    (j i : ℕ) (k : Schedule) →
+    Rests j i k →
+    (k .started < k .planned → 2 ≤ k .wait .0) →
+    begins k ≡ false →
+    startedAfter k ≡ k .started →
+    Rests j (suc i) (tickSchedule k)
+unfolding tickSchedule leftAfter waitAfter
+rests-on j i k r f b s =
+    rw (b, s)
+    (⊎-elim
+    (λ p. rw (p .0)
+    (inl (refl, λ l. rw (lt-leb (k .wait .0) 1 (f l)) (omega (arith, p .1 l, f l)))))
+    (λ (q : (16385 + j ≤ k .left .0 + i) × (8192 + j ≤ i)). by-ltb 0 (k .left .0) (λ l e. rw e (inr (omega arith))) (λ l e. rw e (inr (omega arith))))
+    r)
+
+rests-tick : (j i : ℕ) (k : Schedule) → Rests j i k → Rests j (suc i) (tickSchedule k)
+rests-tick j i k r = by-begins k (rests-starts j i k r) (rests-on j i k r)
+
+-- What is asked of the schedule before the failure: it is apart from starts.
+pub record Apart (k : Schedule) : Type 0 where
+  pub long : 16384 ≤ k .period .0
+  pub alone : k .left .0 ≡ 1 → begins k ≡ false
+  pub before : k .left .0 ≡ 1 → k .started < k .planned → 8193 ≤ k .wait .0
+
+pub apart : (P N : ℕ) (h : History) (k : Schedule) → Going P N h k → Apart k
+apart P N h k g =
+    record {
+      long = omega (arith, g .period, g .begun .long);
+      alone =
+          λ e.
+          by-begins k
+          (λ l w b s. absurd (omega (arith, none-awaited P N h k g l w)))
+          (λ f b s. b);
+      before = λ e l. omega (arith, g .since (omega arith), g .begun .next (omega (arith, g .planned)), g .begun .long, g .begun .last);
+    }
+
+first-rest : (j : ℕ) (k : Schedule) → Apart k → k .left .0 ≡ 1 → Rests j (suc j) (tickSchedule k)
+unfolding tickSchedule leftAfter waitAfter startedAfter
+first-rest j k a e =
+    by-begins k
+    (λ l w b s. let z : _≡_ {A = ℕ} 0 1 = cc (a .alone e) in absurd (omega arith))
+    (λ f b s. rw (b, e)
+    (inl (
+      refl,
+      λ l.
+          let l : k .started < k .planned = omega (arith, s) in
+          rw (lt-leb (k .wait .0) 1 (f l)) (omega (arith, a .before e l)),
+    )))
+
+rests-all :
+    (k : Schedule) (j i : ℕ) →
+    Apart (scheduleTicked j k) →
+    (scheduleTicked j k) .left .0 ≡ 1 →
+    j < i →
+    Rests j i (scheduleTicked i k)
+unfolding scheduleTicked
+rests-all k j zero a e l = absurd (omega arith)
+rests-all k j (suc i) a e l =
+    by-eqb j i
+    (λ q _. rw (sym q) (first-rest j (scheduleTicked j k) a e))
+    (λ d _. rests-tick j i (scheduleTicked i k) (rests-all k j i a e (omega arith)))
+
+fails-left : (k : Schedule) → fails k ≡ true → k .left .0 ≡ 1
+unfolding fails
+fails-left k e = eqb-true (k .left .0) 1 (held (eqb (k .left .0) 1) e .0)
+
+left-fails : (k : Schedule) → ¬ (k .left .0 ≡ 1) → fails k ≡ false
+unfolding fails
+left-fails k n = rw (ne-eqb (k .left .0) 1 n)
+
+pub fails-once :
+    (k : Schedule) (j i : ℕ) →
+    Apart (scheduleTicked j k) →
+    j < i →
+    i < 16384 →
+    fails (scheduleTicked j k) ≡ true →
+    fails (scheduleTicked i k) ≡ false
+fails-once k j i a l b e =
+    left-fails (scheduleTicked i k)
+    (λ q.
+    ⊎-elim (λ p. omega arith) (λ r. omega arith)
+    (rests-all k j i a (fails-left (scheduleTicked j k) e) l))
+
+-- So the tick that a stretch names is exactly the tick that reports a start, or a failure.
+pub start-named :
+    (k : Schedule) (n j : ℕ) →
+    j < n →
+    n ≤ 16384 →
+    Apart (scheduleTicked j k) →
+    eqb (lastTick begins k n) (j + 1) ≡ begins (scheduleTicked j k)
+start-named k n j l m a =
+    named-once begins k n j l
+    (λ i c d e. starts-once k j i (omega (arith, a .long, ap (λ (p : Ticks). p .0) (period-ticked j k))) c (omega arith) e)
+
+pub failure-named :
+    (k : Schedule) (n j : ℕ) →
+    j < n →
+    n ≤ 16384 →
+    Apart (scheduleTicked j k) →
+    eqb (lastTick fails k n) (j + 1) ≡ fails (scheduleTicked j k)
+failure-named k n j l m a = named-once fails k n j l (λ i c d e. fails-once k j i a c (omega arith) e)

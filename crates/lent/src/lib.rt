@@ -1,0 +1,15 @@
+// Calls on a model that its caller keeps and lends by reference.
+ghost use mathlib.Core.Path.{_≡_};
+ghost use Rattle.device.specs.Call.{Call, reply};
+use converter::stretch;
+use device::Answer;
+use device::Model;
+
+// The model is moved by n ticks, or left as it was where the answer is a refusal.
+pub fn stretch_own(m: &mut Model, n: u32) -> Answer
+    ensures { λ r. ⌜ (r ≡ reply (now (m .entry)) (Call.stretch n) .answer) × (now (m .exit) ≡ reply (now (m .entry)) (Call.stretch n) .model) ⌝ }
+{
+    let r = stretch(*m, n);
+    *m = r.model;
+    r.answer
+}

@@ -1,0 +1,54 @@
+-- `measuring::stretch::run` meets its contract.
+use Prim.Native.Nat.{_-_, _≤_}
+use native.Mathlib.Omega.{arith}
+use mathlib.Core.Path.{_≡_}
+use Rattle.device.specs.Stretch.{progress}
+use Rattle.device.proofs.Quiet.{loop-keeps, loop-starts, loop-ends}
+use borrow.Author.Needs.{needs}
+use Rattle.measuring.proofs.stretch.run.Statement.{statement}
+use Rattle.measuring.proofs.stretch.run.Tie as tie
+
+abbrev Inv-loop : tie.InvT-loop
+Inv-loop n p₀ p = (p ≡ progress (p₀ .model) (p .done)) × (p .done ≤ n)
+
+abbrev μ-loop : tie.MeasureT-loop
+μ-loop n p₀ p = n - p .done
+
+begin-requires : tie.Need-begin-requires Inv-loop μ-loop
+begin-requires c κs = search needs
+
+loop-holds : tie.Need-loop-holds Inv-loop μ-loop
+loop-holds c = let (e, z) = loop-starts _ _ (c .begin .ensures) in (e, omega (arith, z))
+
+sub-move-on : tie.Need-sub-move-on Inv-loop μ-loop
+sub-move-on c = search needs
+
+move-on-requires : tie.Need-move-on-requires Inv-loop μ-loop
+move-on-requires c κs = search needs
+
+loop-less : tie.Need-loop-less Inv-loop μ-loop
+loop-less c =
+    let k = loop-keeps _ _ _ _ (c .before .before .before .before .loop .inv .0) (c .before .before .if1 .taken) (c .move-on .ensures) in
+    omega (arith, k .farther, k .within)
+
+loop-again : tie.Need-loop-again Inv-loop μ-loop
+loop-again c =
+    let k = loop-keeps _ _ _ _ (c .before .before .before .before .loop .inv .0) (c .before .before .if1 .taken) (c .move-on .ensures) in
+    (k .progressed, k .within)
+
+returns : tie.Need-returns Inv-loop μ-loop
+returns c = loop-ends _ _ _ _ (c .before .before .before .begin .ensures) (c .before .before .loop .inv .0) (c .before .before .loop .inv .1) (c .if1 .left)
+
+pub run-spec : {M : Type 1} → statement M
+run-spec =
+    tie.close
+    (tie.spec
+    Inv-loop
+    μ-loop
+    begin-requires
+    loop-holds
+    sub-move-on
+    move-on-requires
+    loop-less
+    loop-again
+    returns)

@@ -1,0 +1,54 @@
+// Transactions.
+use crate::refusal::put_refusal;
+use device::Answer;
+
+// `bus`, the answer, and the output buffer.
+pub fn put_bus(out: &mut [u8], answer: Answer, buffer: &[u8]) -> usize {
+    let a = numeral::put_text(out, 0, b"bus");
+    let b = put_answer(out, a, answer);
+    put_buffer(out, b, buffer)
+}
+
+fn put_answer(out: &mut [u8], at: usize, answer: Answer) -> usize {
+    match answer {
+        Answer::Refused(number) => put_refusal(out, at, number),
+        Answer::Accepted(flight, temperature) => put_started(out, at, flight, temperature),
+        _ => at,
+    }
+}
+
+fn put_started(out: &mut [u8], at: usize, flight: bool, temperature: bool) -> usize {
+    if flight {
+        if temperature {
+            return numeral::put_text(out, at, b" ok flight+temperature");
+        }
+        return numeral::put_text(out, at, b" ok flight");
+    }
+    if temperature {
+        return numeral::put_text(out, at, b" ok temperature");
+    }
+    numeral::put_text(out, at, b" ok -")
+}
+
+// ` out ` and the buffer, where it has bytes.
+fn put_buffer(out: &mut [u8], at: usize, buffer: &[u8]) -> usize {
+    if buffer.len() == 0 {
+        return at;
+    }
+    let start = numeral::put_text(out, at, b" out ");
+    put_bytes(out, start, buffer)
+}
+
+fn put_bytes(out: &mut [u8], at: usize, bytes: &[u8]) -> usize {
+    let mut place = at;
+    let mut i = 0;
+    while i < bytes.len() {
+        place = numeral::put_hex(out, place, 2, wide(bytes[i]));
+        i += 1;
+    }
+    place
+}
+
+fn wide(x: u8) -> u32 {
+    x as u32
+}

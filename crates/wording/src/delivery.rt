@@ -1,0 +1,18 @@
+// Deliveries.
+use crate::refusal::put_refusal;
+use device::Answer;
+
+// The kind, and the answer.
+pub fn put_delivery(out: &mut [u8], kind: &[u8], answer: Answer) -> usize {
+    let a = numeral::put_text(out, 0, kind);
+    put_answer(out, a, answer)
+}
+
+fn put_answer(out: &mut [u8], at: usize, answer: Answer) -> usize {
+    match answer {
+        Answer::Refused(number) => put_refusal(out, at, number),
+        Answer::Good => numeral::put_text(out, at, b" good"),
+        Answer::Failed => numeral::put_text(out, at, b" failed"),
+        _ => at,
+    }
+}

@@ -1,0 +1,8 @@
+// The words of the answers, put into a lent buffer from a place on, as numeral's functions do. No
+// public function has a `requires`.
+pub mod bus;
+pub mod delivery;
+pub mod expectation;
+pub mod fault;
+pub mod refusal;
+pub mod ticks;

@@ -1,0 +1,85 @@
+// What ticks report.
+use device::StretchReport;
+
+// No tick is named: a number beyond every tick of a stretch.
+const NONE: u32 = 4294967295;
+
+// Whether a stretch names no tick.
+pub fn none_named(flight: StretchReport, temperature: StretchReport) -> bool {
+    next_named(flight, temperature, 0) == NONE
+}
+
+// The ticks that a stretch names, in order of time; `done` ticks came before it.
+pub fn put_named(
+    out: &mut [u8],
+    flight: StretchReport,
+    temperature: StretchReport,
+    done: u32,
+) -> usize {
+    let first = next_named(flight, temperature, 0);
+    let a = put_tick(out, 0, flight, temperature, first, done);
+    let second = next_named(flight, temperature, first);
+    let b = put_tick(out, a, flight, temperature, second, done);
+    put_later(out, b, flight, temperature, second, done)
+}
+
+// Those named after `tick`, two at most.
+fn put_later(
+    out: &mut [u8],
+    at: usize,
+    flight: StretchReport,
+    temperature: StretchReport,
+    tick: u32,
+    done: u32,
+) -> usize {
+    let third = next_named(flight, temperature, tick);
+    let a = put_tick(out, at, flight, temperature, third, done);
+    let fourth = next_named(flight, temperature, third);
+    put_tick(out, a, flight, temperature, fourth, done)
+}
+
+// The first tick named after `tick`, or NONE.
+fn next_named(flight: StretchReport, temperature: StretchReport, tick: u32) -> u32 {
+    let a = sooner(flight.failed, tick, NONE);
+    let b = sooner(flight.started, tick, a);
+    let c = sooner(temperature.failed, tick, b);
+    sooner(temperature.started, tick, c)
+}
+
+// The tick `named` where it lies after `tick` and before `best`, else `best`.
+fn sooner(named: u32, tick: u32, best: u32) -> u32 {
+    if named <= tick {
+        return best;
+    }
+    if named < best { named } else { best }
+}
+
+// What happened in tick i of a stretch.
+fn put_tick(
+    out: &mut [u8],
+    at: usize,
+    flight: StretchReport,
+    temperature: StretchReport,
+    i: u32,
+    done: u32,
+) -> usize {
+    let n = std::num::wrapping_add_u32(done, i);
+    let a = put_report(out, at, flight.failed == i, b" failed-flight@", n);
+    let b = put_report(out, a, flight.started == i, b" started-flight@", n);
+    let c = put_report(out, b, temperature.failed == i, b" failed-temperature@", n);
+    put_report(
+        out,
+        c,
+        temperature.started == i,
+        b" started-temperature@",
+        n,
+    )
+}
+
+fn put_report(out: &mut [u8], at: usize, holds: bool, what: &[u8], i: u32) -> usize {
+    if holds {
+        let a = numeral::put_text(out, at, what);
+        return numeral::put_decimal(out, a, i as u64);
+    }
+    at
+}

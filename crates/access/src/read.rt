@@ -61,9 +61,9 @@ fn flight_word(f: Flight, a: u32) -> u32
         return half_of(f.difference, a - 0xe2);
     }
     if a == 0xe4 {
-        return k.good;
+        return k.good as u32;
     }
-    half_of(difference_mean(f.sum, k.good), a - 0xe5)
+    half_of(difference_mean(f.sum, k.good as u32), a - 0xe5)
 }
 
 // E7h to F7h.
@@ -80,11 +80,11 @@ fn temperature_word(t: Temperature, a: u32) -> u32
         return half_of(w, a - 0xe7);
     }
     if a == 0xef {
-        return k.good;
+        return k.good as u32;
     }
     let place = (a - 0xf0) / 2;
     let sum = sums[place as usize];
-    half_of(port_mean(sum, k.good), a - 0xf0)
+    half_of(port_mean(sum, k.good as u32), a - 0xf0)
 }
 
 // The word at read address a, B0h to FFh.

@@ -1,7 +1,12 @@
 // A write of consecutive registers, judged as a whole.
 ghost use mathlib.Core.Path.{_≡_};
 ghost use Prim.Native.Nat.{_<_, _≤_, _+_, _*_};
+ghost use mathlib.Core.Bool.{true, false};
 ghost use lib.ListN.{length};
+ghost use Rattle.unit.specs.Choice.{pick};
+ghost use Rattle.calendar.specs.Words.{alarmValid};
+ghost use Rattle.register.specs.Setup.{alarmWord};
+ghost use Rattle.device.specs.Model.{sound};
 ghost use Rattle.device.specs.Write.{written, setupAfter, ticksAfter, clockAfter, writeInvalid, writeModel};
 use crate::read::calendar_word;
 use calendar::Clock;
@@ -69,34 +74,48 @@ fn clock_after(m: Model, words: &[u8], op: u32, n: usize) -> Clock
 
 // Whether the clock or the alarm would be invalid.
 pub fn write_invalid(m: Model, words: &[u8], op: u32, n: usize) -> bool
-    requires { ⌜ (48 ≤ op) × (op + n ≤ 68) × (2 * n ≤ length (now words)) ⌝ }
+    requires { ⌜ (sound m ≡ true) × (48 ≤ op) × (op + n ≤ 68) × (2 * n ≤ length (now words)) ⌝ }
     ensures { λ r. ⌜ r ≡ writeInvalid (now (words .entry)) op n m ⌝ }
 {
+    // a write that leaves the calendar out leaves it valid
+    if 0x33 < op {
+        return alarm_invalid(m, words, op, n);
+    }
     let w30 = word_after(words, op, n, 0x30, calendar_word(m, 0xb0));
     let w31 = word_after(words, op, n, 0x31, calendar_word(m, 0xb1));
     let w32 = word_after(words, op, n, 0x32, calendar_word(m, 0xb2));
     let w33 = word_after(words, op, n, 0x33, calendar_word(m, 0xb3));
     let ticks = ticks_after(m, words, op, n);
     if calendar::words::words_valid(w30, w31, w32, w33, ticks) {
-        let old = m.setup;
-        let setup = setup_after(old, words, op, n);
-        if calendar::words::alarm_valid(register::alarm_word(setup)) {
-            return false;
-        }
-        return true;
+        return alarm_invalid(m, words, op, n);
+    }
+    true
+}
+
+fn alarm_invalid(m: Model, words: &[u8], op: u32, n: usize) -> bool
+    requires { ⌜ (48 ≤ op) × (op + n ≤ 68) × (2 * n ≤ length (now words)) ⌝ }
+    ensures { λ r. ⌜ r ≡ pick (alarmValid (alarmWord (setupAfter (now (words .entry)) op (m .setup) n))) false true ⌝ }
+{
+    let old = m.setup;
+    let setup = setup_after(old, words, op, n);
+    if calendar::words::alarm_valid(register::alarm_word(setup)) {
+        return false;
     }
     true
 }
 
 pub fn write_model(m: Model, words: &[u8], op: u32, n: usize) -> Model
-    requires { ⌜ (48 ≤ op) × (op + n ≤ 68) × (2 * n ≤ length (now words)) ⌝ }
+    requires { ⌜ (sound m ≡ true) × (48 ≤ op) × (op + n ≤ 68) × (2 * n ≤ length (now words)) ⌝ }
     ensures { λ r. ⌜ r ≡ writeModel (now (words .entry)) op n m ⌝ }
 {
-    let clock = clock_after(m, words, op, n);
     let old = m.setup;
     let setup = setup_after(old, words, op, n);
     let mut next = m;
-    next.clock = clock;
     next.setup = setup;
+    if 0x33 < op {
+        return next;
+    }
+    let clock = clock_after(m, words, op, n);
+    next.clock = clock;
     next
 }

@@ -56,7 +56,7 @@ pub fn fresh_with(status: Status) -> Model
 }
 
 // Whether a sum of so many values below the largest one fits.
-fn sum_fits(sum: u64, good: u32, most: u64) -> bool
+fn sum_fits(sum: u64, good: u16, most: u64) -> bool
     requires { ⌜ most ≤ 4294967296 ⌝ }
     ensures { λ r. ⌜ r ≡ sumFits sum good most ⌝ }
 {

@@ -4,7 +4,8 @@ ghost use mathlib.Core.Bool.{true};
 ghost use Prim.Native.Nat.{_≤_, _+_, _*_};
 ghost use lib.ListN.{length};
 ghost use Rattle.frame.specs.declared.Decoded.{Decoded};
-ghost use Rattle.device.specs.Model.{freshModel};
+ghost use Rattle.device.specs.Model.{freshModel, sound};
+ghost use Rattle.device.specs.Stretch.{quietFor};
 ghost use Rattle.device.specs.Call.{Call, reply, output, refuse, accept, commandReply, writeReply, readReply, readOutput, refusalNumber, readFits};
 use access::read::fill_words;
 use access::write::write_invalid;
@@ -22,12 +23,15 @@ use command::state::is_sound;
 use device::Answer;
 use device::Model;
 use device::Reply;
+use device::Report;
 use event::interrupt::por_bit;
 use event::schedule::is_awaited;
 use frame::Decoded;
 use measuring::delivery::flight_miscounted;
 use measuring::delivery::flight_words;
 use measuring::delivery::temperature_words;
+use measuring::stretch::next_is_quiet;
+use measuring::stretch::quiet_tick;
 use measuring::tick::report_of;
 use measuring::tick::tick_model;
 pub use question::flight_awaited;
@@ -75,7 +79,7 @@ fn command(m: Model, op: u32) -> Reply
 }
 
 fn write(m: Model, words: &[u8], op: u32, n: usize) -> Reply
-    requires { ⌜ (48 ≤ op) × (op + n ≤ 68) × (2 * n ≤ length (now words)) ⌝ }
+    requires { ⌜ (sound m ≡ true) × (48 ≤ op) × (op + n ≤ 68) × (2 * n ≤ length (now words)) ⌝ }
     ensures { λ r. ⌜ r ≡ writeReply m (now (words .entry)) op n ⌝ }
 {
     if is_busy(m) {
@@ -139,15 +143,41 @@ pub fn tick(m: Model) -> Reply
     ensures { λ r. ⌜ r ≡ reply m Call.tick ⌝ }
 {
     if is_sound(m) {
-        let flight = m.flight;
-        let temperature = m.temperature;
-        let f = flight.schedule;
-        let t = temperature.schedule;
-        let answer = Answer::Ticked(report_of(f), report_of(t));
-        let model = tick_model(m);
-        return Reply { answer, model };
+        if next_is_quiet(m) {
+            return quiet_reply(m);
+        }
+        return tick_reply(m);
     }
     refused(m, 0)
+}
+
+// Nothing happens in it.
+fn quiet_reply(m: Model) -> Reply
+    requires { ⌜ (sound m ≡ true) × (1 ≤ quietFor m) ⌝ }
+    ensures { λ r. ⌜ r ≡ reply m Call.tick ⌝ }
+{
+    let none = Report {
+        started: false,
+        failed: false,
+    };
+    let model = quiet_tick(m);
+    Reply {
+        answer: Answer::Ticked(none, none),
+        model,
+    }
+}
+
+fn tick_reply(m: Model) -> Reply
+    requires { ⌜ sound m ≡ true ⌝ }
+    ensures { λ r. ⌜ r ≡ reply m Call.tick ⌝ }
+{
+    let flight = m.flight;
+    let temperature = m.temperature;
+    let f = flight.schedule;
+    let t = temperature.schedule;
+    let answer = Answer::Ticked(report_of(f), report_of(t));
+    let model = tick_model(m);
+    Reply { answer, model }
 }
 
 // n such periods at once, at most 16,384.

@@ -14,7 +14,7 @@ use Rattle.unit.specs.Cases.{by-test, by-ltb}
 use Rattle.unit.specs.declared.Ticks.{Ticks}
 use Rattle.calendar.specs.declared.Clock.{Clock}
 use Rattle.calendar.specs.Words.{word30, word31, word32, word33, clockFrom, wordsValid, alarmValid}
-use Rattle.calendar.proofs.RoundTrip.{round-trip}
+use Rattle.calendar.proofs.RoundTrip.{round-trip, words-valid}
 use Rattle.register.specs.Setup.{hitCount, alarmWord}
 use Rattle.frame.specs.Frame.{wordAt}
 use Rattle.device.specs.declared.Schedule.{Schedule}
@@ -284,6 +284,21 @@ keeps-clock m bytes op n s h =
       lt-ltb 0x33 op (omega arith),
     )
     (round-trip (m .clock) (bounds-of m s .clock))
+
+pub judged-by-alarm :
+    (m : Model) (bytes : List ℕ) (op n : ℕ) →
+    sound m ≡ true →
+    0x34 ≤ op →
+    writeInvalid bytes op n m ≡ pick (alarmValid (alarmWord (setupAfter bytes op (m .setup) n))) false true
+unfolding writeInvalid written covers ticksAfter calendarWord
+judged-by-alarm m bytes op n s h =
+    rw (
+      lt-ltb 0x30 op (omega arith),
+      lt-ltb 0x31 op (omega arith),
+      lt-ltb 0x32 op (omega arith),
+      lt-ltb 0x33 op (omega arith),
+      words-valid (m .clock) (bounds-of m s .clock),
+    )
 
 pub judged-together :
     (m : Model) (bytes : List ℕ) →

@@ -20,7 +20,7 @@ use Rattle.device.specs.declared.Model.{Model}
 use Rattle.device.specs.declared.Progress.{Progress}
 use Rattle.device.specs.Event.{begins, fails, leftAfter, waitAfter, startedAfter, settledAfter, tickSchedule}
 use Rattle.device.specs.Status.{flightBits, temperatureBits}
-use Rattle.device.specs.Tick.{flightAfter, temperatureAfter, clockTicked, alarmRaised, tickStatus, tickModel}
+use Rattle.device.specs.Tick.{flightAfter, temperatureAfter, clockTicked, alarmRaised, tickStatus, tickModel, reportOf}
 use Rattle.device.specs.Stretch.{ticked, scheduleTicked, lastTick, stretchReport, least, quietLeft, quietWait, quietClock, quietSchedule, quietFor}
 use Rattle.device.specs.Stretch.{laterSchedule, laterClock, laterModel, progress, movedQuietly, noted, movedByOne, moved}
 use Rattle.device.specs.Claim.{Kind, differences, temperatures}
@@ -256,6 +256,36 @@ quiet-moves m d q l =
       quiet-report differences m d q l,
       quiet-report temperatures m d q l,
     )
+
+-- A whole stretch of quiet ticks.
+pub quiet-run : (m : Model) (n : ℕ) → n ≤ quietFor m → movedQuietly n (progress m 0) ≡ progress m n
+unfolding ticked
+quiet-run m n l = let e : 0 + n ≡ n = omega arith in quiet-moves m 0 n l ∙ ap (progress m) e
+
+pub quiet-fits : (m : Model) (n : ℕ) → n ≤ quietFor m → n ≤ quietClock m
+unfolding quietFor
+quiet-fits m n l =
+    let s : ℕ = least (quietSchedule (m .flight .schedule)) (quietSchedule (m .temperature .schedule)) in
+    omega (arith, l, least-bound (quietClock m) s)
+
+-- A single quiet tick reports nothing.
+module _ (m : Model) (l : 1 ≤ quietFor m) where
+  pub quiet-tick : tickModel m ≡ laterModel 1 m
+  unfolding ticked
+  quiet-tick = quiet-ticked m 1 l
+
+  quiet-kind : (k : Kind) → reportOf (scheduleOf k m) ≡ record { started = false; failed = false }
+  unfolding reportOf
+  quiet-kind k =
+      let b = rw (none-later m) at (begins-later m 0 l k) in
+      let f = rw (none-later m) at (fails-later m 0 l k) in
+      rw (b, f)
+
+  pub quiet-flight : reportOf (m .flight .schedule) ≡ record { started = false; failed = false }
+  quiet-flight = quiet-kind differences
+
+  pub quiet-temperature : reportOf (m .temperature .schedule) ≡ record { started = false; failed = false }
+  quiet-temperature = quiet-kind temperatures
 
 -- How far a stretch is moved on at once: at least a tick, and no farther than it goes.
 unfoldable pub stepOf : ℕ → Model → ℕ

@@ -11,11 +11,11 @@ pub struct Schedule {
     pub wait: Ticks,
     pub period: Ticks,
     // How many measurements the event makes. It runs until as many are settled.
-    pub planned: u32,
-    pub started: u32,
-    pub settled: u32,
+    pub planned: u16,
+    pub started: u16,
+    pub settled: u16,
     // Cycle count: good ones of the event.
-    pub good: u32,
+    pub good: u16,
 }
 
 pub struct Flight {

@@ -1,10 +1,10 @@
 // The schedule of one kind: starts, settling, one tick.
 ghost use mathlib.Core.Path.{_≡_};
-ghost use Prim.Native.Nat.{_<_, _≤_};
+ghost use Prim.Native.Nat.{_<_, _≤_, _+_};
+ghost use Rattle.unit.specs.Choice.{pick};
 ghost use Rattle.device.specs.Event.{noSchedule, awaits, inEvent, lastOne, begins, fails, single, eventStart, leftAfter, waitAfter, startedAfter, settledAfter, tickSchedule, settle, halted, scheduleSound};
 use device::Schedule;
 use unit::Ticks;
-use unit::choose;
 
 pub fn no_schedule() -> Schedule
     ensures { λ r. ⌜ r ≡ noSchedule ⌝ }
@@ -91,7 +91,7 @@ pub fn start_single(k: Schedule) -> Schedule
 }
 
 // An event is accepted, and its first measurement starts.
-pub fn start_event(period: Ticks, planned: u32) -> Schedule
+pub fn start_event(period: Ticks, planned: u16) -> Schedule
     ensures { λ r. ⌜ r ≡ eventStart period planned ⌝ }
 {
     Schedule {
@@ -126,7 +126,7 @@ fn wait_after(k: Schedule) -> u32
     wait.0 - 1
 }
 
-fn started_after(k: Schedule) -> u32
+fn started_after(k: Schedule) -> u16
     ensures { λ r. ⌜ r ≡ startedAfter k ⌝ }
 {
     let wait = k.wait;
@@ -139,7 +139,7 @@ fn started_after(k: Schedule) -> u32
     k.started
 }
 
-fn settled_after(k: Schedule) -> u32
+fn settled_after(k: Schedule) -> u16
     ensures { λ r. ⌜ r ≡ settledAfter k ⌝ }
 {
     if expires(k) {
@@ -170,6 +170,14 @@ pub fn tick_schedule(k: Schedule) -> Schedule
     }
 }
 
+// The good ones, with one more where it is good.
+fn count_good(n: u16, good: bool) -> u16
+    requires { ⌜ n ≤ 32 ⌝ }
+    ensures { λ r. ⌜ r ≡ pick good (n + 1) n ⌝ }
+{
+    if good { n + 1 } else { n }
+}
+
 // The awaited measurement is delivered.
 pub fn settle_one(k: Schedule, good: bool) -> Schedule
     requires { ⌜ k .good ≤ 32 ⌝ }
@@ -178,7 +186,7 @@ pub fn settle_one(k: Schedule, good: bool) -> Schedule
     let wait = k.wait;
     let period = k.period;
     if k.settled < k.planned {
-        let count = choose(good, k.good + 1, k.good);
+        let count = count_good(k.good, good);
         return Schedule {
             left: Ticks(0),
             wait,

@@ -2,6 +2,8 @@ pub mod Words
 pub mod WordLaws
 pub mod Numbers
 pub mod NumberLaws
+pub mod Clean
+pub mod CleanLaws
 pub mod Line
 pub mod LineLaws
 pub mod BoundLaws

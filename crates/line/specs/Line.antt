@@ -116,18 +116,21 @@ expectAnswer l [] = answer WrongCount l
 expectAnswer l (w ∷ ws) = expectFrom (readHex 2 2 w) l ws
 
 -- The first word, in small letters.
+abbrev pub otherKeyword : List ℕ → Keyword
+otherKeyword w =
+    cond (sameBytes w (105 ∷ 110 ∷ 116 ∷ [])) Keyword.Int
+    (cond (sameBytes w (97 ∷ 119 ∷ 97 ∷ 105 ∷ 116 ∷ 101 ∷ 100 ∷ [])) Keyword.Awaited
+    (cond (sameBytes w (114 ∷ 101 ∷ 103 ∷ 115 ∷ [])) Keyword.Regs
+    (cond (sameBytes w (101 ∷ 120 ∷ 112 ∷ 101 ∷ 99 ∷ 116 ∷ [])) Keyword.Expect
+    (cond (sameBytes w (115 ∷ 104 ∷ 111 ∷ 119 ∷ [])) Keyword.Show Keyword.Unknown))))
+
 unfoldable pub keywordOf : List ℕ → Keyword
 keywordOf w =
     cond (sameBytes w (105 ∷ 116 ∷ 101 ∷ 109 ∷ [])) Keyword.Item
     (cond (sameBytes w (98 ∷ 117 ∷ 115 ∷ [])) Keyword.Bus
     (cond (sameBytes w (116 ∷ 105 ∷ 99 ∷ 107 ∷ [])) Keyword.Tick
     (cond (sameBytes w (102 ∷ 108 ∷ 105 ∷ 103 ∷ 104 ∷ 116 ∷ [])) Keyword.Flight
-    (cond (sameBytes w (116 ∷ 101 ∷ 109 ∷ 112 ∷ 101 ∷ 114 ∷ 97 ∷ 116 ∷ 117 ∷ 114 ∷ 101 ∷ [])) Keyword.Temperature
-    (cond (sameBytes w (105 ∷ 110 ∷ 116 ∷ [])) Keyword.Int
-    (cond (sameBytes w (97 ∷ 119 ∷ 97 ∷ 105 ∷ 116 ∷ 101 ∷ 100 ∷ [])) Keyword.Awaited
-    (cond (sameBytes w (114 ∷ 101 ∷ 103 ∷ 115 ∷ [])) Keyword.Regs
-    (cond (sameBytes w (101 ∷ 120 ∷ 112 ∷ 101 ∷ 99 ∷ 116 ∷ [])) Keyword.Expect
-    (cond (sameBytes w (115 ∷ 104 ∷ 111 ∷ 119 ∷ [])) Keyword.Show Keyword.Unknown)))))))))
+    (cond (sameBytes w (116 ∷ 101 ∷ 109 ∷ 112 ∷ 101 ∷ 114 ∷ 97 ∷ 116 ∷ 117 ∷ 114 ∷ 101 ∷ [])) Keyword.Temperature (otherKeyword w)))))
 
 unfoldable pub keywordAnswer : Keyword → List ℕ → List (List ℕ) → Answer
 keywordAnswer Keyword.Item l ws = answer (itemCall ws) l

@@ -11,6 +11,7 @@ use lib.ListN.{length, getD, take, drop, length-take}
 use lib.Seq.{take-all, getD-take, getD-drop}
 use borrow.Author.Tests.{lt-ltb}
 use Rattle.line.specs.declared.Call.{Call}
+use Rattle.line.specs.declared.Keyword.{Keyword}
 use Rattle.line.specs.declared.Tally.{Tally}
 use Rattle.line.specs.Words.{part}
 use Rattle.line.specs.Numbers.{Outcome}
@@ -19,6 +20,13 @@ use Rattle.line.specs.Line.{answer, answered, isOut, contentLength, line
 pub answered-by : (f : Tally → Call) {t : Tally} {l : List ℕ} {o : Outcome} {r : Call} → record { tally = t; numbers = l } ≡ o → r ≡ f t
     → answer r l ≡ answered f o
 answered-by f {t} {l} e h = ap (λ (c : Call). answer c l) h ∙ ap (answered f) e
+
+-- In a chain of tests, the first that holds decides.
+pub here : {test t : Bool} {a : Keyword} (b : Keyword) → test ≡ t → test ≡ true → a ≡ cond t a b
+here b e h = rw (← e, h)
+
+pub below : {test t : Bool} (a : Keyword) {b r : Keyword} → test ≡ t → test ≡ false → r ≡ b → r ≡ cond t a b
+below a e h rest = rw (← e, h) rest
 
 -- A word's first byte.
 pub part-first : (i j : ℕ) (s : List ℕ) → i < j → getD (part i j s) 0 0 ≡ getD s i 0

@@ -2,26 +2,46 @@
 use crate::Keyword;
 use crate::words::same;
 ghost use mathlib.Core.Path.{_≡_};
-ghost use mathlib.Core.Bool.{cond};
-ghost use Rattle.line.specs.Line.{keywordOf};
+ghost use Rattle.line.specs.Line.{keywordOf, otherKeyword};
 
 pub(crate) fn keyword(word: &[u8]) -> Keyword
     ensures { λ r. ⌜ r ≡ keywordOf (now (word .entry)) ⌝ }
 {
-    let k = pick(same(word, b"show"), Keyword::Show, Keyword::Unknown);
-    let k = pick(same(word, b"expect"), Keyword::Expect, k);
-    let k = pick(same(word, b"regs"), Keyword::Regs, k);
-    let k = pick(same(word, b"awaited"), Keyword::Awaited, k);
-    let k = pick(same(word, b"int"), Keyword::Int, k);
-    let k = pick(same(word, b"temperature"), Keyword::Temperature, k);
-    let k = pick(same(word, b"flight"), Keyword::Flight, k);
-    let k = pick(same(word, b"tick"), Keyword::Tick, k);
-    let k = pick(same(word, b"bus"), Keyword::Bus, k);
-    pick(same(word, b"item"), Keyword::Item, k)
+    if same(word, b"item") {
+        return Keyword::Item;
+    }
+    if same(word, b"bus") {
+        return Keyword::Bus;
+    }
+    if same(word, b"tick") {
+        return Keyword::Tick;
+    }
+    if same(word, b"flight") {
+        return Keyword::Flight;
+    }
+    if same(word, b"temperature") {
+        return Keyword::Temperature;
+    }
+    other_keyword(word)
 }
 
-fn pick(test: bool, a: Keyword, b: Keyword) -> Keyword
-    ensures { λ r. ⌜ r ≡ cond test a b ⌝ }
+fn other_keyword(word: &[u8]) -> Keyword
+    ensures { λ r. ⌜ r ≡ otherKeyword (now (word .entry)) ⌝ }
 {
-    if test { a } else { b }
+    if same(word, b"int") {
+        return Keyword::Int;
+    }
+    if same(word, b"awaited") {
+        return Keyword::Awaited;
+    }
+    if same(word, b"regs") {
+        return Keyword::Regs;
+    }
+    if same(word, b"expect") {
+        return Keyword::Expect;
+    }
+    if same(word, b"show") {
+        return Keyword::Show;
+    }
+    Keyword::Unknown
 }

@@ -85,3 +85,15 @@ pub struct Span {
     pub start: usize,
     pub end: usize,
 }
+
+// Digits from a place to before `end`, and their value.
+pub struct Digits {
+    pub end: usize,
+    pub value: u32,
+}
+
+// How far a list was read: the place after it, and the count of its numbers.
+pub struct Reached {
+    pub at: usize,
+    pub count: usize,
+}

@@ -1,17 +1,22 @@
 // The numbers of a line.
+use crate::Digits;
 use crate::Form;
 use crate::Kind;
+use crate::Reached;
 use crate::Tally;
+use crate::words::is_blank;
 use crate::words::next_word;
 use crate::words::same;
+use crate::words::skip_blanks;
 use numeral::Number;
 ghost use mathlib.Core.Path.{_≡_};
-ghost use mathlib.Core.Bool.{cond};
-ghost use Prim.Native.Nat.{_≤_};
+ghost use mathlib.Core.Bool.{true, cond};
+ghost use Prim.Native.Nat.{_+_, _≤_, _<_};
 ghost use lib.Dec.{eqb};
-ghost use lib.ListN.{length, set, drop};
-ghost use Rattle.line.specs.Words.{words};
+ghost use lib.ListN.{length, getD, set, drop};
+ghost use Rattle.line.specs.Words.{isBlank, words};
 ghost use Rattle.line.specs.Numbers.{isSlash, kindOf, tallied};
+ghost use Rattle.line.specs.Clean.{DigitsAt, WholeAt, PairAt, Passed};
 
 // Reads the words from the place `at` on, and stores their numbers.
 pub(crate) fn tally(s: &[u8], at: usize, form: Form, numbers: &mut [u32]) -> Tally
@@ -23,27 +28,169 @@ pub(crate) fn tally(s: &[u8], at: usize, form: Form, numbers: &mut [u32]) -> Tal
     let mut slashes: usize = 0;
     let mut up: usize = 0;
     while i < s.len() {
-        let word = next_word(s, i);
+        let clean = clean_numbers(s, i, form, count, numbers);
+        let n = clean.count;
+        let word = next_word(s, clean.at);
         let start = word.start;
         let end = word.end;
         if end <= start {
-            return Tally::All { count, slashes, up };
+            return Tally::All {
+                count: n,
+                slashes,
+                up,
+            };
         }
-        match kind_of(&s[start..end], form, count) {
+        match kind_of(&s[start..end], form, n) {
             Kind::Wrong => return Tally::Wrong,
             Kind::Slash => {
-                up = first_slash(slashes, count, up);
+                up = first_slash(slashes, n, up);
                 slashes += 1;
+                count = n;
             }
-            Kind::Past => count += 1,
+            Kind::Past => count = n + 1,
             Kind::Word(v) => {
-                store(numbers, count, v);
-                count += 1;
+                store(numbers, n, v);
+                count = n + 1;
             }
         }
         i = end;
     }
     Tally::All { count, slashes, up }
+}
+
+// Stores the numbers from the place `at` on, after n numbers, up to a word that is none of the form.
+fn clean_numbers(s: &[u8], at: usize, form: Form, n: usize, numbers: &mut [u32]) -> Reached
+    requires { ⌜ at ≤ length (now s) ⌝ }
+    ensures { λ r. ⌜ Passed form (now (s .entry)) at n (now (numbers .entry)) (r .at) (r .count) (now (numbers .exit)) ⌝ }
+{
+    if form.most == 2 {
+        if form.least == 2 {
+            return pairs(s, at, form, n, numbers);
+        }
+    }
+    let room = less_of(form.looked, numbers.len());
+    let mut i = at;
+    let mut count = n;
+    while i < s.len() {
+        let start = skip_blanks(s, i);
+        let digits = digits_at(s, start, form.most);
+        let end = digits.end;
+        let v = digits.value;
+        if room <= count {
+            return Reached { at: i, count };
+        }
+        if is_whole(s, start, end, form.least) {
+            numbers[count] = v;
+            count += 1;
+            i = end;
+        } else {
+            return Reached { at: i, count };
+        }
+    }
+    Reached { at: i, count }
+}
+
+// The same, where each is two digits behind one blank.
+fn pairs(s: &[u8], at: usize, form: Form, n: usize, numbers: &mut [u32]) -> Reached
+    requires { ⌜ (at ≤ length (now s)) × (form .most ≡ 2) × (form .least ≡ 2) ⌝ }
+    ensures { λ r. ⌜ Passed form (now (s .entry)) at n (now (numbers .entry)) (r .at) (r .count) (now (numbers .exit)) ⌝ }
+{
+    let room = less_of(form.looked, numbers.len());
+    let mut i = at;
+    let mut count = n;
+    while s.len() - i >= 3 {
+        let v = pair_at(s, i);
+        if 256 <= v {
+            return Reached { at: i, count };
+        }
+        if room <= count {
+            return Reached { at: i, count };
+        }
+        numbers[count] = v;
+        count += 1;
+        i += 3;
+    }
+    Reached { at: i, count }
+}
+
+// The number of the two digits behind the blank at i, which no third follows, or 256.
+fn pair_at(s: &[u8], i: usize) -> u32
+    requires { ⌜ i + 3 ≤ length (now s) ⌝ }
+    ensures { λ r. ⌜ (r < 256 → PairAt (now (s .entry)) i r) ⌝ }
+{
+    let high = numeral::hex_digit(s[i + 1]);
+    let low = numeral::hex_digit(s[i + 2]);
+    if s[i] != 32 {
+        return 256;
+    }
+    if 16 <= high {
+        return 256;
+    }
+    if 16 <= low {
+        return 256;
+    }
+    if stops_at(s, i + 3) {
+        high * 16 + low
+    } else {
+        256
+    }
+}
+
+fn less_of(a: usize, b: usize) -> usize
+    ensures { λ r. ⌜ (r ≤ a) × (r ≤ b) ⌝ }
+{
+    if a < b { a } else { b }
+}
+
+// The bytes from `start` to `end` are some, at least `least`, and no word goes on after them.
+fn is_whole(s: &[u8], start: usize, end: usize, least: usize) -> bool
+    ensures { λ r. ⌜ (r ≡ true → WholeAt (now (s .entry)) start end least) ⌝ }
+{
+    if end <= start {
+        return false;
+    }
+    if end - start < least {
+        return false;
+    }
+    stops_at(s, end)
+}
+
+// No word goes on at the place i.
+fn stops_at(s: &[u8], i: usize) -> bool
+    ensures { λ r. ⌜ (r ≡ true → i < length (now (s .entry)) → isBlank (getD (now (s .entry)) i 0) ≡ true) ⌝ }
+{
+    if i < s.len() { is_blank(s[i]) } else { true }
+}
+
+// The digits from the place `start` on, `most` of them and eight at most.
+fn digits_at(s: &[u8], start: usize, most: usize) -> Digits
+    requires { ⌜ start ≤ length (now s) ⌝ }
+    ensures { λ r. ⌜ DigitsAt (now (s .entry)) start (r .end) most (r .value) ⌝ }
+{
+    let stop = stop_of(s.len(), start, most);
+    let mut value: u32 = 0;
+    let mut i = start;
+    while i < stop {
+        let d = numeral::hex_digit(s[i]);
+        if 16 <= d {
+            return Digits { end: i, value };
+        }
+        value = value * 16 + d;
+        i += 1;
+    }
+    Digits { end: i, value }
+}
+
+fn stop_of(len: usize, start: usize, most: usize) -> usize
+    requires { ⌜ start ≤ len ⌝ }
+    ensures { λ r. ⌜ (r ≤ len) × (r ≤ start + most) × (r ≤ start + 8) ⌝ }
+{
+    let wanted = less_of(most, 8);
+    if wanted < len - start {
+        start + wanted
+    } else {
+        len
+    }
 }
 
 // What a word is after n numbers.

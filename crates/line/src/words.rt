@@ -22,7 +22,7 @@ pub(crate) fn next_word(s: &[u8], at: usize) -> Span
     }
 }
 
-fn skip_blanks(s: &[u8], at: usize) -> usize
+pub(crate) fn skip_blanks(s: &[u8], at: usize) -> usize
     requires { ⌜ at ≤ length (now s) ⌝ }
     ensures { λ r. ⌜ Skipped (now (s .entry)) at r ⌝ }
 {
@@ -52,7 +52,7 @@ fn word_end(s: &[u8], start: usize) -> usize
     i
 }
 
-fn is_blank(c: u8) -> bool
+pub(crate) fn is_blank(c: u8) -> bool
     ensures { λ r. ⌜ r ≡ isBlank c ⌝ }
 {
     if c == 32 { true } else { c == 9 }

@@ -1,8 +1,9 @@
 // A stretch of ticks: moved on by many at once where nothing happens, else by a single tick.
 ghost use mathlib.Core.Path.{_≡_};
 ghost use Prim.Native.Nat.{_≤_, _+_, _-_};
-ghost use lib.Dec.{leb};
+ghost use lib.Dec.{leb, ltb};
 ghost use Rattle.unit.specs.Choice.{pick};
+ghost use Rattle.device.specs.Tick.{tickModel};
 ghost use Rattle.device.specs.Stretch.{least as Stretch·least, quietLeft, quietWait, quietClock, quietSchedule, quietFor, laterSchedule, laterClock, laterModel, progress, movedQuietly, noted, movedByOne, moved as Stretch·moved};
 use crate::tick::tick_model;
 use calendar::Clock;
@@ -207,11 +208,37 @@ fn begin(m: Model) -> Progress
     }
 }
 
+// Whether the next tick starts, fails and carries nothing.
+pub fn next_is_quiet(m: Model) -> bool
+    ensures { λ r. ⌜ r ≡ ltb 0 (quietFor m) ⌝ }
+{
+    0 < quiet_for(m)
+}
+
+// Such a tick.
+pub fn quiet_tick(m: Model) -> Model
+    requires { ⌜ 1 ≤ quietFor m ⌝ }
+    ensures { λ r. ⌜ r ≡ tickModel m ⌝ }
+{
+    model_later(m, 1)
+}
+
+// n ticks in which nothing happens.
+fn run_quietly(m: Model, n: u32) -> Progress
+    requires { ⌜ (n ≤ quietFor m) × (n ≤ 16384) ⌝ }
+    ensures { λ r. ⌜ r ≡ progress m n ⌝ }
+{
+    move_quietly(begin(m), n)
+}
+
 // n ticks.
 pub fn run(m: Model, n: u32) -> Progress
     requires { ⌜ n ≤ 16384 ⌝ }
     ensures { λ r. ⌜ r ≡ progress m n ⌝ }
 {
+    if n <= quiet_for(m) {
+        return run_quietly(m, n);
+    }
     let mut p = begin(m);
     while p.done < n {
         let next = move_on(p, n - p.done);

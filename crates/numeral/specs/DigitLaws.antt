@@ -15,6 +15,21 @@ use Rattle.numeral.specs.declared.Number.the-variants.{Value, Bad}
 use Rattle.numeral.specs.Digit.{digitOf, glyph, areDigits, valueOf, digits}
 use Rattle.numeral.specs.Read.{valueIn, readHex, readDecimal}
 
+below : (c b : ℕ) {x y : ℕ} → (c < b → x ≤ 16) → (b ≤ c → y ≤ 16) → cond (ltb c b) x y ≤ 16
+below c b {x} {y} less more = go (decLt c b)
+  where
+    go : Dec (c < b) → cond (ltb c b) x y ≤ 16
+    go (yes p) = rw (lt-ltb c b p) (less p)
+    go (no p) = let h : b ≤ c = omega arith in rw (le-ltb c b h) (more h)
+
+pub digit-most : (c : ℕ) → digitOf c ≤ 16
+unfolding digitOf
+digit-most c =
+    below c 48 (λ _. omega arith)
+    (λ _. below c 58 (λ h. omega arith)
+    (λ _. below c 65 (λ _. omega arith)
+    (λ _. below c 71 (λ h. omega arith) (λ _. below c 97 (λ _. omega arith) (λ _. below c 103 (λ h. omega arith) (λ _. omega arith))))))
+
 pub digit-glyph : (d : ℕ) → d < 16 → digitOf (glyph d) ≡ d
 unfolding digitOf glyph
 digit-glyph d h = go (decLt d 10)
@@ -45,7 +60,7 @@ both : (s t : Bool) → (s && t) ≡ true → (s ≡ true) × (t ≡ true)
 both true t e = (refl, e)
 both false t e = (e, cc)
 
-are-append : (b : ℕ) (xs ys : List ℕ) → areDigits b xs ≡ true → areDigits b (xs ++ ys) ≡ areDigits b ys
+pub are-append : (b : ℕ) (xs ys : List ℕ) → areDigits b xs ≡ true → areDigits b (xs ++ ys) ≡ areDigits b ys
 unfolding areDigits
 are-append b [] ys e = refl
 are-append b (x ∷ xs) ys e =
@@ -77,6 +92,13 @@ module _ (b : ℕ) (some : 0 < b) (most : b ≤ 16) where
   value-in-digits limit k v h l =
       let e : valueOf b 0 (digits b k v) ≡ v = value-digits k 0 v h ∙ rw (zero-mul, zero-add) in
       rw (are-digits k v, e, le-leb v limit l)
+
+-- Digits read as their value, which eight of them keep within 32 bits.
+pub hex-reads : (least most : ℕ) (cs : List ℕ) → 0 < length cs → least ≤ length cs → length cs ≤ most → length cs ≤ 8
+    → areDigits 16 cs ≡ true → valueOf 16 0 cs ≤ 4294967295 → readHex least most cs ≡ Value (valueOf 16 0 cs)
+unfolding readHex valueIn
+hex-reads least most cs some low high eight all small =
+    rw (le-ltb (length cs) 1 some, le-ltb (length cs) least low, le-ltb most (length cs) high, le-ltb 8 (length cs) eight, all, le-leb (valueOf 16 0 cs) 4294967295 small)
 
 -- A number that is printed in k hexadecimal digits reads back as itself.
 pub hex-reads-back : (least most k v : ℕ) → 0 < k → least ≤ k → k ≤ most → k ≤ 8 → v < 16 ^ k → readHex least most (digits 16 k v) ≡ Value v

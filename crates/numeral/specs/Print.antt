@@ -10,6 +10,11 @@ unfoldable pub lowBytes : List ℕ → List ℕ
 lowBytes [] = []
 lowBytes (w ∷ ws) = w % 256 ∷ lowBytes ws
 
+-- Two hexadecimal digits for each byte.
+unfoldable pub hexBytes : List ℕ → List ℕ
+hexBytes [] = []
+hexBytes (b ∷ bs) = digits 16 2 b ++ hexBytes bs
+
 -- How many decimal digits v takes without leading zeros, if at most k more than one.
 unfoldable pub widthFrom : ℕ → ℕ → ℕ
 widthFrom zero v = 1

@@ -9,9 +9,9 @@ use native.Mathlib.Omega.{arith}
 use lib.ListN.{length, getD}
 use borrow.Author.Tests.{lt-ltb, le-ltb}
 use Rattle.numeral.specs.declared.Number.the-variants.{Value}
-use Rattle.numeral.specs.Digit.{valueOf, digits}
+use Rattle.numeral.specs.Digit.{glyph, valueOf, digits}
 use Rattle.numeral.specs.Read.{readDecimal}
-use Rattle.numeral.specs.Print.{lowBytes, widthFrom, decimalWidth, decimal, tenThousandths, nanoseconds, signedNanoseconds}
+use Rattle.numeral.specs.Print.{lowBytes, hexBytes, widthFrom, decimalWidth, decimal, tenThousandths, nanoseconds, signedNanoseconds}
 use Rattle.numeral.specs.DigitLaws.{length-digits, value-append, value-digits, value-in-digits}
 
 pub length-low-bytes : (ws : List ℕ) → length (lowBytes ws) ≡ length ws
@@ -24,6 +24,28 @@ unfolding lowBytes
 low-byte [] i = refl
 low-byte (w ∷ ws) zero = refl
 low-byte (w ∷ ws) (suc i) = low-byte ws i
+
+two-more : (n : ℕ) → 2 * suc n ≡ suc (suc (2 * n))
+two-more n = omega arith
+
+pub length-hex-bytes : (bs : List ℕ) → length (hexBytes bs) ≡ 2 * length bs
+unfolding hexBytes digits
+length-hex-bytes [] = refl
+length-hex-bytes (b ∷ bs) = rw (length-hex-bytes bs, two-more)
+
+pub hex-high : (bs : List ℕ) (i : ℕ) → i < length bs → getD (hexBytes bs) (2 * i) 0 ≡ glyph (getD bs i 0 / 16 % 16)
+unfolding hexBytes digits
+hex-high [] i h = absurd (omega arith)
+hex-high (b ∷ bs) zero h = refl
+hex-high (b ∷ bs) (suc i) h = rw two-more (hex-high bs i (omega arith))
+
+pub hex-low : (bs : List ℕ) (i : ℕ) → i < length bs → getD (hexBytes bs) (2 * i + 1) 0 ≡ glyph (getD bs i 0 % 16)
+unfolding hexBytes digits
+hex-low [] i h = absurd (omega arith)
+hex-low (b ∷ bs) zero h = refl
+hex-low (b ∷ bs) (suc i) h =
+    let there : 2 * suc i + 1 ≡ suc (suc (2 * i + 1)) = omega arith in
+    rw there (hex-low bs i (omega arith))
 
 width-zero : (v : ℕ) → widthFrom zero v ≡ 1
 unfolding widthFrom

@@ -10,10 +10,12 @@ mod read;
 pub use print::NO_ROOM;
 pub use print::put_decimal;
 pub use print::put_hex;
+pub use print::put_hex_bytes;
 pub use print::put_low_bytes;
 pub use print::put_nanoseconds;
 pub use print::put_signed_nanoseconds;
 pub use print::put_text;
+pub use read::hex_digit;
 pub use read::read_decimal;
 pub use read::read_hex;
 

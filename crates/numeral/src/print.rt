@@ -1,11 +1,11 @@
 // Texts, numbers and times, put into a lent buffer.
 ghost use mathlib.Core.Path.{_≡_};
-ghost use Prim.Native.Nat.{_+_, _≤_, _<_};
+ghost use Prim.Native.Nat.{_+_, _*_, _≤_, _<_};
 ghost use lib.Dec.{leb};
 ghost use lib.ListN.{length};
 ghost use Rattle.numeral.specs.Digit.{glyph as Digit·glyph, digits};
 ghost use Rattle.numeral.specs.Place.{overwrite, Put};
-ghost use Rattle.numeral.specs.Print.{lowBytes, decimalWidth, decimal, fourDecimals, nanoseconds, signedNanoseconds};
+ghost use Rattle.numeral.specs.Print.{lowBytes, hexBytes, decimalWidth, decimal, fourDecimals, nanoseconds, signedNanoseconds};
 
 // The answer where there is no room.
 pub const NO_ROOM: usize = 18446744073709551615;
@@ -39,6 +39,33 @@ pub fn put_hex(buf: &mut [u8], at: usize, count: usize, v: u32) -> usize
     ensures { λ r. ⌜ Put (now (buf .entry)) at (digits 16 count v) r (now (buf .exit)) ⌝ }
 {
     put_digits(buf, at, 16, count, v as u64)
+}
+
+// Two hexadecimal digits for each byte, in capitals.
+pub fn put_hex_bytes(buf: &mut [u8], at: usize, bytes: &[u8]) -> usize
+    ensures { λ r. ⌜ Put (now (buf .entry)) at (hexBytes (now (bytes .entry))) r (now (buf .exit)) ⌝ }
+{
+    if buf.len() < at {
+        return NO_ROOM;
+    }
+    if (buf.len() - at) / 2 < bytes.len() {
+        return NO_ROOM;
+    }
+    fill_hex_bytes(buf, at, bytes);
+    at + 2 * bytes.len()
+}
+
+fn fill_hex_bytes(buf: &mut [u8], at: usize, bytes: &[u8])
+    requires { ⌜ at + 2 * length (now bytes) ≤ length (now buf) ⌝ }
+    ensures { λ _. ⌜ now (buf .exit) ≡ overwrite (now (buf .entry)) at (hexBytes (now (bytes .entry))) ⌝ }
+{
+    let mut i = 0;
+    while i < bytes.len() {
+        let b = bytes[i];
+        buf[at + 2 * i] = glyph((b / 16 % 16) as u64);
+        buf[at + 2 * i + 1] = glyph((b % 16) as u64);
+        i += 1;
+    }
 }
 
 // A decimal without leading zeros.

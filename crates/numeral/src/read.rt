@@ -59,14 +59,20 @@ fn value_in(s: &[u8], base: u64, limit: u64) -> Number
     }
 }
 
+// The value of a hexadecimal digit, or 16.
+pub fn hex_digit(c: u8) -> u32
+    ensures { λ r. ⌜ r ≡ digitOf c ⌝ }
+{
+    digit(c) as u32
+}
+
 // The value of a digit, or 16.
 fn digit(c: u8) -> u64
     ensures { λ r. ⌜ r ≡ digitOf c ⌝ }
 {
-    if c < 48 {
-        16
-    } else if c < 58 {
-        (c - 48) as u64
+    let d = (c as u64 + 208) % 256;
+    if d < 10 {
+        d
     } else if c < 65 {
         16
     } else if c < 71 {

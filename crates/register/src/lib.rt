@@ -103,10 +103,10 @@ pub fn difference_period(s: [u16; 16]) -> Ticks
     Ticks(16384 * (word(s, 11) / 4096 % 16 + 1))
 }
 
-pub fn difference_count(s: [u16; 16]) -> u32
+pub fn difference_count(s: [u16; 16]) -> u16
     ensures { λ r. ⌜ r ≡ differenceCount s ⌝ }
 {
-    word(s, 11) / 128 % 32 + 1
+    (word(s, 11) / 128 % 32 + 1) as u16
 }
 
 pub fn temperature_period(s: [u16; 16]) -> Ticks
@@ -115,10 +115,10 @@ pub fn temperature_period(s: [u16; 16]) -> Ticks
     Ticks(32768 * (word(s, 11) / 2 % 64 + 1))
 }
 
-pub fn temperature_count(s: [u16; 16]) -> u32
+pub fn temperature_count(s: [u16; 16]) -> u16
     ensures { λ r. ⌜ r ≡ temperatureCount s ⌝ }
 {
-    word(s, 12) / 2048 % 32 + 1
+    (word(s, 12) / 2048 % 32 + 1) as u16
 }
 
 // INT_EN.

@@ -1,27 +1,26 @@
 // The lines `flight` and `temperature`.
-use crate::Session;
-use crate::counts::after_call;
-use crate::output::add_line;
-use device::Answer;
+use crate::counts::USED;
+use crate::counts::count_call;
+use device::Model;
 
-pub fn flight(s: Session, up: &[u32], down: &[u32], answers: &mut [u8]) -> Session {
-    let model = s.model;
-    let reply = converter::flight_delivery(model, up, down);
+pub fn flight(
+    m: Model,
+    up: &[u32],
+    down: &[u32],
+    counts: &mut [usize; 7],
+    answers: &mut [u8],
+) -> Model {
+    let reply = converter::flight_delivery(m, up, down);
     let answer = reply.answer;
-    let used = add_delivery(answers, s.used, b"flight", answer);
-    after_call(s, reply, used)
+    let used = wording::delivery::put_delivery(answers, counts[USED], b"flight", answer);
+    count_call(counts, answer, used);
+    reply.model
 }
 
-pub fn temperature(s: Session, words: &[u32], answers: &mut [u8]) -> Session {
-    let model = s.model;
-    let reply = converter::temperature_delivery(model, words);
+pub fn temperature(m: Model, words: &[u32], counts: &mut [usize; 7], answers: &mut [u8]) -> Model {
+    let reply = converter::temperature_delivery(m, words);
     let answer = reply.answer;
-    let used = add_delivery(answers, s.used, b"temperature", answer);
-    after_call(s, reply, used)
-}
-
-fn add_delivery(answers: &mut [u8], at: usize, word: &[u8], answer: Answer) -> usize {
-    let mut out = [0u8; 128];
-    let n = wording::delivery::put_delivery(&mut out, word, answer);
-    add_line(answers, at, &mut out, n)
+    let used = wording::delivery::put_delivery(answers, counts[USED], b"temperature", answer);
+    count_call(counts, answer, used);
+    reply.model
 }

@@ -1,39 +1,26 @@
 // The lines `expect`.
-use crate::Session;
-use crate::counts::with_differing;
-use crate::output::add_line;
+use crate::counts::DIFFER;
+use crate::counts::USED;
+use crate::counts::more;
 use crate::registers::word;
 use device::Model;
 
 // The words that are expected from the address a on.
-pub fn expect(s: Session, a: u32, words: &[u32], answers: &mut [u8]) -> Session {
-    let model = s.model;
-    let n = differing(model, a, words);
-    let used = add_expectation(answers, s.used, model, a, words, n);
-    with_differing(s, n, used)
-}
-
-fn add_expectation(
-    answers: &mut [u8],
-    at: usize,
-    m: Model,
-    a: u32,
-    words: &[u32],
-    n: u64,
-) -> usize {
-    let mut out = [0u8; 2048];
-    let start = wording::expectation::put_head(&mut out, a, n);
-    let end = put_differing(&mut out, start, m, a, words);
-    add_line(answers, at, &mut out, end)
+pub fn expect(m: Model, a: u32, words: &[u32], counts: &mut [usize; 7], answers: &mut [u8]) {
+    let n = differing(m, a, words);
+    let start = wording::expectation::put_head(answers, counts[USED], a, n as u64);
+    let end = put_differing(answers, start, m, a, words);
+    counts[USED] = numeral::put_text(answers, end, b"\n");
+    counts[DIFFER] = more(counts[DIFFER], n);
 }
 
 // How many words differ.
-fn differing(m: Model, a: u32, words: &[u32]) -> u64 {
+fn differing(m: Model, a: u32, words: &[u32]) -> usize {
     let mut n = 0;
     let mut address = a;
     let mut i = 0;
     while i < words.len() {
-        n = crate::counts::more(n, differs(word(m, address), words[i]));
+        n = more(n, differs(word(m, address), words[i]));
         address = std::num::wrapping_add_u32(address, 1);
         i += 1;
     }
@@ -41,7 +28,7 @@ fn differing(m: Model, a: u32, words: &[u32]) -> u64 {
 }
 
 // 1 where they differ.
-fn differs(has: u32, wanted: u32) -> u64 {
+fn differs(has: u32, wanted: u32) -> usize {
     if has == wanted { 0 } else { 1 }
 }
 

@@ -1,16 +1,23 @@
 // The input, line by line.
-ghost use Prim.Native.Nat.{_≤_};
+ghost use Prim.Native.Nat.{_≤_, _+_};
 ghost use lib.ListN.{length};
-use crate::Session;
-use crate::counts::ended;
-use crate::counts::fresh_session;
-use crate::counts::unreadable;
-use crate::counts::with_held;
-use crate::counts::with_used;
+use crate::counts::BAD;
+use crate::counts::CALLS;
+use crate::counts::DIFFER;
+use crate::counts::HELD;
+use crate::counts::REFUSED;
+use crate::counts::USED;
 use crate::lines::answer;
-use crate::output::add_line;
 use crate::output::first_bytes;
 use crate::output::write_first;
+use device::Model;
+
+// How reading ended, or that it did not.
+const MORE: u8 = 0;
+
+const ENDED: u8 = 1;
+
+const UNREADABLE: u8 = 2;
 
 // Replays what a file has, to its end.
 //
@@ -18,49 +25,114 @@ use crate::output::write_first;
 // uses up.
 pub fn replay(fd: i32) {
     let mut held = [0u8; 1002];
+    let mut numbers = [0u32; 200];
+    let mut counts = [0usize; 7];
     let mut answers = io::large_buffer();
-    let mut s = fresh_session();
+    let mut part = io::large_buffer();
+    let mut m = converter::fresh();
     let mut turns = u64::MAX;
-    while turns > 0 && s.more {
+    let mut state = MORE;
+    while turns > 0 && state == MORE {
         turns -= 1;
-        s = read_some(fd, s, &mut held, &mut answers);
+        let got = libc::read(fd, &mut part);
+        state = state_of(got);
+        if state == MORE {
+            let n = io::count(got, &part);
+            m = feed(
+                m,
+                &part[..n],
+                &mut held,
+                &mut numbers,
+                &mut counts,
+                &mut answers,
+            );
+            written(&mut counts, &answers);
+        }
     }
-    finish(s, &held, &mut answers);
+    if state != UNREADABLE {
+        finish(m, &held, &mut numbers, &mut counts, &mut answers);
+    }
 }
 
-// Reads once, and answers the lines that end in what came.
-fn read_some(fd: i32, s: Session, held: &mut [u8], answers: &mut [u8]) -> Session {
-    let mut part = io::large_buffer();
-    let got = libc::read(fd, &mut part);
+fn state_of(got: isize) -> u8 {
     if got < 0 {
         os::fail(b"read");
-        return unreadable(s);
+        return UNREADABLE;
     }
-    if got == 0 {
-        return ended(s);
-    }
-    let n = io::count(got, &part);
-    let t = feed(s, &part[..n], held, answers);
-    written(t, answers)
+    if got == 0 { ENDED } else { MORE }
 }
 
-fn feed(s: Session, part: &[u8], held: &mut [u8], answers: &mut [u8]) -> Session {
-    let mut t = s;
+fn feed(
+    m: Model,
+    part: &[u8],
+    held: &mut [u8],
+    numbers: &mut [u32],
+    counts: &mut [usize; 7],
+    answers: &mut [u8],
+) -> Model {
+    let mut model = m;
     let mut i = 0;
     while i < part.len() {
         let end = line_end(part, i);
         if end < part.len() {
-            t = whole_line(t, &part[i..end], held, answers);
+            model = whole_line(model, &part[i..end], held, numbers, counts, answers);
             i = end + 1;
         } else {
-            return hold(t, &part[i..], held);
+            hold(&part[i..], held, counts);
+            return model;
         }
     }
-    t
+    model
 }
 
-// The place of the first line feed from `at` on, or the end.
+// The place of the first line feed from `at` on, or the end. Eight places are looked at in a turn.
 fn line_end(part: &[u8], at: usize) -> usize
+    requires { ⌜ at ≤ length (now part) ⌝ }
+    ensures { λ r. ⌜ (at ≤ r) × (r ≤ length (now (part .entry))) ⌝ }
+{
+    let mut i = at;
+    while 8 <= part.len() - i {
+        let end = end_in_eight(part, i);
+        if end < i + 8 {
+            return end;
+        }
+        i += 8;
+    }
+    end_from(part, i)
+}
+
+fn end_in_eight(part: &[u8], i: usize) -> usize
+    requires { ⌜ i + 8 ≤ length (now part) ⌝ }
+    ensures { λ r. ⌜ (i ≤ r) × (r ≤ i + 8) ⌝ }
+{
+    if part[i + 0] == 10 {
+        return i + 0;
+    }
+    if part[i + 1] == 10 {
+        return i + 1;
+    }
+    if part[i + 2] == 10 {
+        return i + 2;
+    }
+    if part[i + 3] == 10 {
+        return i + 3;
+    }
+    if part[i + 4] == 10 {
+        return i + 4;
+    }
+    if part[i + 5] == 10 {
+        return i + 5;
+    }
+    if part[i + 6] == 10 {
+        return i + 6;
+    }
+    if part[i + 7] == 10 {
+        return i + 7;
+    }
+    i + 8
+}
+
+fn end_from(part: &[u8], at: usize) -> usize
     requires { ⌜ at ≤ length (now part) ⌝ }
     ensures { λ r. ⌜ (at ≤ r) × (r ≤ length (now (part .entry))) ⌝ }
 {
@@ -75,62 +147,81 @@ fn line_end(part: &[u8], at: usize) -> usize
 }
 
 // Answers a line, of which `rest` is what is not held.
-fn whole_line(s: Session, rest: &[u8], held: &mut [u8], answers: &mut [u8]) -> Session {
-    if s.held == 0 {
-        return answer(s, rest, answers);
+fn whole_line(
+    m: Model,
+    rest: &[u8],
+    held: &mut [u8],
+    numbers: &mut [u32],
+    counts: &mut [usize; 7],
+    answers: &mut [u8],
+) -> Model {
+    if counts[HELD] == 0 {
+        return answer(m, rest, numbers, counts, answers);
     }
-    held_line(hold(s, rest, held), held, answers)
+    hold(rest, held, counts);
+    held_line(m, held, numbers, counts, answers)
 }
 
-fn held_line(s: Session, held: &[u8], answers: &mut [u8]) -> Session {
-    with_held(answer(s, first_bytes(held, s.held), answers), 0)
+fn held_line(
+    m: Model,
+    held: &[u8],
+    numbers: &mut [u32],
+    counts: &mut [usize; 7],
+    answers: &mut [u8],
+) -> Model {
+    let n = counts[HELD];
+    counts[HELD] = 0;
+    answer(m, first_bytes(held, n), numbers, counts, answers)
 }
 
 // Holds more of a line.
-fn hold(s: Session, bytes: &[u8], held: &mut [u8]) -> Session {
-    let mut n = s.held;
+fn hold(bytes: &[u8], held: &mut [u8], counts: &mut [usize; 7]) {
+    let mut n = counts[HELD];
     let mut i = 0;
     while i < bytes.len() {
         n = line::hold_byte(held, n, bytes[i]);
         i += 1;
     }
-    with_held(s, n)
+    counts[HELD] = n;
 }
 
-// With the answers written.
-fn written(s: Session, answers: &[u8]) -> Session {
-    write_first(answers, s.used);
-    with_used(s, 0)
+// Writes the answers.
+fn written(counts: &mut [usize; 7], answers: &[u8]) {
+    write_first(answers, counts[USED]);
+    counts[USED] = 0;
 }
 
-// Where the input was read to its end: the last line, which may lack its line feed, and the counts.
-fn finish(s: Session, held: &[u8], answers: &mut [u8]) {
-    if s.unread {
-        return;
-    }
-    let t = last_line(s, held, answers);
-    let used = add_end(t, answers);
+// The last line, which may lack its line feed, and the counts.
+fn finish(m: Model, held: &[u8], numbers: &mut [u32], counts: &mut [usize; 7], answers: &mut [u8]) {
+    last_line(m, held, numbers, counts, answers);
+    let used = add_end(counts, answers);
     write_first(answers, used);
 }
 
-fn last_line(s: Session, held: &[u8], answers: &mut [u8]) -> Session {
-    if s.held == 0 {
-        s
-    } else {
-        held_line(s, held, answers)
+fn last_line(
+    m: Model,
+    held: &[u8],
+    numbers: &mut [u32],
+    counts: &mut [usize; 7],
+    answers: &mut [u8],
+) {
+    if counts[HELD] != 0 {
+        held_line(m, held, numbers, counts, answers);
     }
 }
 
-fn add_end(s: Session, answers: &mut [u8]) -> usize {
-    let mut out = [0u8; 160];
-    let a = numeral::put_text(&mut out, 0, b"end ");
-    let b = numeral::put_decimal(&mut out, a, s.calls);
-    let c = numeral::put_text(&mut out, b, b" calls, ");
-    let d = numeral::put_decimal(&mut out, c, s.refused);
-    let e = numeral::put_text(&mut out, d, b" refused, ");
-    let f = numeral::put_decimal(&mut out, e, s.bad);
-    let g = numeral::put_text(&mut out, f, b" bad lines, ");
-    let h = numeral::put_decimal(&mut out, g, s.differ);
-    let i = numeral::put_text(&mut out, h, b" expectations differ");
-    add_line(answers, s.used, &mut out, i)
+fn add_end(counts: &[usize; 7], answers: &mut [u8]) -> usize {
+    let a = numeral::put_text(answers, counts[USED], b"end ");
+    let b = numeral::put_decimal(answers, a, counts[CALLS] as u64);
+    let c = numeral::put_text(answers, b, b" calls, ");
+    let d = numeral::put_decimal(answers, c, counts[REFUSED] as u64);
+    let e = numeral::put_text(answers, d, b" refused, ");
+    add_faults(counts, answers, e)
+}
+
+fn add_faults(counts: &[usize; 7], answers: &mut [u8], at: usize) -> usize {
+    let a = numeral::put_decimal(answers, at, counts[BAD] as u64);
+    let b = numeral::put_text(answers, a, b" bad lines, ");
+    let c = numeral::put_decimal(answers, b, counts[DIFFER] as u64);
+    numeral::put_text(answers, c, b" expectations differ\n")
 }

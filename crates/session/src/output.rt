@@ -42,14 +42,3 @@ pub fn make_room(answers: &[u8], at: usize) -> usize {
     write_first(answers, at);
     0
 }
-
-// Puts the first n bytes of a buffer behind the answers.
-pub fn add(answers: &mut [u8], at: usize, bytes: &[u8], n: usize) -> usize {
-    numeral::put_text(answers, at, first_bytes(bytes, n))
-}
-
-// The same, and a line feed.
-pub fn add_line(answers: &mut [u8], at: usize, bytes: &mut [u8], n: usize) -> usize {
-    let end = numeral::put_text(bytes, n, b"\n");
-    add(answers, at, bytes, end)
-}

@@ -1,5 +1,4 @@
 // The lines `regs`, `int` and `awaited`.
-use crate::output::add_line;
 use device::Model;
 use device::Told;
 
@@ -28,10 +27,9 @@ pub fn add_registers(answers: &mut [u8], at: usize, m: Model) -> usize {
 }
 
 fn add_row(answers: &mut [u8], at: usize, m: Model, a: u32) -> usize {
-    let mut out = [0u8; 64];
-    let start = numeral::put_hex(&mut out, 0, 2, a);
-    let end = put_row(&mut out, start, m, a);
-    add_line(answers, at, &mut out, end)
+    let start = numeral::put_hex(answers, at, 2, a);
+    let end = put_row(answers, start, m, a);
+    numeral::put_text(answers, end, b"\n")
 }
 
 // A blank and a word, for each of the eight registers from a on.
@@ -55,10 +53,9 @@ pub fn add_interrupt(answers: &mut [u8], at: usize, m: Model) -> usize {
 }
 
 pub fn add_awaited(answers: &mut [u8], at: usize, m: Model) -> usize {
-    let mut out = [0u8; 32];
-    let a = numeral::put_text(&mut out, 0, b"awaited ");
-    let b = numeral::put_decimal(&mut out, a, value(converter::flight_awaited(m)) as u64);
-    let c = numeral::put_text(&mut out, b, b" ");
-    let d = numeral::put_decimal(&mut out, c, value(converter::temperature_awaited(m)) as u64);
-    add_line(answers, at, &mut out, d)
+    let a = numeral::put_text(answers, at, b"awaited ");
+    let b = numeral::put_decimal(answers, a, value(converter::flight_awaited(m)) as u64);
+    let c = numeral::put_text(answers, b, b" ");
+    let d = numeral::put_decimal(answers, c, value(converter::temperature_awaited(m)) as u64);
+    numeral::put_text(answers, d, b"\n")
 }

@@ -1,30 +1,34 @@
 // The lines `tick`.
 ghost use Prim.Native.Nat.{_<_, _≤_};
-use crate::Session;
-use crate::counts::after_call;
-use crate::output::add;
+use crate::counts::USED;
+use crate::counts::count_call;
 use crate::output::make_room;
 use device::Answer;
-use device::Reply;
+use device::Model;
 use device::StretchReport;
 
 // n ticks.
-pub fn tick(s: Session, n: u32, answers: &mut [u8]) -> Session {
-    let used = add_count(answers, s.used, n);
-    run(s, used, n, answers)
+pub fn tick(m: Model, n: u32, counts: &mut [usize; 7], answers: &mut [u8]) -> Model {
+    if n == 1 {
+        return single(m, counts, answers);
+    }
+    let a = numeral::put_text(answers, counts[USED], b"tick ");
+    counts[USED] = numeral::put_decimal(answers, a, n as u64);
+    run(m, n, counts, answers)
 }
 
-fn add_count(answers: &mut [u8], at: usize, n: u32) -> usize {
-    let mut out = [0u8; 64];
-    let a = numeral::put_text(&mut out, 0, b"tick ");
-    let b = numeral::put_decimal(&mut out, a, n as u64);
-    add(answers, at, &out, b)
+fn single(m: Model, counts: &mut [usize; 7], answers: &mut [u8]) -> Model {
+    let reply = converter::tick(m);
+    let answer = reply.answer;
+    let used = wording::ticks::put_single(answers, counts[USED], answer);
+    count_call(counts, Answer::Good, used);
+    reply.model
 }
 
 // In stretches, which end as so many single ticks do.
-fn run(s: Session, at: usize, n: u32, answers: &mut [u8]) -> Session {
-    let mut model = s.model;
-    let mut used = at;
+fn run(m: Model, n: u32, counts: &mut [usize; 7], answers: &mut [u8]) -> Model {
+    let mut model = m;
+    let mut used = counts[USED];
     let mut done = 0;
     while done < n {
         let span = span_of(n - done);
@@ -34,9 +38,9 @@ fn run(s: Session, at: usize, n: u32, answers: &mut [u8]) -> Session {
         used = add_reports(answers, used, answer, done);
         done += span;
     }
-    let answer = Answer::Good;
     let end = numeral::put_text(answers, used, b"\n");
-    after_call(s, Reply { answer, model }, end)
+    count_call(counts, Answer::Good, end);
+    model
 }
 
 // The next stretch, where so many ticks are left.
@@ -66,7 +70,5 @@ fn add_named(
     temperature: StretchReport,
     done: u32,
 ) -> usize {
-    let mut out = [0u8; 128];
-    let n = wording::ticks::put_named(&mut out, flight, temperature, done);
-    add(answers, make_room(answers, at), &out, n)
+    wording::ticks::put_named(answers, make_room(answers, at), flight, temperature, done)
 }

@@ -3,10 +3,11 @@ use crate::refusal::put_refusal;
 use device::Answer;
 
 // `bus`, the answer, and the output buffer.
-pub fn put_bus(out: &mut [u8], answer: Answer, buffer: &[u8]) -> usize {
-    let a = numeral::put_text(out, 0, b"bus");
+pub fn put_bus(out: &mut [u8], at: usize, answer: Answer, buffer: &[u8]) -> usize {
+    let a = numeral::put_text(out, at, b"bus");
     let b = put_answer(out, a, answer);
-    put_buffer(out, b, buffer)
+    let c = put_buffer(out, b, buffer);
+    numeral::put_text(out, c, b"\n")
 }
 
 fn put_answer(out: &mut [u8], at: usize, answer: Answer) -> usize {
@@ -36,19 +37,5 @@ fn put_buffer(out: &mut [u8], at: usize, buffer: &[u8]) -> usize {
         return at;
     }
     let start = numeral::put_text(out, at, b" out ");
-    put_bytes(out, start, buffer)
-}
-
-fn put_bytes(out: &mut [u8], at: usize, bytes: &[u8]) -> usize {
-    let mut place = at;
-    let mut i = 0;
-    while i < bytes.len() {
-        place = numeral::put_hex(out, place, 2, wide(bytes[i]));
-        i += 1;
-    }
-    place
-}
-
-fn wide(x: u8) -> u32 {
-    x as u32
+    numeral::put_hex_bytes(out, start, buffer)
 }

@@ -3,9 +3,10 @@ use crate::refusal::put_refusal;
 use device::Answer;
 
 // The kind, and the answer.
-pub fn put_delivery(out: &mut [u8], kind: &[u8], answer: Answer) -> usize {
-    let a = numeral::put_text(out, 0, kind);
-    put_answer(out, a, answer)
+pub fn put_delivery(out: &mut [u8], at: usize, kind: &[u8], answer: Answer) -> usize {
+    let a = numeral::put_text(out, at, kind);
+    let b = put_answer(out, a, answer);
+    numeral::put_text(out, b, b"\n")
 }
 
 fn put_answer(out: &mut [u8], at: usize, answer: Answer) -> usize {

@@ -1,8 +1,8 @@
 // Expectations.
 
 // `expect AT ok` or `expect AT differs`, where n words differ.
-pub fn put_head(out: &mut [u8], a: u32, n: u64) -> usize {
-    let x = numeral::put_text(out, 0, b"expect ");
+pub fn put_head(out: &mut [u8], at: usize, a: u32, n: u64) -> usize {
+    let x = numeral::put_text(out, at, b"expect ");
     let y = numeral::put_hex(out, x, 2, a);
     if n == 0 {
         numeral::put_text(out, y, b" ok")

@@ -2,17 +2,17 @@
 use line::Call;
 
 // `line NUMBER: WHY`
-pub fn put_fault(out: &mut [u8], number: u64, call: Call) -> usize {
-    let a = numeral::put_text(out, 0, b"line ");
+pub fn put_fault(out: &mut [u8], at: usize, number: u64, call: Call) -> usize {
+    let a = numeral::put_text(out, at, b"line ");
     let b = numeral::put_decimal(out, a, number);
     put_why(out, b, call)
 }
 
 fn put_why(out: &mut [u8], at: usize, call: Call) -> usize {
     match call {
-        Call::TooLong => numeral::put_text(out, at, b": too long"),
-        Call::UnknownWord => numeral::put_text(out, at, b": unknown word"),
-        Call::BadNumber => numeral::put_text(out, at, b": bad number"),
-        _ => numeral::put_text(out, at, b": wrong count"),
+        Call::TooLong => numeral::put_text(out, at, b": too long\n"),
+        Call::UnknownWord => numeral::put_text(out, at, b": unknown word\n"),
+        Call::BadNumber => numeral::put_text(out, at, b": bad number\n"),
+        _ => numeral::put_text(out, at, b": wrong count\n"),
     }
 }

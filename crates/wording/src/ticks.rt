@@ -1,8 +1,57 @@
 // What ticks report.
+use device::Answer;
+use device::Report;
 use device::StretchReport;
 
 // No tick is named: a number beyond every tick of a stretch.
 const NONE: u32 = 4294967295;
+
+// What a single tick reports.
+pub fn put_single(out: &mut [u8], at: usize, answer: Answer) -> usize {
+    match answer {
+        Answer::Ticked(flight, temperature) => {
+            if nothing_in(flight) {
+                if nothing_in(temperature) {
+                    return numeral::put_text(out, at, b"tick 1\n");
+                }
+            }
+            put_ticked(out, at, flight, temperature)
+        }
+        _ => at,
+    }
+}
+
+fn nothing_in(report: Report) -> bool {
+    if report.started {
+        return false;
+    }
+    if report.failed { false } else { true }
+}
+
+fn put_ticked(out: &mut [u8], at: usize, flight: Report, temperature: Report) -> usize {
+    let a = numeral::put_text(out, at, b"tick 1");
+    let b = put_kind(out, a, flight, b" failed-flight@1", b" started-flight@1");
+    let c = put_kind(
+        out,
+        b,
+        temperature,
+        b" failed-temperature@1",
+        b" started-temperature@1",
+    );
+    numeral::put_text(out, c, b"\n")
+}
+
+fn put_kind(out: &mut [u8], at: usize, report: Report, failed: &[u8], started: &[u8]) -> usize {
+    let a = put_where(out, at, report.failed, failed);
+    put_where(out, a, report.started, started)
+}
+
+fn put_where(out: &mut [u8], at: usize, holds: bool, what: &[u8]) -> usize {
+    if holds {
+        return numeral::put_text(out, at, what);
+    }
+    at
+}
 
 // Whether a stretch names no tick.
 pub fn none_named(flight: StretchReport, temperature: StretchReport) -> bool {
@@ -12,12 +61,13 @@ pub fn none_named(flight: StretchReport, temperature: StretchReport) -> bool {
 // The ticks that a stretch names, in order of time; `done` ticks came before it.
 pub fn put_named(
     out: &mut [u8],
+    at: usize,
     flight: StretchReport,
     temperature: StretchReport,
     done: u32,
 ) -> usize {
     let first = next_named(flight, temperature, 0);
-    let a = put_tick(out, 0, flight, temperature, first, done);
+    let a = put_tick(out, at, flight, temperature, first, done);
     let second = next_named(flight, temperature, first);
     let b = put_tick(out, a, flight, temperature, second, done);
     put_later(out, b, flight, temperature, second, done)

@@ -65,7 +65,7 @@ write-requires c κs =
     let f = now (start .frame) in
     let e = sym (c .before .before .before .before .decode .ensures) ∙ c .before .before .d2 .given .1 in
     let w = write-facts f (length (now (start .out))) (c .before .before .d2 .given .0 .0) (c .before .before .d2 .given .0 .1 .0) e in
-    (w .first, w .last, rw (← tail-whole f, length-drop) (omega arith))
+    (sym (c .before .before .before .before .before .before .is-sound .ensures) ∙ c .before .before .before .before .before .if1 .taken, w .first, w .last, rw (← tail-whole f, length-drop) (omega arith))
 
 returns-2 : tie.Need-returns-2
 returns-2 c =

@@ -11,9 +11,12 @@ word-requires c κs = search needs
 add-result : tie.Need-add-result
 add-result c = search needs
 
+cast-result : tie.Need-cast-result
+cast-result c = search needs
+
 returns : tie.Need-returns
 unfolding differenceCount
 returns c = search (needs, tests)
 
 pub difference-count-spec : {M : Type 1} → statement M
-difference-count-spec = tie.close (tie.spec word-requires add-result returns)
+difference-count-spec = tie.close (tie.spec word-requires add-result cast-result returns)

@@ -11,9 +11,12 @@ word-requires c κs = search needs
 add-result : tie.Need-add-result
 add-result c = search needs
 
+cast-result : tie.Need-cast-result
+cast-result c = search needs
+
 returns : tie.Need-returns
 unfolding temperatureCount
 returns c = search (needs, tests)
 
 pub temperature-count-spec : {M : Type 1} → statement M
-temperature-count-spec = tie.close (tie.spec word-requires add-result returns)
+temperature-count-spec = tie.close (tie.spec word-requires add-result cast-result returns)

@@ -52,9 +52,15 @@ returns-5 : tie.Need-returns-5
 unfolding flightWord
 returns-5 c = simp (← c .half-of3 .ensures, lt-ltb _ _ (c .before .if5 .taken), le-ltb _ _ (c .before .before .if4 .left), le-ltb _ _ (c .before .before .before .if3 .left), le-ltb _ _ (c .before .before .before .before .if2 .left), le-ltb _ _ (c .before .before .before .before .before .if1 .left))
 
+cast-result : tie.Need-cast-result
+cast-result c = search needs
+
 returns-6 : tie.Need-returns-6
 unfolding flightWord
-returns-6 c = simp (eq-eqb _ _ (c .if6 .taken), le-ltb _ _ (c .before .if5 .left), le-ltb _ _ (c .before .before .if4 .left), le-ltb _ _ (c .before .before .before .if3 .left), le-ltb _ _ (c .before .before .before .before .if2 .left), le-ltb _ _ (c .before .before .before .before .before .if1 .left))
+returns-6 c = simp (eq-eqb _ _ (c .before .if6 .taken), le-ltb _ _ (c .before .before .if5 .left), le-ltb _ _ (c .before .before .before .if4 .left), le-ltb _ _ (c .before .before .before .before .if3 .left), le-ltb _ _ (c .before .before .before .before .before .if2 .left), le-ltb _ _ (c .before .before .before .before .before .before .if1 .left))
+
+cast-difference-mean : tie.Need-cast-difference-mean
+cast-difference-mean c = search needs
 
 difference-mean-requires : tie.Need-difference-mean-requires
 difference-mean-requires c κs = search needs
@@ -67,7 +73,7 @@ half-of-requires-4 c κs = search needs
 
 returns-7 : tie.Need-returns-7
 unfolding flightWord
-returns-7 c = simp (← c .half-of4 .ensures, ← c .before .difference-mean .ensures, ne-eqb _ _ (c .before .before .if6 .left), le-ltb _ _ (c .before .before .before .if5 .left), le-ltb _ _ (c .before .before .before .before .if4 .left), le-ltb _ _ (c .before .before .before .before .before .if3 .left), le-ltb _ _ (c .before .before .before .before .before .before .if2 .left), le-ltb _ _ (c .before .before .before .before .before .before .before .if1 .left))
+returns-7 c = simp (← c .half-of4 .ensures, ← c .before .difference-mean .ensures, ne-eqb _ _ (c .before .before .before .if6 .left), le-ltb _ _ (c .before .before .before .before .if5 .left), le-ltb _ _ (c .before .before .before .before .before .if4 .left), le-ltb _ _ (c .before .before .before .before .before .before .if3 .left), le-ltb _ _ (c .before .before .before .before .before .before .before .if2 .left), le-ltb _ _ (c .before .before .before .before .before .before .before .before .if1 .left))
 
 pub flight-word-spec : {M : Type 1} → statement M
 flight-word-spec =
@@ -87,7 +93,9 @@ flight-word-spec =
     returns-4
     half-of-requires-3
     returns-5
+    cast-result
     returns-6
+    cast-difference-mean
     difference-mean-requires
     sub-half-of
     half-of-requires-4

@@ -27,9 +27,12 @@ returns : tie.Need-returns
 unfolding temperatureWord
 returns c = simp (← c .half-of .ensures, lt-ltb _ _ (c .before .if1 .taken))
 
+cast-result : tie.Need-cast-result
+cast-result c = search needs
+
 returns-2 : tie.Need-returns-2
 unfolding temperatureWord
-returns-2 c = simp (eq-eqb _ _ (c .if2 .taken), le-ltb _ _ (c .before .if1 .left))
+returns-2 c = simp (eq-eqb _ _ (c .before .if2 .taken), le-ltb _ _ (c .before .before .if1 .left))
 
 sub-place-2 : tie.Need-sub-place-2
 sub-place-2 c = search needs
@@ -43,6 +46,9 @@ mul-sum c = search needs
 array-read-sum : tie.Need-array-read-sum
 array-read-sum c = search needs
 
+cast-port-mean : tie.Need-cast-port-mean
+cast-port-mean c = search needs
+
 port-mean-requires : tie.Need-port-mean-requires
 port-mean-requires c κs = search needs
 
@@ -54,7 +60,7 @@ half-of-requires-2 c κs = search needs
 
 returns-3 : tie.Need-returns-3
 unfolding temperatureWord
-returns-3 c = simp (← c .half-of2 .ensures, ← c .before .port-mean .ensures, ne-eqb _ _ (c .before .before .if2 .left), le-ltb _ _ (c .before .before .before .if1 .left))
+returns-3 c = simp (← c .half-of2 .ensures, ← c .before .port-mean .ensures, ne-eqb _ _ (c .before .before .before .if2 .left), le-ltb _ _ (c .before .before .before .before .if1 .left))
 
 pub temperature-word-spec : {M : Type 1} → statement M
 temperature-word-spec =
@@ -67,11 +73,13 @@ temperature-word-spec =
     sub-half-of
     half-of-requires
     returns
+    cast-result
     returns-2
     sub-place-2
     cast-sum
     mul-sum
     array-read-sum
+    cast-port-mean
     port-mean-requires
     sub-half-of-2
     half-of-requires-2

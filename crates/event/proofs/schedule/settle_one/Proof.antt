@@ -5,22 +5,19 @@ use borrow.Author.Needs.{needs}
 use Rattle.event.proofs.schedule.settle_one.Statement.{statement}
 use Rattle.event.proofs.schedule.settle_one.Tie as tie
 
-add-choose : tie.Need-add-choose
-add-choose c = search needs
+count-good-requires : tie.Need-count-good-requires
+count-good-requires c κs = search needs
 
-choose-requires : tie.Need-choose-requires
-choose-requires c κs = search needs
-
-add-t9 : tie.Need-add-t9
-add-t9 c = search needs
+add-t10 : tie.Need-add-t10
+add-t10 c = search needs
 
 returns : tie.Need-returns
 unfolding settle
-returns c = simp (← c .before .choose .ensures, lt-ltb _ _ (c .before .before .before .if1 .taken))
+returns c = simp (← c .before .count-good .ensures, lt-ltb _ _ (c .before .before .if1 .taken))
 
 returns-2 : tie.Need-returns-2
 unfolding settle
 returns-2 c = simp (le-ltb _ _ (c .if1 .left))
 
 pub settle-one-spec : {M : Type 1} → statement M
-settle-one-spec = tie.close (tie.spec add-choose choose-requires add-t9 returns returns-2)
+settle-one-spec = tie.close (tie.spec count-good-requires add-t10 returns returns-2)

@@ -23,16 +23,19 @@ abbrev μ-loop : tie.MeasureT-loop
 loop-holds : tie.Need-loop-holds Inv-loop μ-loop
 loop-holds c = (omega arith, refl, omega arith, refl)
 
+clean-numbers-requires : tie.Need-clean-numbers-requires Inv-loop μ-loop
+clean-numbers-requires c κs = omega arith
+
 next-word-requires : tie.Need-next-word-requires Inv-loop μ-loop
-next-word-requires c κs = omega arith
+next-word-requires c κs = c .before .before .clean-numbers .ensures .high
 
 same-length : tie.Need-same-length Inv-loop μ-loop
-same-length c = c .before .before .before .loop .inv .1
+same-length c = c .before .before .before .before .clean-numbers .kept .1 .1 .1 .1 .0 ∙ c .before .before .before .before .before .before .before .loop .inv .1
 
 returns : tie.Need-returns Inv-loop μ-loop
 returns c =
-    let k = c .before .before .before .loop in
-    tally-end _ _ _ _ _ (c .before .next-word .ensures .none (c .if1 .taken)) ∙ k .inv .3
+    let k = c .before .before .before .before .before .before .before .loop in
+    tally-end _ _ _ _ _ (c .before .next-word .ensures .none (c .if1 .taken)) ∙ c .before .before .before .before .clean-numbers .ensures .alike _ _ ∙ k .inv .3
 
 sub-kind-of : tie.Need-sub-kind-of Inv-loop μ-loop
 sub-kind-of c = omega arith
@@ -50,12 +53,13 @@ enum-told : tie.Need-enum-told Inv-loop μ-loop
 enum-told c = search needs
 
 same-length-2 : tie.Need-same-length-2 Inv-loop μ-loop
-same-length-2 c = c .before .before .before .before .before .before .before .loop .inv .1
+same-length-2 c = c .before .before .before .before .before .before .before .before .clean-numbers .kept .1 .1 .1 .1 .0 ∙ c .before .before .before .before .before .before .before .before .before .before .before .loop .inv .1
 
 returns-2 : tie.Need-returns-2 Inv-loop μ-loop
 returns-2 c =
-    let k = c .before .before .before .before .before .before .before .loop in
-    tally-wrong _ _ _ _ _ (c .before .before .before .before .before .next-word .ensures .some (c .before .before .before .before .if1 .left)) (sym (c .before .before .kind-of .ensures) ∙ c .enum-told .given .1) ∙ k .inv .3
+    let k = c .before .before .before .before .before .before .before .before .before .before .before .loop in
+    tally-wrong _ _ _ _ _ (c .before .before .before .before .before .next-word .ensures .some (c .before .before .before .before .if1 .left)) (sym (c .before .before .kind-of .ensures) ∙ c .enum-told .given .1)
+    ∙ c .before .before .before .before .before .before .before .before .clean-numbers .ensures .alike _ _ ∙ k .inv .3
 
 enum-told-2 : tie.Need-enum-told-2 Inv-loop μ-loop
 enum-told-2 c = search needs
@@ -64,13 +68,13 @@ first-slash-requires : tie.Need-first-slash-requires Inv-loop μ-loop
 first-slash-requires c κs = tt
 
 add-slashes : tie.Need-add-slashes Inv-loop μ-loop
-add-slashes c = omega (arith, c .before .before .before .before .before .before .before .before .loop .inv .2)
+add-slashes c = omega (arith, c .before .before .before .before .before .if1 .left, c .before .before .before .before .before .before .next-word .ensures .low, c .before .before .before .before .before .before .next-word .ensures .high, c .before .before .before .before .before .before .before .before .before .clean-numbers .ensures .low, c .before .before .before .before .before .before .before .before .before .clean-numbers .ensures .count, c .before .before .before .before .before .before .before .before .before .before .before .before .loop .inv .2)
 
 enum-told-3 : tie.Need-enum-told-3 Inv-loop μ-loop
 enum-told-3 c = search needs
 
 add-count : tie.Need-add-count Inv-loop μ-loop
-add-count c = omega (arith, c .before .before .before .before .before .before .before .loop .inv .2)
+add-count c = omega (arith, c .before .before .before .before .if1 .left, c .before .before .before .before .before .next-word .ensures .low, c .before .before .before .before .before .next-word .ensures .high, c .before .before .before .before .before .before .before .before .clean-numbers .ensures .low, c .before .before .before .before .before .before .before .before .clean-numbers .ensures .count, c .before .before .before .before .before .before .before .before .before .before .before .loop .inv .2)
 
 enum-known-v : tie.Need-enum-known-v Inv-loop μ-loop
 enum-known-v c = search needs
@@ -79,48 +83,51 @@ store-requires : tie.Need-store-requires Inv-loop μ-loop
 store-requires c κs = tt
 
 add-count-2 : tie.Need-add-count-2 Inv-loop μ-loop
-add-count-2 c = omega (arith, c .before .before .before .before .before .before .before .before .before .before .before .before .loop .inv .2)
+add-count-2 c = omega (arith, c .before .before .before .before .before .before .before .before .before .if1 .left, c .before .before .before .before .before .before .before .before .before .before .next-word .ensures .low, c .before .before .before .before .before .before .before .before .before .before .next-word .ensures .high, c .before .before .before .before .before .before .before .before .before .before .before .before .before .clean-numbers .ensures .low, c .before .before .before .before .before .before .before .before .before .before .before .before .before .clean-numbers .ensures .count, c .before .before .before .before .before .before .before .before .before .before .before .before .before .before .before .before .loop .inv .2)
 
 loop-less : tie.Need-loop-less Inv-loop μ-loop
-loop-less c = omega arith
+loop-less c = omega (arith, c .before .before .before .before .before .if1 .left, c .before .before .before .before .before .before .next-word .ensures .low, c .before .before .before .before .before .before .next-word .ensures .high, c .before .before .before .before .before .before .before .before .before .clean-numbers .ensures .low, c .before .before .before .before .before .before .before .before .before .clean-numbers .ensures .count, c .before .before .before .before .before .before .before .before .before .before .before .before .loop .inv .2)
 
 loop-again : tie.Need-loop-again Inv-loop μ-loop
 loop-again c =
-    let k = c .before .before .before .before .before .before .before .before .loop in
+    let k = c .before .before .before .before .before .before .before .before .before .before .before .before .loop in
+    let clean = c .before .before .before .before .before .before .before .before .before .clean-numbers in
     let next = c .before .before .before .before .before .before .next-word .ensures in
     let word = next .some (c .before .before .before .before .before .if1 .left) in (
       next .high,
-      k .inv .1,
-      omega arith,
-      rw (c .first-slash .ensures) (tally-slash _ _ _ _ _ word (sym (c .before .before .before .kind-of .ensures) ∙ c .before .enum-told2 .given .1) ∙ k .inv .3),
+      clean .kept .1 .1 .1 .1 .0 ∙ k .inv .1,
+      omega (arith, c .before .before .before .before .before .if1 .left, next .low, clean .ensures .count, k .inv .2),
+      rw (c .first-slash .ensures) (tally-slash _ _ _ _ _ word (sym (c .before .before .before .kind-of .ensures) ∙ c .before .enum-told2 .given .1) ∙ clean .ensures .alike _ _ ∙ k .inv .3),
     )
 
 loop-less-2 : tie.Need-loop-less-2 Inv-loop μ-loop
-loop-less-2 c = omega arith
+loop-less-2 c = omega (arith, c .before .before .before .before .if1 .left, c .before .before .before .before .before .next-word .ensures .low, c .before .before .before .before .before .next-word .ensures .high, c .before .before .before .before .before .before .before .before .clean-numbers .ensures .low, c .before .before .before .before .before .before .before .before .clean-numbers .ensures .count, c .before .before .before .before .before .before .before .before .before .before .before .loop .inv .2)
 
 loop-again-2 : tie.Need-loop-again-2 Inv-loop μ-loop
 loop-again-2 c =
-    let k = c .before .before .before .before .before .before .before .loop in
+    let k = c .before .before .before .before .before .before .before .before .before .before .before .loop in
+    let clean = c .before .before .before .before .before .before .before .before .clean-numbers in
     let next = c .before .before .before .before .before .next-word .ensures in
     let word = next .some (c .before .before .before .before .if1 .left) in (
       next .high,
-      k .inv .1,
-      omega arith,
-      (tally-past _ _ _ _ _ word (sym (c .before .before .kind-of .ensures) ∙ c .enum-told3 .given .1) ∙ k .inv .3),
+      clean .kept .1 .1 .1 .1 .0 ∙ k .inv .1,
+      omega (arith, c .before .before .before .before .if1 .left, next .low, clean .ensures .count, k .inv .2),
+      (tally-past _ _ _ _ _ word (sym (c .before .before .kind-of .ensures) ∙ c .enum-told3 .given .1) ∙ clean .ensures .alike _ _ ∙ k .inv .3),
     )
 
 loop-less-3 : tie.Need-loop-less-3 Inv-loop μ-loop
-loop-less-3 c = omega arith
+loop-less-3 c = omega (arith, c .before .before .before .before .before .before .before .before .before .if1 .left, c .before .before .before .before .before .before .before .before .before .before .next-word .ensures .low, c .before .before .before .before .before .before .before .before .before .before .next-word .ensures .high, c .before .before .before .before .before .before .before .before .before .before .before .before .before .clean-numbers .ensures .low, c .before .before .before .before .before .before .before .before .before .before .before .before .before .clean-numbers .ensures .count, c .before .before .before .before .before .before .before .before .before .before .before .before .before .before .before .before .loop .inv .2)
 
 loop-again-3 : tie.Need-loop-again-3 Inv-loop μ-loop
 loop-again-3 c =
-    let k = c .before .before .before .before .before .before .before .before .before .before .before .before .loop in
+    let k = c .before .before .before .before .before .before .before .before .before .before .before .before .before .before .before .before .loop in
+    let clean = c .before .before .before .before .before .before .before .before .before .before .before .before .before .clean-numbers in
     let next = c .before .before .before .before .before .before .before .before .before .before .next-word .ensures in
     let word = next .some (c .before .before .before .before .before .before .before .before .before .if1 .left) in (
       next .high,
-      c .before .before .store .kept .0 ∙ k .inv .1,
-      omega arith,
-      rw (c .before .before .store .ensures) (tally-word _ _ _ _ _ word (sym (c .before .before .before .before .before .before .before .kind-of .ensures) ∙ c .before .before .before .before .before .v .given .1) ∙ k .inv .3),
+      c .before .before .store .kept .0 ∙ clean .kept .1 .1 .1 .1 .0 ∙ k .inv .1,
+      omega (arith, c .before .before .before .before .before .before .before .before .before .if1 .left, next .low, clean .ensures .count, k .inv .2),
+      rw (c .before .before .store .ensures) (tally-word _ _ _ _ _ word (sym (c .before .before .before .before .before .before .before .kind-of .ensures) ∙ c .before .before .before .before .before .v .given .1) ∙ clean .ensures .alike _ _ ∙ k .inv .3),
     )
 
 same-length-3 : tie.Need-same-length-3 Inv-loop μ-loop
@@ -138,6 +145,7 @@ tally-spec =
     Inv-loop
     μ-loop
     loop-holds
+    clean-numbers-requires
     next-word-requires
     same-length
     returns

@@ -14,6 +14,15 @@ Inv-loop n p₀ p = (p ≡ progress (p₀ .model) (p .done)) × (p .done ≤ n)
 abbrev μ-loop : tie.MeasureT-loop
 μ-loop n p₀ p = n - p .done
 
+quiet-for-requires : tie.Need-quiet-for-requires Inv-loop μ-loop
+quiet-for-requires c κs = search needs
+
+run-quietly-requires : tie.Need-run-quietly-requires Inv-loop μ-loop
+run-quietly-requires c κs = (rw (c .before .quiet-for .ensures) at (c .if1 .taken), c .before .before .pre)
+
+returns : tie.Need-returns Inv-loop μ-loop
+returns c = c .run-quietly .ensures
+
 begin-requires : tie.Need-begin-requires Inv-loop μ-loop
 begin-requires c κs = search needs
 
@@ -28,16 +37,16 @@ move-on-requires c κs = search needs
 
 loop-less : tie.Need-loop-less Inv-loop μ-loop
 loop-less c =
-    let k = loop-keeps _ _ _ _ (c .before .before .before .before .loop .inv .0) (c .before .before .if1 .taken) (c .move-on .ensures) in
+    let k = loop-keeps _ _ _ _ (c .before .before .before .before .loop .inv .0) (c .before .before .if2 .taken) (c .move-on .ensures) in
     omega (arith, k .farther, k .within)
 
 loop-again : tie.Need-loop-again Inv-loop μ-loop
 loop-again c =
-    let k = loop-keeps _ _ _ _ (c .before .before .before .before .loop .inv .0) (c .before .before .if1 .taken) (c .move-on .ensures) in
+    let k = loop-keeps _ _ _ _ (c .before .before .before .before .loop .inv .0) (c .before .before .if2 .taken) (c .move-on .ensures) in
     (k .progressed, k .within)
 
-returns : tie.Need-returns Inv-loop μ-loop
-returns c = loop-ends _ _ _ _ (c .before .before .before .begin .ensures) (c .before .before .loop .inv .0) (c .before .before .loop .inv .1) (c .if1 .left)
+returns-2 : tie.Need-returns-2 Inv-loop μ-loop
+returns-2 c = loop-ends _ _ _ _ (c .before .before .before .begin .ensures) (c .before .before .loop .inv .0) (c .before .before .loop .inv .1) (c .if2 .left)
 
 pub run-spec : {M : Type 1} → statement M
 run-spec =
@@ -45,10 +54,13 @@ run-spec =
     (tie.spec
     Inv-loop
     μ-loop
+    quiet-for-requires
+    run-quietly-requires
+    returns
     begin-requires
     loop-holds
     sub-move-on
     move-on-requires
     loop-less
     loop-again
-    returns)
+    returns-2)

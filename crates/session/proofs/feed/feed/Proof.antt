@@ -1,21 +1,17 @@
-use native.Mathlib.Omega.{arith}
+-- `session::feed::feed` is safe.
 use borrow.Author.Needs.{needs}
+use native.Mathlib.Omega.{arith}
 use Prim.Native.Nat.{_≤_, _-_}
 use lib.ListN.{length}
 use mathlib.Core.Path.{_≡_}
 use Rattle.session.proofs.feed.feed.Statement.{statement}
 use Rattle.session.proofs.feed.feed.Tie as tie
-use Rattle.session.proofs.feed.feed.Reads as reads
-use Rattle.session.proofs.feed.feed.Lts as lts
-use Rattle.session.proofs.feed.hold.Reads as hold-reads
-use Rattle.session.proofs.feed.line_end.Reads as line-end-reads
-use Rattle.session.proofs.feed.whole_line.Reads as whole-line-reads
 
 abbrev Inv-loop : tie.InvT-loop
-Inv-loop part held₀ answers₀ t₀ i₀ held answers t i = (i ≤ length part) × (length held ≡ length held₀) × (length answers ≡ length answers₀)
+Inv-loop part held₀ numbers₀ counts₀ answers₀ model₀ i₀ held numbers counts answers model i = (i ≤ length part) × (length held ≡ length held₀) × (length numbers ≡ length numbers₀) × (length answers ≡ length answers₀)
 
 abbrev μ-loop : tie.MeasureT-loop
-μ-loop part held₀ answers₀ t₀ i₀ held answers t i = length part - i
+μ-loop part held₀ numbers₀ counts₀ answers₀ model₀ i₀ held numbers counts answers model i = length part - i
 
 loop-holds : tie.Need-loop-holds Inv-loop μ-loop
 loop-holds c = search needs
@@ -36,7 +32,7 @@ whole-line-requires : tie.Need-whole-line-requires Inv-loop μ-loop
 whole-line-requires c κs = search needs
 
 add-i : tie.Need-add-i Inv-loop μ-loop
-add-i c = omega (arith, c .before .before .before .before .before .before .before .before .if1 .taken, c .before .before .before .before .before .before .before .before .before .before .before .before .before .before .before .good .1)
+add-i c = omega (arith, c .before .before .before .before .before .before .before .before .before .before .before .before .if1 .taken, c .before .before .before .before .before .before .before .before .before .before .before .before .before .before .before .before .before .before .before .before .good .1)
 
 loop-less : tie.Need-loop-less Inv-loop μ-loop
 loop-less c = search needs
@@ -62,14 +58,20 @@ same-length c = search needs
 same-length-2 : tie.Need-same-length-2 Inv-loop μ-loop
 same-length-2 c = search needs
 
-returns : tie.Need-returns Inv-loop μ-loop
-returns c = search needs
-
 same-length-3 : tie.Need-same-length-3 Inv-loop μ-loop
 same-length-3 c = search needs
 
+returns : tie.Need-returns Inv-loop μ-loop
+returns c = search needs
+
 same-length-4 : tie.Need-same-length-4 Inv-loop μ-loop
 same-length-4 c = search needs
+
+same-length-5 : tie.Need-same-length-5 Inv-loop μ-loop
+same-length-5 c = search needs
+
+same-length-6 : tie.Need-same-length-6 Inv-loop μ-loop
+same-length-6 c = search needs
 
 returns-2 : tie.Need-returns-2 Inv-loop μ-loop
 returns-2 c = search needs
@@ -95,7 +97,9 @@ feed-spec =
     hold-requires
     same-length
     same-length-2
-    returns
     same-length-3
+    returns
     same-length-4
+    same-length-5
+    same-length-6
     returns-2)

@@ -1,19 +1,20 @@
+-- `session::feed::hold` is safe.
 use borrow.Author.Needs.{needs}
+use native.Mathlib.Omega.{arith}
 use Prim.Native.Nat.{_≤_, _-_}
 use lib.ListN.{length}
 use mathlib.Core.Path.{_≡_}
 use Rattle.session.proofs.feed.hold.Statement.{statement}
 use Rattle.session.proofs.feed.hold.Tie as tie
-use Rattle.session.proofs.feed.hold.Reads as reads
-use Rattle.session.proofs.feed.hold.Lts as lts
-use Rattle.line.proofs.hold_byte.Reads as hold-byte-reads
-use Rattle.session.proofs.counts.with_held.Reads as with-held-reads
 
 abbrev Inv-loop : tie.InvT-loop
-Inv-loop s bytes held₀ n₀ i₀ held n i = (i ≤ length bytes) × (length held ≡ length held₀)
+Inv-loop bytes held₀ counts n₀ i₀ held n i = (i ≤ length bytes) × (length held ≡ length held₀)
 
 abbrev μ-loop : tie.MeasureT-loop
-μ-loop s bytes held₀ n₀ i₀ held n i = length bytes - i
+μ-loop bytes held₀ counts n₀ i₀ held n i = length bytes - i
+
+element-copy-out-n : tie.Need-element-copy-out-n Inv-loop μ-loop
+element-copy-out-n c = search needs
 
 loop-holds : tie.Need-loop-holds Inv-loop μ-loop
 loop-holds c = search needs
@@ -33,8 +34,8 @@ loop-less c = search needs
 loop-again : tie.Need-loop-again Inv-loop μ-loop
 loop-again c = search needs
 
-with-held-requires : tie.Need-with-held-requires Inv-loop μ-loop
-with-held-requires c κs = search needs
+element-write-counts : tie.Need-element-write-counts Inv-loop μ-loop
+element-write-counts c = search needs
 
 same-length : tie.Need-same-length Inv-loop μ-loop
 same-length c = search needs
@@ -48,12 +49,13 @@ hold-spec =
     (tie.spec
     Inv-loop
     μ-loop
+    element-copy-out-n
     loop-holds
     shared-slice-read-hold-byte
     hold-byte-requires
     add-i
     loop-less
     loop-again
-    with-held-requires
+    element-write-counts
     same-length
     returns)

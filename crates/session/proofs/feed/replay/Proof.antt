@@ -1,27 +1,26 @@
+-- `session::feed::replay` is safe.
 use borrow.Author.Needs.{needs}
+use native.Mathlib.Omega.{arith}
 use Prim.Native.Nat.{_≤_, _-_}
 use lib.ListN.{length}
 use mathlib.Core.Path.{_≡_}
 use Rattle.session.proofs.feed.replay.Statement.{statement}
 use Rattle.session.proofs.feed.replay.Tie as tie
-use Rattle.session.proofs.feed.replay.Reads as reads
-use Rattle.session.proofs.feed.replay.Lts as lts
-use Rattle.io.proofs.large_buffer.Reads as large-buffer-reads
-use Rattle.session.proofs.counts.fresh_session.Reads as fresh-session-reads
-use Rattle.session.proofs.feed.finish.Reads as finish-reads
-use Rattle.session.proofs.feed.read_some.Reads as read-some-reads
 
 abbrev Inv-loop : tie.InvT-loop
-Inv-loop fd held₀ answers₀ s₀ turns₀ held answers s turns = (length held ≡ 1002) × (length answers ≡ 65536)
+Inv-loop fd held₀ numbers₀ counts₀ answers₀ part₀ m₀ turns₀ state₀ held numbers counts answers part m turns state = (length held ≡ 1002) × (length numbers ≡ 200) × (length answers ≡ 65536) × (length part ≡ 65536)
 
 abbrev μ-loop : tie.MeasureT-loop
-μ-loop fd held₀ answers₀ s₀ turns₀ held answers s turns = turns
+μ-loop fd held₀ numbers₀ counts₀ answers₀ part₀ m₀ turns₀ state₀ held numbers counts answers part m turns state = turns
 
 large-buffer-requires : tie.Need-large-buffer-requires Inv-loop μ-loop
 large-buffer-requires c κs = search needs
 
-fresh-session-requires : tie.Need-fresh-session-requires Inv-loop μ-loop
-fresh-session-requires c κs = search needs
+large-buffer-requires-2 : tie.Need-large-buffer-requires-2 Inv-loop μ-loop
+large-buffer-requires-2 c κs = search needs
+
+fresh-requires : tie.Need-fresh-requires Inv-loop μ-loop
+fresh-requires c κs = search needs
 
 loop-holds : tie.Need-loop-holds Inv-loop μ-loop
 loop-holds c = search needs
@@ -29,20 +28,56 @@ loop-holds c = search needs
 sub-turns : tie.Need-sub-turns Inv-loop μ-loop
 sub-turns c = search needs
 
-slice-aggregate-read-some : tie.Need-slice-aggregate-read-some Inv-loop μ-loop
-slice-aggregate-read-some c = search needs
+slice-aggregate-read : tie.Need-slice-aggregate-read Inv-loop μ-loop
+slice-aggregate-read c = search needs
 
-slice-aggregate-read-some-2 : tie.Need-slice-aggregate-read-some-2 Inv-loop μ-loop
-slice-aggregate-read-some-2 c = search needs
+read-requires : tie.Need-read-requires Inv-loop μ-loop
+read-requires c κs = search needs
 
-read-some-requires : tie.Need-read-some-requires Inv-loop μ-loop
-read-some-requires c κs = search needs
+state-of-requires : tie.Need-state-of-requires Inv-loop μ-loop
+state-of-requires c κs = search needs
+
+slice-aggregate-count : tie.Need-slice-aggregate-count Inv-loop μ-loop
+slice-aggregate-count c = search needs
+
+count-requires : tie.Need-count-requires Inv-loop μ-loop
+count-requires c κs = search needs
+
+array-share-prefix-part : tie.Need-array-share-prefix-part Inv-loop μ-loop
+array-share-prefix-part c = search needs
+
+slice-aggregate-feed : tie.Need-slice-aggregate-feed Inv-loop μ-loop
+slice-aggregate-feed c = search needs
+
+slice-aggregate-feed-2 : tie.Need-slice-aggregate-feed-2 Inv-loop μ-loop
+slice-aggregate-feed-2 c = search needs
+
+slice-aggregate-feed-3 : tie.Need-slice-aggregate-feed-3 Inv-loop μ-loop
+slice-aggregate-feed-3 c = search needs
+
+slice-aggregate-feed-4 : tie.Need-slice-aggregate-feed-4 Inv-loop μ-loop
+slice-aggregate-feed-4 c = search needs
+
+feed-requires : tie.Need-feed-requires Inv-loop μ-loop
+feed-requires c κs = search needs
+
+slice-aggregate-written : tie.Need-slice-aggregate-written Inv-loop μ-loop
+slice-aggregate-written c = search needs
+
+written-requires : tie.Need-written-requires Inv-loop μ-loop
+written-requires c κs = search needs
 
 loop-less : tie.Need-loop-less Inv-loop μ-loop
-loop-less c = search needs
+loop-less c = omega (arith, c .before .before .before .before .before .before .before .before .before .before .before .before .before .before .before .before .before .before .before .before .loop-test .taken)
 
 loop-again : tie.Need-loop-again Inv-loop μ-loop
 loop-again c = search needs
+
+loop-less-2 : tie.Need-loop-less-2 Inv-loop μ-loop
+loop-less-2 c = search needs
+
+loop-again-2 : tie.Need-loop-again-2 Inv-loop μ-loop
+loop-again-2 c = search needs
 
 slice-aggregate-finish : tie.Need-slice-aggregate-finish Inv-loop μ-loop
 slice-aggregate-finish c = search needs
@@ -50,11 +85,17 @@ slice-aggregate-finish c = search needs
 slice-aggregate-finish-2 : tie.Need-slice-aggregate-finish-2 Inv-loop μ-loop
 slice-aggregate-finish-2 c = search needs
 
+slice-aggregate-finish-3 : tie.Need-slice-aggregate-finish-3 Inv-loop μ-loop
+slice-aggregate-finish-3 c = search needs
+
 finish-requires : tie.Need-finish-requires Inv-loop μ-loop
 finish-requires c κs = search needs
 
 returns : tie.Need-returns Inv-loop μ-loop
 returns c = search needs
+
+returns-2 : tie.Need-returns-2 Inv-loop μ-loop
+returns-2 c = search needs
 
 pub replay-spec : {M : Type 1} → statement M
 replay-spec =
@@ -63,15 +104,30 @@ replay-spec =
     Inv-loop
     μ-loop
     large-buffer-requires
-    fresh-session-requires
+    large-buffer-requires-2
+    fresh-requires
     loop-holds
     sub-turns
-    slice-aggregate-read-some
-    slice-aggregate-read-some-2
-    read-some-requires
+    slice-aggregate-read
+    read-requires
+    state-of-requires
+    slice-aggregate-count
+    count-requires
+    array-share-prefix-part
+    slice-aggregate-feed
+    slice-aggregate-feed-2
+    slice-aggregate-feed-3
+    slice-aggregate-feed-4
+    feed-requires
+    slice-aggregate-written
+    written-requires
     loop-less
     loop-again
+    loop-less-2
+    loop-again-2
     slice-aggregate-finish
     slice-aggregate-finish-2
+    slice-aggregate-finish-3
     finish-requires
-    returns)
+    returns
+    returns-2)

@@ -1,4 +1,6 @@
+-- `session::ticks::run` is safe.
 use borrow.Author.Needs.{needs}
+use native.Mathlib.Omega.{arith}
 use Prim.Native.Nat.{_≤_, _-_}
 use lib.ListN.{length}
 use mathlib.Core.Path.{_≡_}
@@ -6,10 +8,13 @@ use Rattle.session.proofs.ticks.run.Statement.{statement}
 use Rattle.session.proofs.ticks.run.Tie as tie
 
 abbrev Inv-loop : tie.InvT-loop
-Inv-loop s at n answers₀ model₀ used₀ done₀ t13 answers model used done = (done ≤ n) × (length answers ≡ length answers₀)
+Inv-loop n counts answers₀ model₀ used₀ done₀ t12 answers model used done = (done ≤ n) × (length answers ≡ length answers₀)
 
 abbrev μ-loop : tie.MeasureT-loop
-μ-loop s at n answers₀ model₀ used₀ done₀ t13 answers model used done = n - done
+μ-loop n counts answers₀ model₀ used₀ done₀ t12 answers model used done = n - done
+
+element-copy-out-used : tie.Need-element-copy-out-used Inv-loop μ-loop
+element-copy-out-used c = search needs
 
 loop-holds : tie.Need-loop-holds Inv-loop μ-loop
 loop-holds c = search needs
@@ -41,8 +46,8 @@ slice-aggregate-put-text c = search needs
 put-text-requires : tie.Need-put-text-requires Inv-loop μ-loop
 put-text-requires c κs = search needs
 
-after-call-requires : tie.Need-after-call-requires Inv-loop μ-loop
-after-call-requires c κs = search needs
+count-call-requires : tie.Need-count-call-requires Inv-loop μ-loop
+count-call-requires c κs = search needs
 
 same-length : tie.Need-same-length Inv-loop μ-loop
 same-length c = search needs
@@ -56,6 +61,7 @@ run-spec =
     (tie.spec
     Inv-loop
     μ-loop
+    element-copy-out-used
     loop-holds
     sub-span-of
     span-of-requires
@@ -66,6 +72,6 @@ run-spec =
     loop-again
     slice-aggregate-put-text
     put-text-requires
-    after-call-requires
+    count-call-requires
     same-length
     returns)

@@ -2,23 +2,63 @@
 
 pub const TICKS_PER_SECOND: i32 = 32_768;
 
+/// Bit 6 of 31h and 35h.
+const TWELVE_HOURS: u16 = 1 << 6;
+/// Bit 5 of a word in 12-hour form.
+const PM: u16 = 1 << 5;
+
+/// How a word of 31h or 35h gives its hours.
+#[derive(Clone, Copy, Debug, PartialEq, Eq)]
+enum HourForm {
+    TwentyFour,
+    Twelve,
+}
+
+impl HourForm {
+    fn of_word(word: u16) -> HourForm {
+        if word & TWELVE_HOURS == 0 {
+            HourForm::TwentyFour
+        } else {
+            HourForm::Twelve
+        }
+    }
+}
+
 #[derive(Clone, Copy, Debug, PartialEq, Eq)]
 pub struct TimeOfDay {
+    /// 0 to 23.
     pub hour: i32,
     pub minute: i32,
 }
 
 impl TimeOfDay {
-    /// Reads the layout of 31h and 35h; `None` where it is invalid or in 12-hour form.
+    /// Reads the layout of 31h and 35h, in either form; `None` where it is invalid.
     pub fn from_word(word: u16) -> Option<TimeOfDay> {
-        let minute = two_digits(word >> 12 & 7, word >> 8 & 15)?;
-        let hour = two_digits(word >> 4 & 3, word & 15)?;
-        let twelve_hour_form = word & 1 << 6 != 0;
-        (minute <= 59 && hour <= 23 && !twelve_hour_form).then_some(TimeOfDay { hour, minute })
+        let minute = two_digits(word >> 12 & 7, word >> 8 & 15).filter(|&minute| minute <= 59)?;
+        let hour = match HourForm::of_word(word) {
+            HourForm::TwentyFour => {
+                two_digits(word >> 4 & 3, word & 15).filter(|&hour| hour <= 23)?
+            }
+            HourForm::Twelve => match two_digits(word >> 4 & 1, word & 15)? {
+                12 if word & PM == 0 => 0,
+                12 => 12,
+                hour @ 1..=11 if word & PM == 0 => hour,
+                hour @ 1..=11 => hour + 12,
+                _ => return None,
+            },
+        };
+        Some(TimeOfDay { hour, minute })
     }
 
-    fn to_word(self) -> u16 {
-        bcd(self.minute) << 8 | bcd(self.hour)
+    fn to_word(self, form: HourForm) -> u16 {
+        let hours = match (form, self.hour) {
+            (HourForm::TwentyFour, hour) => bcd(hour),
+            (HourForm::Twelve, 0) => TWELVE_HOURS | bcd(12),
+            (HourForm::Twelve, hour @ 1..=11) => TWELVE_HOURS | bcd(hour),
+            (HourForm::Twelve, 12) => TWELVE_HOURS | PM | bcd(12),
+            (HourForm::Twelve, hour) => TWELVE_HOURS | PM | bcd(hour - 12),
+        };
+        bcd(self.minute) << 8 | hours
     }
 }
 
@@ -30,6 +70,8 @@ pub struct Clock {
     date: i32,
     weekday: i32,
     time: TimeOfDay,
+    /// The form that 31h was last written in.
+    form: HourForm,
     second: i32,
     /// Ticks of the running second.
     ticks: i32,
@@ -43,6 +85,7 @@ impl Clock {
             date: 1,
             weekday: 1,
             time: TimeOfDay { hour: 0, minute: 0 },
+            form: HourForm::TwentyFour,
             second: 0,
             ticks: 0,
         }
@@ -99,7 +142,7 @@ impl Clock {
     pub fn word(&self, index: usize) -> u16 {
         match index {
             0 => bcd(self.ticks * 100 / TICKS_PER_SECOND) << 8 | bcd(self.second),
-            1 => self.time.to_word(),
+            1 => self.time.to_word(self.form),
             2 => (self.weekday as u16) << 8 | bcd(self.date),
             _ => bcd(self.month) << 8 | bcd(self.year),
         }
@@ -111,7 +154,7 @@ impl Clock {
         for (index, &word) in (first..4).zip(words) {
             match index {
                 0 => self.set_seconds(word)?,
-                1 => self.time = TimeOfDay::from_word(word)?,
+                1 => self.set_time(word)?,
                 2 => self.set_day(word)?,
                 _ => self.set_month(word)?,
             }
@@ -126,6 +169,12 @@ impl Clock {
         let hundredths = two_digits(word >> 12, word >> 8 & 15)?;
         self.second = two_digits(word >> 4 & 7, word & 15).filter(|&second| second <= 59)?;
         self.ticks = (hundredths * TICKS_PER_SECOND + 99) / 100;
+        Some(())
+    }
+
+    fn set_time(&mut self, word: u16) -> Option<()> {
+        self.time = TimeOfDay::from_word(word)?;
+        self.form = HourForm::of_word(word);
         Some(())
     }
 
@@ -197,6 +246,42 @@ mod tests {
         assert!(clock.tick());
         assert_eq!(words(&clock), [0, 0, 0x0601, 0x0100]);
         assert_eq!(clock.ticks, 0);
+    }
+
+    /// 12:30 at night to 11:30 at night, as a person names the hours.
+    #[test]
+    fn twelve_hours_twice() {
+        let digits = [
+            0x12, 0x01, 0x02, 0x03, 0x04, 0x05, 0x06, 0x07, 0x08, 0x09, 0x10, 0x11,
+        ];
+        let words = [0x3040, 0x3060].map(|half| digits.map(|digit| half | digit));
+        for (hour, word) in (0..).zip(words.concat()) {
+            let time = TimeOfDay { hour, minute: 30 };
+            assert_eq!(TimeOfDay::from_word(word), Some(time));
+            assert_eq!(time.to_word(HourForm::Twelve), word);
+        }
+    }
+
+    #[test]
+    fn hours_that_a_form_has_not() {
+        let valid = |byte: &u16| TimeOfDay::from_word(*byte).is_some();
+        assert_eq!((0x00..0x40).filter(valid).count(), 24);
+        assert_eq!((0x40..0x80).filter(valid).count(), 24);
+        for byte in [0x24, 0x0A, 0x40, 0x53, 0x60, 0x73, 0x4A] {
+            assert!(!valid(&byte));
+        }
+    }
+
+    #[test]
+    fn the_form_stays_until_31h_is_written() {
+        let mut clock = clock([0x9959, 0x5971, 0x0715, 0x1126]).unwrap();
+        clock.ticks = TICKS_PER_SECOND - 1;
+        assert!(clock.tick());
+        assert_eq!(words(&clock), [0, 0x0052, 0x0116, 0x1126]);
+        let clock = clock.written(2, &[0x0228]).unwrap();
+        assert_eq!(clock.word(1), 0x0052);
+        assert_eq!(clock.written(1, &[0x0053]), None);
+        assert_eq!(clock.written(1, &[0x0012]).unwrap().word(1), 0x0012);
     }
 
     #[test]

@@ -58,14 +58,14 @@ valid c b =
     )
 
 -- A test's two outcomes, each with what it says of the numbers.
-by-leb : {G : Type 0} (a b : ℕ) → (a ≤ b → leb a b ≡ true → G) → (b < a → leb a b ≡ false → G) → G
+pub by-leb : {G : Type 0} (a b : ℕ) → (a ≤ b → leb a b ≡ true → G) → (b < a → leb a b ≡ false → G) → G
 by-leb {G} a b f g = go (leb a b) refl
   where
     go : (t : Bool) → leb a b ≡ t → G
     go true e = f (leb-true a b e) e
     go false e = g (leb-false a b e) e
 
-by-eqb : {G : Type 0} (a b : ℕ) → (a ≡ b → eqb a b ≡ true → G) → ((a ≡ b → ⊥) → eqb a b ≡ false → G) → G
+pub by-eqb : {G : Type 0} (a b : ℕ) → (a ≡ b → eqb a b ≡ true → G) → ((a ≡ b → ⊥) → eqb a b ≡ false → G) → G
 by-eqb {G} a b f g = go (eqb a b) refl
   where
     go : (t : Bool) → eqb a b ≡ t → G
@@ -157,6 +157,7 @@ record NextDay (c d : Clock) : Type 0 where
   day : dayOf d ≡ (dayOf c + 1) % 36525
   weekday : d .weekday ≡ nextWeekday (c .weekday)
   time : timeTicks d ≡ timeTicks c
+  form : d .twelve ≡ c .twelve
 
 -- The same within the century.
 later : (c d : Clock) →
@@ -164,8 +165,10 @@ later : (c d : Clock) →
     dayOf d ≡ dayOf c + 1 →
     d .weekday ≡ nextWeekday (c .weekday) →
     timeTicks d ≡ timeTicks c →
+    d .twelve ≡ c .twelve →
     NextDay c d
-later c d b e w t = record { bounds = b; day = omega (arith, day-below d b); weekday = w; time = t }
+later c d b e w t f =
+    record { bounds = b; day = omega (arith, day-below d b); weekday = w; time = t; form = f }
 
 next-day : (c : Clock) → Bounds c → NextDay c (nextDate c)
 unfolding nextDate nextMonth nextYear timeTicks
@@ -186,19 +189,21 @@ next-day c b =
       day = after-century (c .year) (dayOf c) (omega arith) y;
       weekday = refl;
       time = refl;
+      form = refl;
     }))
-    (λ h2 e2. rw e2 (later c _ (omega (arith, month-length (c .year + 1) 1)) y refl refl))))
+    (λ h2 e2. rw e2 (later c _ (omega (arith, month-length (c .year + 1) 1)) y refl refl refl))))
     (λ h1 e1.
     rw e1
     (later c _ (omega (arith, month-length (c .year) (c .month + 1)))
-    (after-month (c .year) (c .month) (c .date) (b .month-from) (b .date-from) (omega arith)) refl refl))))
-    (λ h e. rw e (later c _ (omega arith) (after-date (c .year) (c .month) (c .date) (b .date-from)) refl refl))
+    (after-month (c .year) (c .month) (c .date) (b .month-from) (b .date-from) (omega arith)) refl refl refl))))
+    (λ h e. rw e (later c _ (omega arith) (after-date (c .year) (c .month) (c .date) (b .date-from)) refl refl refl))
 
 -- What a tick does.
 record Ticked (c d : Clock) : Type 0 where
   bounds : Bounds d
   adds : moment d ≡ (moment c + 1) % century
   weekday : d .weekday ≡ pick (eqb ((moment c + 1) % dayTicks) 0) (nextWeekday (c .weekday)) (c .weekday)
+  form : d .twelve ≡ c .twelve
 
 -- Within a day.
 within : (c d : Clock) →
@@ -207,12 +212,18 @@ within : (c d : Clock) →
     dayOf d ≡ dayOf c →
     timeTicks d ≡ timeTicks c + 1 →
     d .weekday ≡ c .weekday →
+    d .twelve ≡ c .twelve →
     Ticked c d
 unfolding moment
-within c d b k e t w =
+within c d b k e t w f =
     let l = day-below c b in
     let h : timeTicks d < dayTicks = unfold timeTicks in omega arith in
-    record { bounds = k; adds = omega arith; weekday = rw (ne-eqb ((moment c + 1) % dayTicks) 0 (omega arith)) w }
+    record {
+      bounds = k;
+      adds = omega arith;
+      weekday = rw (ne-eqb ((moment c + 1) % dayTicks) 0 (omega arith)) w;
+      form = f;
+    }
 
 -- Over midnight; e is the clock before the date steps.
 over : (c d e : Clock) →
@@ -222,15 +233,17 @@ over : (c d e : Clock) →
     e .weekday ≡ c .weekday →
     timeTicks e ≡ 0 →
     timeTicks c + 1 ≡ dayTicks →
+    e .twelve ≡ c .twelve →
     Ticked c d
 unfolding moment
-over c d e b n p q t u =
+over c d e b n p q t u f =
     let l = day-below c b in
     let a : moment d ≡ (moment c + 1) % century = omega (arith, n .day, n .time) in
     record {
       bounds = n .bounds;
       adds = a;
       weekday = rw (eq-eqb ((moment c + 1) % dayTicks) 0 (omega arith)) (n .weekday ∙ ap nextWeekday q);
+      form = n .form ∙ f;
     }
 
 ticked : (c : Clock) → Bounds c → Ticked c (tickClock c)
@@ -246,11 +259,11 @@ ticked c b =
     (λ h2 e2.
     rw e2
     (by-leb 23 (c .hour)
-    (λ h3 e3. rw e3 (over c _ _ b (next-day _ (omega arith)) refl refl refl (omega arith)))
-    (λ h3 e3. rw e3 (within c _ b (omega arith) refl (omega arith) refl))))
-    (λ h2 e2. rw e2 (within c _ b (omega arith) refl (omega arith) refl))))
-    (λ h1 e1. rw e1 (within c _ b (omega arith) refl (omega arith) refl))))
-    (λ h e. rw e (within c _ b (omega arith) refl (omega arith) refl))
+    (λ h3 e3. rw e3 (over c _ _ b (next-day _ (omega arith)) refl refl refl (omega arith) refl))
+    (λ h3 e3. rw e3 (within c _ b (omega arith) refl (omega arith) refl refl))))
+    (λ h2 e2. rw e2 (within c _ b (omega arith) refl (omega arith) refl refl))))
+    (λ h1 e1. rw e1 (within c _ b (omega arith) refl (omega arith) refl refl))))
+    (λ h e. rw e (within c _ b (omega arith) refl (omega arith) refl refl))
 
 pub tick-valid : (c : Clock) → clockValid c ≡ true → clockValid (tickClock c) ≡ true
 tick-valid c v = valid (tickClock c) (ticked c (bounds c v) .bounds)
@@ -263,6 +276,10 @@ pub tick-weekday : (c : Clock) →
     clockValid c ≡ true →
     (tickClock c) .weekday ≡ pick (eqb ((moment c + 1) % dayTicks) 0) (nextWeekday (c .weekday)) (c .weekday)
 tick-weekday c v = ticked c (bounds c v) .weekday
+
+-- "A clock keeps the form it was last written in" (Note 2)
+pub tick-form : (c : Clock) → clockValid c ≡ true → (tickClock c) .twelve ≡ c .twelve
+tick-form c v = ticked c (bounds c v) .form
 
 pub moment-below : (c : Clock) → clockValid c ≡ true → moment c < century
 unfolding moment timeTicks
@@ -277,6 +294,11 @@ pub after-moment : (n : ℕ) (c : Clock) → clockValid c ≡ true → moment (a
 unfolding afterTicks
 after-moment zero c v = omega (arith, moment-below c v)
 after-moment (suc n) c v = omega (arith, tick-moment (afterTicks n c) (after-valid n c v), after-moment n c v)
+
+pub after-form : (n : ℕ) (c : Clock) → clockValid c ≡ true → (afterTicks n c) .twelve ≡ c .twelve
+unfolding afterTicks
+after-form zero c v = refl
+after-form (suc n) c v = tick-form (afterTicks n c) (after-valid n c v) ∙ after-form n c v
 
 -- The midnights passed after one more tick: one more if it reached midnight, else as many.
 one-more : (c : Clock) (n d : ℕ) →
@@ -337,15 +359,16 @@ same-day : (y m d e : ℕ) → 1 ≤ d → 1 ≤ e → dayNumber y m d ≡ dayNu
 unfolding dayNumber
 same-day y m d e a b q = omega arith
 
--- Two valid clocks of one moment and one weekday are one clock.
+-- Two valid clocks of one moment, one weekday and one form are one clock.
 pub moment-once : (c d : Clock) →
     clockValid c ≡ true →
     clockValid d ≡ true →
     moment c ≡ moment d →
     c .weekday ≡ d .weekday →
+    c .twelve ≡ d .twelve →
     c ≡ d
 unfolding moment timeTicks
-moment-once c d v u q w =
+moment-once c d v u q w f =
     let b = bounds c v in
     let k = bounds d u in
     let n : dayOf c ≡ dayOf d = omega arith in
@@ -373,4 +396,5 @@ moment-once c d v u q w =
       minute = t i;
       second = s i;
       ticks = record { 0 = r i };
+      twelve = f i;
     }

@@ -1,4 +1,5 @@
 -- Laws of the definitions, for this crate and those above it.
 pub mod Laws
+pub mod Hours
 pub mod RoundTrip
 pub mod Facts

@@ -1,14 +1,17 @@
--- A valid clock is read back from its own register words.
+-- A valid clock is read back from its own register words, in the form that it has, and a valid word of 31h from its clock.
 use Prim.Native.Nat.{ℕ, _+_, _*_, _/_, _%_, _≤_, _<_}
 use mathlib.Core.Bool.{true}
 use mathlib.Core.Path.{_≡_}
 use native.Mathlib.Omega.{arith}
-use borrow.Author.Tests.{le-ltb, ne-eqb}
+use lib.Dec.{ltb}
+use borrow.Author.Tests.{le-ltb, ltb-false}
+use Rattle.unit.specs.declared.Ticks.{Ticks}
 use Rattle.calendar.specs.declared.Clock.{Clock}
 use Rattle.calendar.specs.Calendar.{clockValid}
-use Rattle.calendar.specs.Words.{bcd, hundredthsOf, word30, word31, word32, word33, minuteIn, hourIn, clockFrom, timeDigits, digitsFit, wordsValid}
+use Rattle.calendar.specs.Words.{bcd, hundredthsOf, word30, word31, word32, word33, hourDigits, minuteIn, twelveIn, clockFrom, timeDigits, hourFits, digitsFit, wordsValid}
 use Rattle.calendar.specs.Moment.{Bounds}
-use Rattle.calendar.proofs.Laws.{bounds, month-length}
+use Rattle.calendar.proofs.Laws.{passed, held, bounds, month-length}
+use Rattle.calendar.proofs.Hours.{bcd-digits, bcd-byte, hour-byte, Hour, hour-read, hour-back}
 
 -- Two digits in a word's low byte, and in its high byte.
 record Low (w x : ℕ) : Type 0 where
@@ -18,10 +21,6 @@ record Low (w x : ℕ) : Type 0 where
 record High (w x : ℕ) : Type 0 where
   tens : w / 4096 % 16 ≡ x / 10
   ones : w / 256 % 16 ≡ x % 10
-
-bcd-digits : (x : ℕ) → x ≤ 99 → bcd x ≡ x / 10 * 16 + x % 10
-unfolding bcd
-bcd-digits x h = omega arith
 
 low : (a x : ℕ) → x ≤ 99 → Low (a * 256 + bcd x) x
 low a x h =
@@ -36,9 +35,8 @@ high x y h k =
     let f : ((x / 10 * 16 + x % 10) * 256 + y) / 4096 ≡ x / 10 = omega arith in
     record { tens = rw f (omega arith); ones = rw e (omega arith) })
 
-bcd-byte : (x : ℕ) → bcd x ≤ 255
-unfolding bcd
-bcd-byte x = omega arith
+byte : (x : ℕ) → bcd x ≤ 255
+byte x = omega (arith, bcd-byte x)
 
 above : (w y : ℕ) → w ≤ 7 → y ≤ 255 → (w % 8 * 256 + y) / 256 % 8 ≡ w
 above w y h k =
@@ -68,7 +66,7 @@ record Digits (c : Clock) : Type 0 where
   hundredths : High (word30 c) (hundredthsOf (c .ticks))
   second : Low (word30 c) (c .second)
   minute : High (word31 c) (c .minute)
-  hour : Low (word31 c) (c .hour)
+  hour : Hour (word31 c) (c .twelve) (c .hour)
   date : Low (word32 c) (c .date)
   month : High (word33 c) (c .month)
   year : Low (word33 c) (c .year)
@@ -78,19 +76,20 @@ unfolding word30 word31 word32 word33
 digits c b =
     let l = month-length (c .year) (c .month) in
     record {
-      hundredths = high (hundredthsOf (c .ticks)) (bcd (c .second)) (hundredths-below c b) (bcd-byte _);
+      hundredths = high (hundredthsOf (c .ticks)) (bcd (c .second)) (hundredths-below c b) (byte _);
       second = low _ (c .second) (omega arith);
-      minute = high (c .minute) (bcd (c .hour)) (omega arith) (bcd-byte _);
-      hour = low _ (c .hour) (omega arith);
+      minute =
+          high (c .minute) (hourDigits (c .twelve) (c .hour)) (omega arith) (hour-byte (c .twelve) (c .hour));
+      hour = hour-read _ (c .twelve) (c .hour) (b .hour);
       date = low _ (c .date) (omega arith);
-      month = high (c .month) (bcd (c .year)) (omega arith) (bcd-byte _);
+      month = high (c .month) (bcd (c .year)) (omega arith) (byte _);
       year = low _ (c .year) (omega arith);
     }
 
 pub round-trip : (c : Clock) →
     clockValid c ≡ true →
     clockFrom (word30 c) (word31 c) (word32 c) (word33 c) (c .ticks) ≡ c
-unfolding clockFrom minuteIn hourIn
+unfolding clockFrom minuteIn
 round-trip c v =
     let b = bounds c v in
     let l = month-length (c .year) (c .month) in
@@ -101,9 +100,7 @@ round-trip c v =
     let n : word32 c / 16 % 4 * 10 + word32 c % 16 ≡ c .date =
     omega (arith, d .date, bits (word32 c / 16) _ (d .date .tens) .two (omega arith)) in
     let w : word32 c / 256 % 8 ≡ c .weekday =
-    unfold word32 in above (c .weekday) (bcd (c .date)) (b .weekday) (bcd-byte _) in
-    let h : hourIn (word31 c) ≡ c .hour =
-    omega (arith, d .hour, bits (word31 c / 16) _ (d .hour .tens) .two (omega arith)) in
+    unfold word32 in above (c .weekday) (bcd (c .date)) (b .weekday) (byte _) in
     let u : minuteIn (word31 c) ≡ c .minute =
     omega (arith, d .minute, bits (word31 c / 4096) _ (d .minute .tens) .three (omega arith)) in
     let s : word30 c / 16 % 8 * 10 + word30 c % 16 ≡ c .second =
@@ -114,17 +111,15 @@ round-trip c v =
       month = m i;
       date = n i;
       weekday = w i;
-      hour = h i;
+      hour = d .hour .hour i;
       minute = u i;
       second = s i;
       ticks = c .ticks;
+      twelve = d .hour .form i;
     }
 
--- Bit 6 is a bit of the tens.
-bit-six : (w : ℕ) → w / 16 % 16 ≤ 3 → w / 64 % 2 ≡ 0
-bit-six w h =
-    let e : w / 64 ≡ w / 16 / 4 = omega arith in
-    rw e (omega arith)
+pub reads-form : (c : Clock) → clockValid c ≡ true → twelveIn (word31 c) ≡ c .twelve
+reads-form c v = digits c (bounds c v) .hour .form
 
 pub digits-fit : (c : Clock) →
     clockValid c ≡ true →
@@ -134,7 +129,6 @@ digits-fit c v =
     let b = bounds c v in
     let d = digits c b in
     let h = hundredths-below c b in
-    let s = bit-six (word31 c) (omega (arith, d .hour)) in
     simp (
       le-ltb 9 (word30 c / 4096 % 16) (omega (arith, d .hundredths)),
       le-ltb 9 (word30 c / 256 % 16) (omega (arith, d .hundredths)),
@@ -144,16 +138,51 @@ digits-fit c v =
       le-ltb 9 (word33 c / 16 % 16) (omega (arith, d .year)),
       le-ltb 9 (word33 c % 16) (omega (arith, d .year)),
       le-ltb 9 (word31 c / 256 % 16) (omega (arith, d .minute)),
-      le-ltb 9 (word31 c % 16) (omega (arith, d .hour)),
-      ne-eqb (word31 c / 64 % 2) 1 (omega arith),
+      le-ltb 9 (word31 c % 16) (d .hour .ones),
     )
 
 pub words-valid : (c : Clock) →
     clockValid c ≡ true →
     wordsValid (word30 c) (word31 c) (word32 c) (word33 c) (c .ticks) ≡ true
 unfolding wordsValid
-words-valid c v = rw (digits-fit c v, round-trip c v) v
+words-valid c v = rw (digits-fit c v, digits c (bounds c v) .hour .fits, round-trip c v) v
 
 pub words-below : (c : Clock) → (word30 c < 65536) × (word31 c < 65536) × (word32 c < 65536) × (word33 c < 65536)
 unfolding word30 word31 word32 word33 bcd
-words-below c = omega arith
+words-below c = omega (arith, hour-byte (c .twelve) (c .hour))
+
+-- The digits of a valid word of 31h are those that its clock has, with bits 15 and 7 read as 0.
+minute-back : (w : ℕ) → w / 256 % 16 ≤ 9 → bcd (minuteIn w) ≡ w / 256 % 128
+unfolding minuteIn
+minute-back w h =
+    let q : w / 4096 ≡ w / 256 / 16 = omega arith in
+    let b : w / 256 % 128 ≡ w / 256 / 16 % 8 * 16 + w / 256 % 16 = omega arith in
+    rw (q, b, bcd-digits (w / 256 / 16 % 8 * 10 + w / 256 % 16) (omega arith)) (omega arith)
+
+time-ones : (w : ℕ) → timeDigits w ≡ true → (w / 256 % 16 ≤ 9) × (w % 16 ≤ 9)
+unfolding timeDigits
+time-ones w e =
+    let (m, r) = passed (ltb 9 (w / 256 % 16)) e in
+    let (h, _) = passed (ltb 9 (w % 16)) r in
+    omega (arith, ltb-false)
+
+time-digits : (w30 w31 w32 w33 : ℕ) → digitsFit w30 w31 w32 w33 ≡ true → timeDigits w31 ≡ true
+unfolding digitsFit
+time-digits w30 w31 w32 w33 e =
+    let e1 = passed (ltb 9 (w30 / 4096 % 16)) e .1 in
+    let e2 = passed (ltb 9 (w30 / 256 % 16)) e1 .1 in
+    let e3 = passed (ltb 9 (w30 % 16)) e2 .1 in
+    let e4 = passed (ltb 9 (w32 % 16)) e3 .1 in
+    let e5 = passed (ltb 9 (w33 / 256 % 16)) e4 .1 in
+    let e6 = passed (ltb 9 (w33 / 16 % 16)) e5 .1 in
+    passed (ltb 9 (w33 % 16)) e6 .1
+
+pub time-back : (w30 w31 w32 w33 : ℕ) (t : Ticks) →
+    wordsValid w30 w31 w32 w33 t ≡ true →
+    word31 (clockFrom w30 w31 w32 w33 t) ≡ w31 / 256 % 128 * 256 + w31 % 128
+unfolding wordsValid word31 clockFrom
+time-back w30 w31 w32 w33 t e =
+    let (d, r) = held (digitsFit w30 w31 w32 w33) e in
+    let (f, _) = held (hourFits w31) r in
+    let (m, o) = time-ones w31 (time-digits w30 w31 w32 w33 d) in
+    rw (minute-back w31 m, hour-back w31 f o)

@@ -11,7 +11,8 @@ unfoldable pub reaches : ℕ → ℕ → ℕ → Bool
 reaches before after target = pick (eqb before after) false (pick (eqb after target) true false)
 
 -- "AM (3:2 of 43h): 01b sets AF in a tick where minutes change to the alarm's; 10b where hours change to the alarm's;
--- 11b where minutes change and both match"
+-- 11b where minutes change and both match". Clock and alarm have hours 0 to 23 here, whatever their forms: "An alarm matches
+-- by the time of day meant" (Note 2)
 unfoldable pub alarmRings : Clock → Clock → ℕ → ℕ → Bool
 alarmRings before after w mode =
     pick (eqb mode 1) (reaches (before .minute) (after .minute) (minuteIn w))

@@ -39,12 +39,22 @@ timeFits c =
 unfoldable pub clockValid : Clock → Bool
 clockValid c = pick (dateFits c) (timeFits c) false
 
--- "clock 2000-01-01 00:00:00.00, weekday 1"
+-- "clock 2000-01-01 00:00:00.00, weekday 1"; not yet written, it has 24-hour form: 000's Table 5 gives 31h as 0000h
 unfoldable pub start : Clock
 start =
-    record { year = 0; month = 1; date = 1; weekday = 1; hour = 0; minute = 0; second = 0; ticks = record { 0 = 0 } }
+    record {
+      year = 0;
+      month = 1;
+      date = 1;
+      weekday = 1;
+      hour = 0;
+      minute = 0;
+      second = 0;
+      ticks = record { 0 = 0 };
+      twelve = false;
+    }
 
--- Setters: the clock with some fields anew.
+-- Setters: the clock with some fields anew. "A clock keeps the form it was last written in." (Note 2)
 abbrev pub withDate : Clock → ℕ → ℕ → ℕ → ℕ → Clock
 withDate c y m d w =
     record {
@@ -56,6 +66,7 @@ withDate c y m d w =
       minute = c .minute;
       second = c .second;
       ticks = c .ticks;
+      twelve = c .twelve;
     }
 
 abbrev pub withTime : Clock → ℕ → ℕ → ℕ → ℕ → Clock
@@ -69,6 +80,7 @@ withTime c h m s t =
       minute = m;
       second = s;
       ticks = record { 0 = t };
+      twelve = c .twelve;
     }
 
 -- "Years are 2000 to 2099, then 2000 again"

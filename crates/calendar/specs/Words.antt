@@ -1,7 +1,7 @@
 -- The words of registers 30h to 33h, and of the alarm 35h, which has 31h's layout.
 use Prim.Native.Nat.{ℕ, _+_, _*_, _/_, _%_}
 use mathlib.Core.Bool.{Bool, true, false}
-use lib.Dec.{ltb, eqb}
+use lib.Dec.{ltb, leb, eqb}
 use Rattle.unit.specs.Choice.{pick}
 use Rattle.unit.specs.declared.Ticks.{Ticks}
 use Rattle.calendar.specs.declared.Clock.{Clock}
@@ -19,9 +19,19 @@ hundredthsOf t = t .0 * 100 / 32768
 unfoldable pub word30 : Clock → ℕ
 word30 c = bcd (hundredthsOf (c .ticks)) * 256 + bcd (c .second)
 
--- "31h ten minutes 14:12, minutes 11:8, ten hours 5:4, hours 3:0"
+-- "hours 1 to 12" (Note 2): midnight and noon are 12
+unfoldable pub twelveHour : ℕ → ℕ
+twelveHour hour = pick (eqb (hour % 12) 0) 12 (hour % 12)
+
+-- 24-hour form: "ten hours 5:4, hours 3:0". 12-hour form: "Bit 6 .. may now be 1: bit 5 is then PM, bit 4 ten hours" (Note
+-- 2); from noon on it is PM
+unfoldable pub hourDigits : Bool → ℕ → ℕ
+hourDigits twelve hour =
+    pick twelve (pick (leb 12 hour) (0x60 + bcd (twelveHour hour)) (0x40 + bcd (twelveHour hour))) (bcd hour)
+
+-- "31h ten minutes 14:12, minutes 11:8", and the hours in the clock's form
 unfoldable pub word31 : Clock → ℕ
-word31 c = bcd (c .minute) * 256 + bcd (c .hour)
+word31 c = bcd (c .minute) * 256 + hourDigits (c .twelve) (c .hour)
 
 -- "32h weekday 10:8 (1 to 7), ten dates 5:4, dates 3:0"
 unfoldable pub word32 : Clock → ℕ
@@ -35,8 +45,18 @@ word33 c = bcd (c .month) * 256 + bcd (c .year)
 unfoldable pub minuteIn : ℕ → ℕ
 minuteIn w = w / 4096 % 8 * 10 + w / 256 % 16
 
+-- "Bit 6 of 31h and of 35h" (Note 2): whether the word has 12-hour form
+unfoldable pub twelveIn : ℕ → Bool
+twelveIn w = eqb (w / 64 % 2) 1
+
+-- the hour that the digits name: in 12-hour form "bit 4 ten hours" (Note 2), else "ten hours 5:4"
+unfoldable pub hourNamed : ℕ → ℕ
+hourNamed w = pick (twelveIn w) (w / 16 % 2 * 10 + w % 16) (w / 16 % 4 * 10 + w % 16)
+
+-- the hour meant, 0 to 23: "bit 5 is then PM"; "12 AM equals 00" (Note 2)
 unfoldable pub hourIn : ℕ → ℕ
-hourIn w = w / 16 % 4 * 10 + w % 16
+hourIn w =
+    pick (twelveIn w) (pick (eqb (w / 32 % 2) 1) (hourNamed w % 12 + 12) (hourNamed w % 12)) (hourNamed w)
 
 -- "A write that covers 30h sets s to c × 32,768 ÷ 100 rounded up, c being 10 × its tenths + its hundredths"
 unfoldable pub ticksIn : ℕ → Ticks
@@ -53,12 +73,19 @@ clockFrom w30 w31 w32 w33 t =
       minute = minuteIn w31;
       second = w30 / 16 % 8 * 10 + w30 % 16;
       ticks = t;
+      twelve = twelveIn w31;
     }
 
--- "Bit 6 of 31h or 35h set (12-hour form) is number 7"; "every digit 0 to 9" of minutes and hours
+-- "every digit 0 to 9" of minutes and hours
 unfoldable pub timeDigits : ℕ → Bool
-timeDigits w =
-    pick (eqb (w / 64 % 2) 1) false (pick (ltb 9 (w / 256 % 16)) false (pick (ltb 9 (w % 16)) false true))
+timeDigits w = pick (ltb 9 (w / 256 % 16)) false (pick (ltb 9 (w % 16)) false true)
+
+-- "Number 7 is no longer given for the bit itself, but for an hour invalid in its form" (Note 2): 12-hour form has "hours 1
+-- to 12", 24-hour form "hours to 23"
+unfoldable pub hourFits : ℕ → Bool
+hourFits w =
+    pick (twelveIn w) (pick (ltb (hourNamed w) 1) false (pick (ltb 12 (hourNamed w)) false true))
+    (pick (ltb 23 (hourNamed w)) false true)
 
 -- "every digit 0 to 9"; a digit of three bits or fewer always is
 unfoldable pub digitsFit : ℕ → ℕ → ℕ → ℕ → Bool
@@ -71,12 +98,12 @@ digitsFit w30 w31 w32 w33 =
     (pick (ltb 9 (w33 / 16 % 16)) false
     (pick (ltb 9 (w33 % 16)) false (timeDigits w31)))))))
 
--- "Valid means every digit 0 to 9, seconds and minutes to 59, ..": the digits, and the clock that they give
+-- "Valid means every digit 0 to 9, seconds and minutes to 59, ..": the digits, the hour in its form, and the clock that they
+-- give
 unfoldable pub wordsValid : ℕ → ℕ → ℕ → ℕ → Ticks → Bool
 wordsValid w30 w31 w32 w33 t =
-    pick (digitsFit w30 w31 w32 w33) (clockValid (clockFrom w30 w31 w32 w33 t)) false
+    pick (digitsFit w30 w31 w32 w33) (pick (hourFits w31) (clockValid (clockFrom w30 w31 w32 w33 t)) false) false
 
 -- "Alarm 35h has 31h's layout"
 unfoldable pub alarmValid : ℕ → Bool
-alarmValid w =
-    pick (timeDigits w) (pick (ltb 59 (minuteIn w)) false (pick (ltb 23 (hourIn w)) false true)) false
+alarmValid w = pick (timeDigits w) (pick (ltb 59 (minuteIn w)) false (hourFits w)) false

@@ -100,5 +100,6 @@ pub fn first() -> Clock
         minute: 0,
         second: 0,
         ticks: Ticks(0),
+        twelve: false,
     }
 }

@@ -1,7 +1,8 @@
 // The calendar clock: its fields, its step by one tick, its register words, and the alarm.
 use unit::Ticks;
 
-// Years count from 2000. The second holds `ticks` of the 32,768 Hz clock.
+// Years count from 2000, hours go from 0 to 23. The second holds `ticks` of the 32,768 Hz clock. `twelve` is the form in
+// which 31h reads the hours, 12-hour or 24-hour; nothing else depends on it.
 pub struct Clock {
     pub year: u32,
     pub month: u32,
@@ -11,6 +12,7 @@ pub struct Clock {
     pub minute: u32,
     pub second: u32,
     pub ticks: Ticks,
+    pub twelve: bool,
 }
 
 pub mod alarm;

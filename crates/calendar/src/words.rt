@@ -1,6 +1,8 @@
 // The calendar's registers 30h to 33h: their words from the clock, and the clock from their words.
 ghost use mathlib.Core.Path.{_≡_};
-ghost use Rattle.calendar.specs.Words.{bcd, hundredthsOf, word30, word31, word32, word33, minuteIn, hourIn, ticksIn, clockFrom, timeDigits, digitsFit, wordsValid, alarmValid};
+ghost use Prim.Native.Nat.{_<_};
+ghost use Rattle.calendar.specs.Words.{bcd, hundredthsOf, word30, word31, word32, word33, minuteIn, ticksIn, clockFrom, timeDigits, digitsFit, wordsValid, alarmValid};
+ghost use Rattle.calendar.specs.Words.{twelveHour, hourDigits, twelveIn, hourNamed, hourIn, hourFits};
 use crate::Clock;
 use crate::date::valid;
 use unit::Ticks;
@@ -26,10 +28,31 @@ pub fn seconds_word(c: Clock) -> u32
     (two_digits(parts) as u32) * 256 + (two_digits(c.second) as u32)
 }
 
+// The hour that a clock of twelve hours shows.
+fn twelve_hour(hour: u32) -> u32
+    ensures { λ r. ⌜ r ≡ twelveHour hour ⌝ }
+{
+    if hour % 12 == 0 { 12 } else { hour % 12 }
+}
+
+// The low byte of 31h.
+fn hour_digits(twelve: bool, hour: u32) -> u32
+    ensures { λ r. ⌜ (r ≡ hourDigits twelve hour) × (r < 512) ⌝ }
+{
+    if twelve {
+        let digits = two_digits(twelve_hour(hour)) as u32;
+        if 12 <= hour {
+            return 0x60 + digits;
+        }
+        return 0x40 + digits;
+    }
+    two_digits(hour) as u32
+}
+
 pub fn time_word(c: Clock) -> u32
     ensures { λ r. ⌜ r ≡ word31 c ⌝ }
 {
-    (two_digits(c.minute) as u32) * 256 + (two_digits(c.hour) as u32)
+    (two_digits(c.minute) as u32) * 256 + hour_digits(c.twelve, c.hour)
 }
 
 pub fn date_word(c: Clock) -> u32
@@ -50,10 +73,35 @@ pub fn minute_in(w: u32) -> u32
     w / 4096 % 8 * 10 + w / 256 % 16
 }
 
+// Whether the word has the 12-hour form.
+pub fn twelve_in(w: u32) -> bool
+    ensures { λ r. ⌜ r ≡ twelveIn w ⌝ }
+{
+    if w / 64 % 2 == 1 { true } else { false }
+}
+
+// The hour that the digits name.
+fn hour_named(w: u32) -> u32
+    ensures { λ r. ⌜ r ≡ hourNamed w ⌝ }
+{
+    if twelve_in(w) {
+        return w / 16 % 2 * 10 + w % 16;
+    }
+    w / 16 % 4 * 10 + w % 16
+}
+
+// The hour meant.
 pub fn hour_in(w: u32) -> u32
     ensures { λ r. ⌜ r ≡ hourIn w ⌝ }
 {
-    w / 16 % 4 * 10 + w % 16
+    let named = hour_named(w);
+    if twelve_in(w) {
+        if w / 32 % 2 == 1 {
+            return named % 12 + 12;
+        }
+        return named % 12;
+    }
+    named
 }
 
 // The ticks at which a second first reads the hundredths of a word of 30h.
@@ -69,6 +117,7 @@ pub fn clock_from(w30: u32, w31: u32, w32: u32, w33: u32, ticks: Ticks) -> Clock
 {
     let minute = minute_in(w31);
     let hour = hour_in(w31);
+    let twelve = twelve_in(w31);
     Clock {
         year: w33 / 16 % 16 * 10 + w33 % 16,
         month: w33 / 4096 % 2 * 10 + w33 / 256 % 16,
@@ -78,20 +127,38 @@ pub fn clock_from(w30: u32, w31: u32, w32: u32, w33: u32, ticks: Ticks) -> Clock
         minute,
         second: w30 / 16 % 8 * 10 + w30 % 16,
         ticks,
+        twelve,
     }
 }
 
-// The 24-hour form, and decimal digits of minutes and hours.
-pub fn time_digits(w: u32) -> bool
+// Decimal digits of minutes and hours.
+fn time_digits(w: u32) -> bool
     ensures { λ r. ⌜ r ≡ timeDigits w ⌝ }
 {
-    if w / 64 % 2 == 1 {
-        return false;
-    }
     if 9 < w / 256 % 16 {
         return false;
     }
     if 9 < w % 16 {
+        return false;
+    }
+    true
+}
+
+// Whether the hour is one of the word's form.
+fn hour_fits(w: u32) -> bool
+    ensures { λ r. ⌜ r ≡ hourFits w ⌝ }
+{
+    let named = hour_named(w);
+    if twelve_in(w) {
+        if named < 1 {
+            return false;
+        }
+        if 12 < named {
+            return false;
+        }
+        return true;
+    }
+    if 23 < named {
         return false;
     }
     true
@@ -129,10 +196,12 @@ pub fn words_valid(w30: u32, w31: u32, w32: u32, w33: u32, ticks: Ticks) -> bool
     ensures { λ r. ⌜ r ≡ wordsValid w30 w31 w32 w33 ticks ⌝ }
 {
     if digits_fit(w30, w31, w32, w33) {
-        valid(clock_from(w30, w31, w32, w33, ticks))
-    } else {
-        false
+        if hour_fits(w31) {
+            return valid(clock_from(w30, w31, w32, w33, ticks));
+        }
+        return false;
     }
+    false
 }
 
 pub fn alarm_valid(w: u32) -> bool
@@ -142,10 +211,7 @@ pub fn alarm_valid(w: u32) -> bool
         if 59 < minute_in(w) {
             return false;
         }
-        if 23 < hour_in(w) {
-            return false;
-        }
-        return true;
+        return hour_fits(w);
     }
     false
 }

@@ -18,3 +18,4 @@ pub mod StretchMeaning
 pub mod Calls
 pub mod Held
 pub mod Third
+pub mod Form

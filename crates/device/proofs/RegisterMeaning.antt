@@ -10,7 +10,7 @@ use lib.Seq.{getD-set-same, getD-set-other}
 use borrow.Author.Tests.{lt-ltb, le-ltb, ne-eqb}
 use Rattle.unit.specs.Cases.{by-ltb, by-eqb, holds, fails}
 use Rattle.calendar.specs.Calendar.{start}
-use Rattle.calendar.specs.Words.{bcd, hundredthsOf, word30, word31, word32, word33}
+use Rattle.calendar.specs.Words.{bcd, hourDigits, hundredthsOf, word30, word31, word32, word33}
 use Rattle.register.specs.Setup.{factory, wordOf}
 use Rattle.frame.specs.Frame.{wordAt}
 use Rattle.measurement.specs.Difference.{differenceMean, portMean}
@@ -42,7 +42,7 @@ pub fresh-reads :
     (reads freshModel 0xD0 ≡ zeros) ×
     (reads freshModel 0xE0 ≡ zeros) ×
     (reads freshModel 0xF0 ≡ 0 ∷ 0 ∷ 0 ∷ 0 ∷ 0 ∷ 0 ∷ 0 ∷ 0 ∷ 0 ∷ 0 ∷ 0 ∷ 0 ∷ 0 ∷ 0 ∷ 0x0004 ∷ 0 ∷ [])
-unfolding freshModel freshWith noFlight noTemperature noSchedule porBit start factory registerWord calendarWord flightWord temperatureWord half statusWord word30 word31 word32 word33 bcd hundredthsOf differenceMean portMean
+unfolding freshModel freshWith noFlight noTemperature noSchedule porBit start factory registerWord calendarWord flightWord temperatureWord half statusWord word30 word31 hourDigits word32 word33 bcd hundredthsOf differenceMean portMean
 fresh-reads = (refl, refl, refl, refl, refl)
 
 -- "04h Reset gives the same with status 0000h."
@@ -53,7 +53,7 @@ pub reset-reads :
     (reads resetModel 0xD0 ≡ zeros) ×
     (reads resetModel 0xE0 ≡ zeros) ×
     (reads resetModel 0xF0 ≡ zeros)
-unfolding resetModel freshWith noFlight noTemperature noSchedule noBits start factory registerWord calendarWord flightWord temperatureWord half statusWord word30 word31 word32 word33 bcd hundredthsOf differenceMean portMean
+unfolding resetModel freshWith noFlight noTemperature noSchedule noBits start factory registerWord calendarWord flightWord temperatureWord half statusWord word30 word31 hourDigits word32 word33 bcd hundredthsOf differenceMean portMean
 reset-reads = (refl, refl, refl, refl, refl)
 
 -- "not initialised"

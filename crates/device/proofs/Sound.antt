@@ -11,7 +11,7 @@ use Rattle.unit.specs.Choice.{pick, either, both, negate}
 use Rattle.unit.specs.Cases.{by-test, by-ltb}
 use Rattle.unit.specs.declared.Ticks.{Ticks}
 use Rattle.calendar.specs.Calendar.{clockValid}
-use Rattle.calendar.specs.Words.{clockFrom, digitsFit, wordsValid}
+use Rattle.calendar.specs.Words.{clockFrom, hourFits, digitsFit, wordsValid}
 use Rattle.calendar.proofs.Laws.{passed, held, tick-valid}
 use Rattle.calendar.proofs.Facts.{start-valid}
 use Rattle.register.specs.Setup.{hitCount, timeout, portCycle, clockStands, differencePeriod, differenceCount, temperaturePeriod, temperatureCount}
@@ -288,7 +288,7 @@ words-clock : (w30 w31 w32 w33 : ℕ) (t : Ticks) →
     wordsValid w30 w31 w32 w33 t ≡ true →
     clockValid (clockFrom w30 w31 w32 w33 t) ≡ true
 unfolding wordsValid
-words-clock w30 w31 w32 w33 t e = held (digitsFit w30 w31 w32 w33) e .1
+words-clock w30 w31 w32 w33 t e = held (hourFits w31) (held (digitsFit w30 w31 w32 w33) e .1) .1
 
 write-bounds :
     (bytes : List ℕ) (op n : ℕ) (m : Model) →
@@ -458,7 +458,7 @@ transaction-bounds m f o e b =
     (λ w. rw (c, w) (write-bounds (drop 1 f) (opcode f) (words f) m (rw (c, w) at e) b))
     (λ w. rw (c, w) (read-bounds m (opcode f) (words f) b)))
 
-ticked-bounds : (n : ℕ) (m : Model) → Bounds m → Bounds (ticked n m)
+pub ticked-bounds : (n : ℕ) (m : Model) → Bounds m → Bounds (ticked n m)
 unfolding ticked
 ticked-bounds zero m b = b
 ticked-bounds (suc n) m b = tick-model-bounds (ticked n m) (ticked-bounds n m b)

@@ -13,7 +13,9 @@ use Rattle.unit.specs.Cases.{by-test, by-eqb}
 use Rattle.calendar.specs.declared.Clock.{Clock}
 use Rattle.calendar.specs.Calendar.{tickClock}
 use Rattle.calendar.specs.Moment.{moment, afterTicks}
-use Rattle.calendar.proofs.Laws.{passed, after-moment, after-weekday}
+use Rattle.calendar.specs.Words.{clockFrom}
+use Rattle.calendar.proofs.Laws.{passed, after-moment, after-weekday, after-form}
+use Rattle.calendar.proofs.RoundTrip.{round-trip}
 use Rattle.register.specs.Setup.{wordOf, clockStands, eventUnset, differencePeriod, differenceCount, temperaturePeriod, temperatureCount}
 use Rattle.register.proofs.Laws.{difference-period-bounds, difference-count-bounds, temperature-period-bounds, temperature-count-bounds}
 use Rattle.frame.specs.Frame.{isCommand}
@@ -22,6 +24,7 @@ use Rattle.device.specs.declared.Model.{Model}
 use Rattle.device.specs.declared.Reply.{Reply}
 use Rattle.device.specs.declared.StretchReport.{StretchReport}
 use Rattle.device.specs.Model.{sound, freshModel}
+use Rattle.device.specs.Registers.{calendarWord, registerWord}
 use Rattle.device.specs.Bus.{startsFlight, startsTemperature, isEvent, eventSideUnset, commandUnset, flightEvent, temperatureEvent, eventFlight, eventTemperature, startedEvent, runModel}
 use Rattle.device.specs.Call.{Call, transaction, tick, flight, temperature, stretch, badSetup, accepted, verdict, acceptedAnswer, acceptedModel, accept, replyBy, reply}
 use Rattle.device.specs.Claim.{Kind, differences, temperatures, Entry, History, note, noteTick, noteGood, noteFailed, history, after, log, onlyReads, isTick, isDelivery, isGood, isFailed}
@@ -204,6 +207,15 @@ event-codes : (op : ℕ) → 0x07 ≤ op → op ≤ 0x09 → isEvent op ≡ true
 unfolding isEvent
 event-codes op a b = rw (le-ltb op 7 a, le-ltb 9 op b)
 
+-- what B0h to B3h read of a sound model is its clock
+reads-clock :
+    (m : Model) →
+    sound m ≡ true →
+    clockFrom (registerWord m 0xB0) (registerWord m 0xB1) (registerWord m 0xB2) (registerWord m 0xB3) (m .clock .ticks)
+    ≡ m .clock
+unfolding registerWord calendarWord
+reads-clock m s = round-trip (m .clock) (bounds-of m s .clock)
+
 pub third-demand : ThirdDemand
 unfolding startedEvent beginning
 third-demand before op o later from to v p =
@@ -231,5 +243,7 @@ third-demand before op o later from to v p =
             valid = bounds-of (after n later) (sound-after later n k) .clock;
             shown = ap moment c ∙ after-moment (t) (m .clock) (bounds-of m s .clock);
             weekday = ap (λ (c : Clock). c .weekday) c ∙ after-weekday (t) (m .clock) (bounds-of m s .clock);
+            form = ap (λ (c : Clock). c .twelve) c ∙ after-form (t) (m .clock) (bounds-of m s .clock);
+            read = reads-clock (after n later) (sound-after later n k);
           };
     }

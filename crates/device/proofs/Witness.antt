@@ -6,8 +6,8 @@ use mathlib.Core.List.{List, [], _∷_, map}
 use mathlib.Core.Path.{_≡_, refl}
 use Rattle.calendar.specs.Calendar.{leap, monthLength, dateFits, timeFits, clockValid, start}
 use Rattle.calendar.specs.Calendar.{tickClock}
-use Rattle.calendar.specs.Words.{bcd, hundredthsOf, word30, word31, word32, word33, minuteIn, hourIn, ticksIn, clockFrom}
-use Rattle.calendar.specs.Words.{timeDigits, digitsFit, wordsValid, alarmValid}
+use Rattle.calendar.specs.Words.{bcd, hundredthsOf, word30, word31, hourDigits, word32, word33, minuteIn, twelveIn, hourNamed, hourIn, ticksIn, clockFrom}
+use Rattle.calendar.specs.Words.{timeDigits, hourFits, digitsFit, wordsValid, alarmValid}
 use Rattle.register.specs.Setup.{factory, alarmWord, flightUnset, temperatureUnset, clockStands, eventUnset}
 use Rattle.register.specs.Setup.{differenceCount, temperatureCount}
 use Rattle.frame.specs.Frame.{isCommand, isWrite, isRead, notWhole, pastEnd, wordAt}
@@ -42,7 +42,7 @@ later = tick ∷ stretch 2 ∷ transaction (0xFE ∷ 0 ∷ 0 ∷ []) (0 ∷ 0 �
 pub events-accepted :
     map (λ (op : ℕ). verdict (after freshModel before) (command op [])) (7 ∷ 8 ∷ 9 ∷ [])
     ≡ accepted ∷ accepted ∷ accepted ∷ []
-unfolding after reply replyBy verdict firstOf table noFrame notCarried wrongLength pastRegisters shortOutput whileBusy badCalendar notInitialised badSetup notAwaited miscounted tooLong acceptedModel freshModel freshWith porBit noFlight noTemperature noSchedule start factory sound sumFits flightSound temperatureSound scheduleSound clockValid dateFits timeFits leap monthLength kindBusy busy awaits inEvent isCommand isWrite isRead notWhole pastEnd wordAt calendarWord word30 word31 word32 word33 bcd hundredthsOf minuteIn hourIn ticksIn clockFrom timeDigits digitsFit wordsValid alarmValid alarmWord covers written withWord setupAfter ticksAfter clockAfter writeInvalid writeModel mustBeIdle startsFlight startsTemperature isEvent commandBusy notReady flightSideUnset temperatureSideUnset eventSideUnset commandUnset flightUnset temperatureUnset eventUnset clockStands runModel initialised joined
+unfolding after reply replyBy verdict firstOf table noFrame notCarried wrongLength pastRegisters shortOutput whileBusy badCalendar notInitialised badSetup notAwaited miscounted tooLong acceptedModel freshModel freshWith porBit noFlight noTemperature noSchedule start factory sound sumFits flightSound temperatureSound scheduleSound clockValid dateFits timeFits leap monthLength kindBusy busy awaits inEvent isCommand isWrite isRead notWhole pastEnd wordAt calendarWord word30 word31 hourDigits word32 word33 bcd hundredthsOf minuteIn twelveIn hourNamed hourIn ticksIn clockFrom timeDigits hourFits digitsFit wordsValid alarmValid alarmWord covers written withWord setupAfter ticksAfter clockAfter writeInvalid writeModel mustBeIdle startsFlight startsTemperature isEvent commandBusy notReady flightSideUnset temperatureSideUnset eventSideUnset commandUnset flightUnset temperatureUnset eventUnset clockStands runModel initialised joined
 events-accepted = refl
 
 -- such a list, and none of its calls is refused
@@ -51,5 +51,5 @@ pub later-read :
     ≡ true ∷ true ∷ true ∷ []) ×
     (map (λ (e : Entry). isRefusal (e .answer)) (log (reply (after freshModel before) (command 7 []) .model) later)
     ≡ false ∷ false ∷ false ∷ [])
-unfolding ticked begins leftAfter waitAfter startedAfter log onlyReads isRefusal isReading acceptedAnswer startedEvent eventFlight flightEvent eventStart differenceCount eventTemperature temperatureEvent temperatureCount tickModel clockTicked tickClock flightAfter fails tickSchedule settledAfter temperatureAfter after reply replyBy verdict firstOf table noFrame notCarried wrongLength pastRegisters shortOutput whileBusy badCalendar notInitialised badSetup notAwaited miscounted tooLong acceptedModel freshModel freshWith porBit noFlight noTemperature noSchedule start factory sound sumFits flightSound temperatureSound scheduleSound clockValid dateFits timeFits leap monthLength kindBusy busy awaits inEvent isCommand isWrite isRead notWhole pastEnd wordAt calendarWord word30 word31 word32 word33 bcd hundredthsOf minuteIn hourIn ticksIn clockFrom timeDigits digitsFit wordsValid alarmValid alarmWord covers written withWord setupAfter ticksAfter clockAfter writeInvalid writeModel mustBeIdle startsFlight startsTemperature isEvent commandBusy notReady flightSideUnset temperatureSideUnset eventSideUnset commandUnset flightUnset temperatureUnset eventUnset clockStands runModel initialised joined
+unfolding ticked begins leftAfter waitAfter startedAfter log onlyReads isRefusal isReading acceptedAnswer startedEvent eventFlight flightEvent eventStart differenceCount eventTemperature temperatureEvent temperatureCount tickModel clockTicked tickClock flightAfter fails tickSchedule settledAfter temperatureAfter after reply replyBy verdict firstOf table noFrame notCarried wrongLength pastRegisters shortOutput whileBusy badCalendar notInitialised badSetup notAwaited miscounted tooLong acceptedModel freshModel freshWith porBit noFlight noTemperature noSchedule start factory sound sumFits flightSound temperatureSound scheduleSound clockValid dateFits timeFits leap monthLength kindBusy busy awaits inEvent isCommand isWrite isRead notWhole pastEnd wordAt calendarWord word30 word31 hourDigits word32 word33 bcd hundredthsOf minuteIn twelveIn hourNamed hourIn ticksIn clockFrom timeDigits hourFits digitsFit wordsValid alarmValid alarmWord covers written withWord setupAfter ticksAfter clockAfter writeInvalid writeModel mustBeIdle startsFlight startsTemperature isEvent commandBusy notReady flightSideUnset temperatureSideUnset eventSideUnset commandUnset flightUnset temperatureUnset eventUnset clockStands runModel initialised joined
 later-read = (refl, refl)

@@ -1,6 +1,6 @@
 -- The bench table: the eleven marked examples, each with what the definitions give and what the paper says.
 use Prim.Native.Nat.{ℕ, zero, suc, _+_, _*_}
-use mathlib.Core.Bool.{Bool}
+use mathlib.Core.Bool.{Bool, false}
 use mathlib.Core.List.{List, [], _∷_, _++_}
 use lib.ListN.{set}
 use Rattle.unit.specs.Choice.{pick}
@@ -131,6 +131,7 @@ bench =
             minute = 59;
             second = 59;
             ticks = ticks 32767;
+            twelve = false;
           }));
       wanted = 0 ∷ 1 ∷ 1 ∷ 0 ∷ 0 ∷ 0 ∷ 0 ∷ [];
     } ∷

@@ -9,6 +9,7 @@ use lib.Dec.{leb, eqb}
 use Rattle.unit.specs.Choice.{pick, both, either, negate}
 use Rattle.calendar.specs.Calendar.{clockValid}
 use Rattle.calendar.specs.Moment.{moment, century, midnights}
+use Rattle.calendar.specs.Words.{clockFrom}
 use Rattle.register.specs.Setup.{hitCount, timeout, portCycle, differencePeriod, differenceCount, temperaturePeriod, temperatureCount}
 use Rattle.frame.specs.Frame.{isRead}
 use Rattle.measurement.specs.Limit.{lateFrom, openFrom, anyFrom}
@@ -325,7 +326,8 @@ pub record KindClaim (k : Kind) (s : List ℕ) (h : History) (m : Model) : Type 
   pub averages : AveragesHeld k s (h .good) m
 
 -- "And the clock shows the moment that lies as many ticks after acceptance as the list holds, 2000 following 2099." "Its
--- weekday has stepped once for each midnight passed."
+-- weekday has stepped once for each midnight passed." "The clock claim is about the moment, in either form." (Note 2): the
+-- form stays, and what B0h to B3h read in it is this clock.
 unfoldable pub ticksIn : Entry → ℕ
 ticksIn e = pick (isTick (e .call)) 1 (stretchIn e)
 
@@ -337,6 +339,11 @@ pub record ClockClaim (m : Model) (n : ℕ) (end : Model) : Type 0 where
   pub shown : moment (end .clock) ≡ (moment (m .clock) + n) % century
   pub valid : clockValid (end .clock) ≡ true
   pub weekday : end .clock .weekday ≡ 1 + (m .clock .weekday - 1 + midnights (m .clock) n) % 7
+  pub form : end .clock .twelve ≡ m .clock .twelve
+  pub read :
+      clockFrom (registerWord end 0xB0) (registerWord end 0xB1) (registerWord end 0xB2) (registerWord end 0xB3)
+      (end .clock .ticks)
+      ≡ end .clock
 
 -- The whole claim: `m` accepted event command `op` (with output buffer `o`), and then the calls `later` were made.
 abbrev pub command : ℕ → List ℕ → Call

@@ -9,4 +9,5 @@ pub mod Delivery
 pub mod Bus
 pub mod Call
 pub mod Claim
+pub mod Form
 pub mod Bench

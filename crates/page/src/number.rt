@@ -22,8 +22,17 @@ pub fn clock_byte(m: Model, x: u8) -> u32 {
     match x {
         b'S' | b'H' | b'Y' => w / 256,
         b'A' => w / 256 % 128,
-        b'a' => w % 64,
+        b'a' | b'h' => hour_digits(w),
         _ => w,
+    }
+}
+
+// The digits of the hours: bit 5 is one of them in the 24-hour form alone.
+fn hour_digits(w: u32) -> u32 {
+    if calendar::words::twelve_in(w) {
+        w % 32
+    } else {
+        w % 64
     }
 }
 
@@ -49,7 +58,24 @@ pub fn number(m: Model, w: u32, x: u8) -> u32 {
     if x < b'e' {
         return alarm(word(m, 0xc3) / 4 % 4, x);
     }
-    field(w, x)
+    match x {
+        b'i' | b'j' => half_day(word(m, 0xb1), x),
+        b'y' | b'z' => half_day(w, x),
+        _ => field(w, x),
+    }
+}
+
+// Whether hours of the 12-hour form are AM (bits 6:5 are 2) or PM (3): i and j of the clock, y and z of
+// the row's word.
+fn half_day(w: u32, x: u8) -> u32 {
+    match x {
+        b'i' | b'y' => same(w / 32 % 4, 2),
+        _ => same(w / 32 % 4, 3),
+    }
+}
+
+fn same(a: u32, b: u32) -> u32 {
+    if a == b { 1 } else { 0 }
 }
 
 // The bit whose number is the hexadecimal digit x.

@@ -8,15 +8,15 @@
 //
 // x is a letter, which the file `number` explains, or the number of a bit, 0 to F, of the row's
 // word. That is the word of the last #.
-pub const PAGE: [u8; 2945] = *b"\
+pub const PAGE: [u8; 2981] = *b"\
 RTC AND WATCHDOG REGISTERS
 B0     Seconds                  #       $s.$S s
-B1     Mins_Hrs                 #       $h:$H
+B1     Mins_Hrs                 #       $h:$H[i AM][j PM]
 B2     Day_Date                 #       weekday %k, date $d
 B3     Month_Year               #       month $Y, year 20$y
-       Clock                               20$y-$Y-$d $h:$H:$s.$S
+       Clock                               20$y-$Y-$d $h:$H:$s.$S[i AM][j PM]
 B4     Watchdog Alarm Counter   #       stored only
-B5     Alarm                    #       $a:$A, [a|no alarm][bhours][c and ][dminutes][a match]
+B5     Alarm                    #       $a:$A[y AM][z PM], [a|no alarm][bhours][c and ][dminutes][a match]
 CONFIGURATION REGISTERS
 B6     Reserved                 #       stored only
 B7     Reserved                 #       stored only

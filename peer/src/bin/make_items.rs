@@ -399,8 +399,9 @@ impl Maker {
 
     /// Seconds and minutes with hours, mostly just before a roll.
     fn time(&mut self) -> [u16; 2] {
-        let hour = match self.random.below(2) {
-            0 => 23,
+        let hour = match self.random.below(6) {
+            0 | 1 => 23,
+            2 => 11,
             _ => self.random.below(24),
         };
         let minute = match self.random.below(4) {
@@ -417,8 +418,17 @@ impl Maker {
         };
         [
             bcd(hundredth) << 8 | bcd(second),
-            bcd(minute) << 8 | bcd(hour),
+            bcd(minute) << 8 | self.hours(hour),
         ]
+    }
+
+    /// The low byte of 31h or 35h for this hour, in either form.
+    fn hours(&mut self, hour: u64) -> u16 {
+        if self.random.percent(50) {
+            return bcd(hour);
+        }
+        let half = if hour < 12 { 0x40 } else { 0x60 };
+        half | bcd((hour + 11) % 12 + 1)
     }
 
     fn damage(&mut self, words: &mut [u16]) {
@@ -433,10 +443,10 @@ impl Maker {
 
     /// An alarm, mostly at the minute that follows the time of `minutes`.
     fn alarm(&mut self, minutes: u16) {
-        let next = decimal(minutes & 0xFF) * 60 + decimal(minutes >> 8) + 1;
+        let next = hour_in(minutes) * 60 + decimal(minutes >> 8) + 1;
         let hour = self.random.one_of(&[next / 60 % 24, next / 60 % 24, 0, 23]);
         let minute = self.random.one_of(&[next % 60, next % 60, 0, 59]);
-        let mut words = [bcd(minute) << 8 | bcd(hour)];
+        let mut words = [bcd(minute) << 8 | self.hours(hour)];
         match self.random.below(10) {
             0 => self.damage(&mut words),
             1 | 2 => words[0] |= 0x8080,
@@ -451,7 +461,8 @@ impl Maker {
         let [seconds, minutes] = self.time();
         let [day, month] = self.date();
         let random = self.random.word();
-        let alarm = bcd(self.random.below(60)) << 8 | bcd(self.random.below(24));
+        let alarm_hour = self.random.below(24);
+        let alarm = bcd(self.random.below(60)) << 8 | self.hours(alarm_hour);
         let mut words = vec![seconds, minutes, day, month, random, alarm, random];
         if self.random.percent(25) {
             self.damage(&mut words);
@@ -825,6 +836,15 @@ impl Maker {
 
 fn bcd(value: u64) -> u16 {
     (value / 10 * 16 + value % 10) as u16
+}
+
+/// The hour of a word of 31h, in either form.
+fn hour_in(word: u16) -> u64 {
+    match word >> 5 & 3 {
+        2 => decimal(word & 0x1F) % 12,
+        3 => decimal(word & 0x1F) % 12 + 12,
+        _ => decimal(word & 0x3F),
+    }
 }
 
 fn decimal(bcd: u16) -> u64 {

@@ -1,7 +1,7 @@
 -- `calendar::words::alarm_valid` meets its contract.
+use borrow.Author.Needs.{needs}
 use Rattle.unit.specs.Tests.{tests}
 use Rattle.calendar.specs.Words.{alarmValid}
-use borrow.Author.Needs.{needs}
 use Rattle.calendar.proofs.words.alarm_valid.Statement.{statement}
 use Rattle.calendar.proofs.words.alarm_valid.Tie as tie
 
@@ -15,20 +15,16 @@ returns : tie.Need-returns
 unfolding alarmValid
 returns c = search (needs, tests, c .if2 .taken, ← c .before .minute-in .ensures, c .before .before .if1 .taken, ← c .before .before .before .time-digits .ensures)
 
-hour-in-requires : tie.Need-hour-in-requires
-hour-in-requires c κs = search needs
+hour-fits-requires : tie.Need-hour-fits-requires
+hour-fits-requires c κs = search needs
 
 returns-2 : tie.Need-returns-2
 unfolding alarmValid
-returns-2 c = search (needs, tests, c .if3 .taken, ← c .before .hour-in .ensures, c .before .before .if2 .left, ← c .before .before .before .minute-in .ensures, c .before .before .before .before .if1 .taken, ← c .before .before .before .before .before .time-digits .ensures)
+returns-2 c = search (needs, tests, ← c .hour-fits .ensures, c .before .if2 .left, ← c .before .before .minute-in .ensures, c .before .before .before .if1 .taken, ← c .before .before .before .before .time-digits .ensures)
 
 returns-3 : tie.Need-returns-3
 unfolding alarmValid
-returns-3 c = search (needs, tests, c .if3 .left, ← c .before .hour-in .ensures, c .before .before .if2 .left, ← c .before .before .before .minute-in .ensures, c .before .before .before .before .if1 .taken, ← c .before .before .before .before .before .time-digits .ensures)
-
-returns-4 : tie.Need-returns-4
-unfolding alarmValid
-returns-4 c = search (needs, tests, c .if1 .left, ← c .before .time-digits .ensures)
+returns-3 c = search (needs, tests, c .if1 .left, ← c .before .time-digits .ensures)
 
 pub alarm-valid-spec : {M : Type 1} → statement M
 alarm-valid-spec =
@@ -37,7 +33,6 @@ alarm-valid-spec =
     time-digits-requires
     minute-in-requires
     returns
-    hour-in-requires
+    hour-fits-requires
     returns-2
-    returns-3
-    returns-4)
+    returns-3)

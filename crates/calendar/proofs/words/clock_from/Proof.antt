@@ -1,7 +1,7 @@
 -- `calendar::words::clock_from` meets its contract.
+use borrow.Author.Needs.{needs}
 use Rattle.unit.specs.Tests.{tests}
 use Rattle.calendar.specs.Words.{clockFrom}
-use borrow.Author.Needs.{needs}
 use Rattle.calendar.proofs.words.clock_from.Statement.{statement}
 use Rattle.calendar.proofs.words.clock_from.Tie as tie
 
@@ -11,33 +11,36 @@ minute-in-requires c κs = search needs
 hour-in-requires : tie.Need-hour-in-requires
 hour-in-requires c κs = search needs
 
-mul-t10 : tie.Need-mul-t10
-mul-t10 c = search needs
+twelve-in-requires : tie.Need-twelve-in-requires
+twelve-in-requires c κs = search needs
 
-add-t12 : tie.Need-add-t12
-add-t12 c = search needs
+mul-t11 : tie.Need-mul-t11
+mul-t11 c = search needs
 
-mul-t15 : tie.Need-mul-t15
-mul-t15 c = search needs
+add-t13 : tie.Need-add-t13
+add-t13 c = search needs
 
-add-t18 : tie.Need-add-t18
-add-t18 c = search needs
+mul-t16 : tie.Need-mul-t16
+mul-t16 c = search needs
 
-mul-t21 : tie.Need-mul-t21
-mul-t21 c = search needs
+add-t19 : tie.Need-add-t19
+add-t19 c = search needs
 
-add-t23 : tie.Need-add-t23
-add-t23 c = search needs
+mul-t22 : tie.Need-mul-t22
+mul-t22 c = search needs
 
-mul-t28 : tie.Need-mul-t28
-mul-t28 c = search needs
+add-t24 : tie.Need-add-t24
+add-t24 c = search needs
 
-add-t30 : tie.Need-add-t30
-add-t30 c = search needs
+mul-t29 : tie.Need-mul-t29
+mul-t29 c = search needs
+
+add-t31 : tie.Need-add-t31
+add-t31 c = search needs
 
 returns : tie.Need-returns
 unfolding clockFrom
-returns c = search (needs, tests, ← c .hour-in .ensures, ← c .before .minute-in .ensures)
+returns c = search (needs, tests, ← c .twelve-in .ensures, ← c .before .hour-in .ensures, ← c .before .before .minute-in .ensures)
 
 pub clock-from-spec : {M : Type 1} → statement M
 clock-from-spec =
@@ -45,12 +48,13 @@ clock-from-spec =
     (tie.spec
     minute-in-requires
     hour-in-requires
-    mul-t10
-    add-t12
-    mul-t15
-    add-t18
-    mul-t21
-    add-t23
-    mul-t28
-    add-t30
+    twelve-in-requires
+    mul-t11
+    add-t13
+    mul-t16
+    add-t19
+    mul-t22
+    add-t24
+    mul-t29
+    add-t31
     returns)

@@ -17,9 +17,5 @@ returns-3 : tie.Need-returns-3
 unfolding timeDigits
 returns-3 c = search (needs, tests)
 
-returns-4 : tie.Need-returns-4
-unfolding timeDigits
-returns-4 c = search (needs, tests)
-
 pub time-digits-spec : {M : Type 1} → statement M
-time-digits-spec = tie.close (tie.spec returns returns-2 returns-3 returns-4)
+time-digits-spec = tie.close (tie.spec returns returns-2 returns-3)

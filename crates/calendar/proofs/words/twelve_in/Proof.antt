@@ -1,0 +1,17 @@
+-- `calendar::words::twelve_in` meets its contract.
+use borrow.Author.Needs.{needs}
+use Rattle.unit.specs.Tests.{tests}
+use Rattle.calendar.specs.Words.{twelveIn}
+use Rattle.calendar.proofs.words.twelve_in.Statement.{statement}
+use Rattle.calendar.proofs.words.twelve_in.Tie as tie
+
+returns : tie.Need-returns
+unfolding twelveIn
+returns c = search (needs, tests)
+
+returns-2 : tie.Need-returns-2
+unfolding twelveIn
+returns-2 c = search (needs, tests)
+
+pub twelve-in-spec : {M : Type 1} → statement M
+twelve-in-spec = tie.close (tie.spec returns returns-2)

@@ -1,0 +1,104 @@
+-- The clock has the form in which it was last written.
+use Prim.Native.Nat.{ℕ, zero, suc, _+_, _-_}
+use mathlib.Core.Bool.{Bool, true, false}
+use mathlib.Core.List.{List, [], _∷_}
+use mathlib.Core.Path.{_≡_, refl, ap, _∙_}
+use lib.ListN.{drop}
+use lib.Dec.{ltb, leb, eqb}
+use Rattle.unit.specs.Choice.{pick}
+use Rattle.unit.specs.Cases.{by-test}
+use Rattle.calendar.specs.Calendar.{start}
+use Rattle.calendar.specs.Words.{twelveIn, clockFrom}
+use Rattle.calendar.proofs.Laws.{tick-form}
+use Rattle.calendar.proofs.RoundTrip.{reads-form}
+use Rattle.register.specs.Setup.{clockStands}
+use Rattle.frame.specs.Frame.{isCommand, isWrite, wordAt}
+use Rattle.device.specs.declared.Model.{Model}
+use Rattle.device.specs.Model.{sound, freshModel, freshWith, resetModel}
+use Rattle.device.specs.Registers.{calendarWord}
+use Rattle.device.specs.Write.{covers, written, clockAfter, writeModel}
+use Rattle.device.specs.Tick.{clockTicked, tickModel}
+use Rattle.device.specs.Stretch.{ticked}
+use Rattle.device.specs.Delivery.{flightGood, flightFailed, temperatureGood, temperatureFailed}
+use Rattle.device.specs.Bus.{isEvent, startedEvent, initialised, haltedModel, singleStarted, runModel, readModel}
+use Rattle.device.specs.Call.{Call, transaction, tick, flight, temperature, stretch, opcode, words}
+use Rattle.device.specs.Call.{Verdict, accepted, refused, verdict, anyLate, anyOpen, acceptedAnswer, acceptedModel, replyBy, reply}
+use Rattle.device.specs.Claim.{isRefusal, after, log}
+use Rattle.device.specs.Form.{formGiven, lastForm, FormClaim}
+use Rattle.device.proofs.Sound.{Bounds, bounds-of, fresh-sound, keeps-sound, ticked-bounds}
+
+abbrev formOf : Model → Bool
+formOf m = m .clock .twelve
+
+run-form : (m : Model) (op : ℕ) → formOf (runModel m op) ≡ pick (eqb op 4) false (formOf m)
+unfolding runModel resetModel freshWith start initialised haltedModel startedEvent singleStarted
+run-form m op =
+    by-test (eqb op 4) (λ e. rw e)
+    (λ e. rw e
+    (by-test (eqb op 5) (λ f. rw f)
+    (λ f. rw f
+    (by-test (eqb op 10) (λ g. rw g)
+    (λ g. rw g
+    (by-test (isEvent op) (λ h. rw h) (λ h. rw h (by-test (eqb op 3) (λ i. rw i) (λ i. rw i)))))))))
+
+write-form : (m : Model) (bytes : List ℕ) (op n : ℕ) →
+    sound m ≡ true →
+    formOf (writeModel bytes op n m) ≡ pick (covers op n 0x31) (twelveIn (wordAt bytes (0x31 - op))) (formOf m)
+unfolding writeModel clockAfter clockFrom written calendarWord
+write-form m bytes op n s =
+    by-test (covers op n 0x31) (λ e. rw e) (λ e. rw e (reads-form (m .clock) (bounds-of m s .clock)))
+
+read-form : (m : Model) (a n : ℕ) → formOf (readModel m a n) ≡ formOf m
+unfolding readModel
+read-form m a n = by-test (ltb 0xFE a) (λ e. rw e) (λ e. rw e (by-test (leb (a + n) 0xFE) (λ f. rw f) (λ f. rw f)))
+
+tick-model-form : (m : Model) → Bounds m → formOf (tickModel m) ≡ formOf m
+unfolding tickModel clockTicked
+tick-model-form m b =
+    by-test (clockStands (m .setup)) (λ e. rw e) (λ e. rw e (tick-form (m .clock) (b .clock)))
+
+ticked-form : (n : ℕ) (m : Model) → Bounds m → formOf (ticked n m) ≡ formOf m
+unfolding ticked
+ticked-form zero m b = refl
+ticked-form (suc n) m b = tick-model-form (ticked n m) (ticked-bounds n m b) ∙ ticked-form n m b
+
+-- What one accepted call does to the form, and that its answer is no refusal.
+abbrev Given : Model → Call → Type 0
+Given m c =
+    (formOf (acceptedModel m c) ≡ formGiven c (formOf m)) × (isRefusal (acceptedAnswer m c) ≡ false)
+
+given : (m : Model) (c : Call) → sound m ≡ true → Given m c
+unfolding acceptedModel acceptedAnswer formGiven isRefusal flightFailed flightGood temperatureFailed temperatureGood
+given m (transaction f o) s =
+    by-test (isCommand (opcode f)) (λ c. rw c (run-form m (opcode f), refl))
+    (λ c. by-test (isWrite (opcode f))
+    (λ w. rw (c, w) (write-form m (drop 1 f) (opcode f) (words f) s, refl))
+    (λ w. rw (c, w) (read-form m (opcode f) (words f), refl)))
+given m tick s = (tick-model-form m (bounds-of m s), refl)
+given m (flight u d) s = by-test (anyLate m u d) (λ e. rw e (refl, refl)) (λ e. rw e (refl, refl))
+given m (temperature w) s = by-test (anyOpen m w) (λ e. rw e (refl, refl)) (λ e. rw e (refl, refl))
+given m (stretch n) s = (ticked-form n m (bounds-of m s), refl)
+
+-- One call, accepted or refused.
+step-form : (m : Model) (c : Call) →
+    sound m ≡ true →
+    formOf (reply m c .model) ≡ pick (isRefusal (reply m c .answer)) (formOf m) (formGiven c (formOf m))
+unfolding reply replyBy isRefusal
+step-form m c s = go (verdict m c)
+  where
+    go : (v : Verdict) →
+        formOf (replyBy v m c .model) ≡ pick (isRefusal (replyBy v m c .answer)) (formOf m) (formGiven c (formOf m))
+    go accepted = rw (given m c s .1) (given m c s .0)
+    go (refused n) = refl
+
+pub all-forms : (cs : List Call) (m : Model) → sound m ≡ true → formOf (after m cs) ≡ lastForm (log m cs) (formOf m)
+unfolding after log lastForm
+all-forms [] m s = refl
+all-forms (c ∷ cs) m s =
+    all-forms cs (reply m c .model) (keeps-sound m c s) ∙ ap (lastForm (log (reply m c .model) cs)) (step-form m c s)
+
+pub form-kept : FormClaim
+form-kept cs = all-forms cs freshModel fresh-sound ∙ ap (lastForm (log freshModel cs)) fresh-form
+  where
+    fresh-form : formOf freshModel ≡ false
+    fresh-form = unfold freshModel freshWith start in refl

@@ -1,0 +1,5 @@
+pub mod Tests
+pub mod Rise
+pub mod Pt1000
+pub mod Meaning
+pub mod Refusal

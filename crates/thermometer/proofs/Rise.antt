@@ -1,0 +1,58 @@
+-- Tables whose entries rise: the test of neighbours, and the order of any two.
+use Prim.Native.Nat.{ℕ, zero, suc, _≤_, _<_}
+use native.Mathlib.Nat.{le-refl, le-trans, le-of-lt, lt-of-lt-of-le}
+use native.Mathlib.Omega.{arith}
+use mathlib.Core.Path.{_≡_, refl}
+use mathlib.Core.Bool.{true, false}
+use mathlib.Core.List.{List, [], _∷_}
+use lib.ListN.{length, getD}
+use lib.Dec.{ltb}
+use borrow.Author.Tests.{ltb-true, lt-ltb}
+use Rattle.unit.specs.Cases.{by-test, fails}
+use Rattle.thermometer.specs.Table.{rising}
+
+-- the first two entries, and the rest
+pub rising-cons : (e f : ℕ) (rest : List ℕ) → rising (e ∷ f ∷ rest) ≡ true → (e < f) × (rising (f ∷ rest) ≡ true)
+unfolding rising
+rising-cons e f rest =
+    by-test (ltb e f) (λ t. rw t (λ h. (ltb-true e f t, h))) (λ t. rw t (λ h. absurd (fails false (λ (z : ⊥). z) .0 h)))
+
+-- no entry is below the first
+pub first-least :
+    (e : ℕ) (rest : List ℕ) →
+    rising (e ∷ rest) ≡ true →
+    (i : ℕ) →
+    i < length (e ∷ rest) →
+    e ≤ getD (e ∷ rest) i 0
+first-least e rest up zero h = le-refl e
+first-least e [] up (suc i) h = absurd (omega arith)
+first-least e (f ∷ rest) up (suc i) h =
+    let both = rising-cons e f rest up in
+    le-trans (le-of-lt (both .0)) (first-least f rest (both .1) i (omega arith))
+
+-- "strictly rising": any two entries
+pub rises :
+    (table : List ℕ) →
+    rising table ≡ true →
+    (i j : ℕ) →
+    i < j →
+    j < length table →
+    getD table i 0 < getD table j 0
+rises [] up i j l h = absurd (omega arith)
+rises (e ∷ rest) up i zero l h = absurd (omega arith)
+rises (e ∷ []) up i (suc j) l h = absurd (omega arith)
+rises (e ∷ f ∷ rest) up zero (suc j) l h =
+    let both = rising-cons e f rest up in lt-of-lt-of-le (both .0) (first-least f rest (both .1) j (omega arith))
+rises (e ∷ f ∷ rest) up (suc i) (suc j) l h =
+    rises (f ∷ rest) (rising-cons e f rest up .1) i j (omega arith) (omega arith)
+
+-- a table whose neighbours rise passes the test
+pub rising-of :
+    (table : List ℕ) →
+    ((i : ℕ) → suc i < length table → getD table i 0 < getD table (suc i) 0) →
+    rising table ≡ true
+unfolding rising
+rising-of [] up = refl
+rising-of (e ∷ []) up = refl
+rising-of (e ∷ f ∷ rest) up =
+    rw (lt-ltb e f (up 0 (omega arith))) (rising-of (f ∷ rest) (λ i h. up (suc i) (omega arith)))

@@ -1,0 +1,25 @@
+-- `thermometer::degrees` meets its contract: the test of the table passes at each of its entries.
+use Prim.Native.Nat.{ℕ}
+use mathlib.Core.Path.{refl, ap, _∙_}
+use mathlib.Core.List.{List}
+use Rattle.thermometer.specs.Degrees.{readingOver}
+use Rattle.thermometer.proofs.Pt1000.{passes, passed-same, passed-usable}
+use borrow.Author.Needs.{needs}
+use Rattle.thermometer.proofs.degrees.Statement.{statement}
+use Rattle.thermometer.proofs.degrees.Tie as tie
+
+slice-aggregate-read : tie.Need-slice-aggregate-read
+slice-aggregate-read c = search needs
+
+read-requires : tie.Need-read-requires
+unfolding passes
+read-requires c κs = passed-usable _ refl
+
+returns : tie.Need-returns
+unfolding passes
+returns c =
+    let at = c .before .before .args in
+    c .read .ensures ∙ ap (λ (t : List ℕ). readingOver t (at .probe) (at .reference)) (passed-same _ refl)
+
+pub degrees-spec : {M : Type 1} → statement M
+degrees-spec = tie.close (tie.spec slice-aggregate-read read-requires returns)

@@ -1,0 +1,34 @@
+-- Tables of a probe's resistance, entry i for degree i, and PT1000's.
+use Prim.Native.Nat.{ℕ, zero, suc, _+_, _-_, _*_, _/_, _≤_}
+use mathlib.Core.Bool.{Bool, true, false}
+use mathlib.Core.List.{List, [], _∷_}
+use mathlib.Core.Path.{_≡_}
+use lib.ListN.{length}
+use lib.Dec.{ltb}
+use Rattle.unit.specs.Choice.{both}
+
+-- "entry t is 1,000,000 + 3,908.3 × t − 0.5775 × t × t milliohms, to the nearest whole, halves up": the sum in
+-- ten-thousandths, with a half added, rounded down
+unfoldable pub entry : ℕ → ℕ
+entry t = (10000000000 + 39083000 * t - 5775 * (t * t) + 5000) / 10000
+
+-- n entries from degree t on
+unfoldable pub entries : ℕ → ℕ → List ℕ
+entries zero t = []
+entries (suc n) t = entry t ∷ entries n (t + 1)
+
+-- "a constant table of PT1000 for each whole degree from 0 to 180"
+unfoldable pub pt1000 : List ℕ
+pt1000 = entries 181 0
+
+-- each entry is above the one before it
+unfoldable pub rising : List ℕ → Bool
+rising [] = true
+rising (e ∷ []) = true
+rising (e ∷ f ∷ rest) = both (ltb e f) (rising (f ∷ rest))
+
+-- what a search needs of a table
+pub record Usable (table : List ℕ) : Type 0 where
+  pub some : 2 ≤ length table
+  pub few : length table ≤ 512
+  pub rises : rising table ≡ true

@@ -1,0 +1,104 @@
+// A resistance thermometer: the temperature of a probe from its word and the word of the reference resistor.
+ghost use mathlib.Core.Path.{_≡_};
+ghost use Prim.Native.Nat.{_<_, _≤_};
+ghost use lib.ListN.{length};
+ghost use Rattle.thermometer.specs.Table.{pt1000, Usable};
+ghost use Rattle.thermometer.specs.Degrees.{resistance, interpolated, Between, thousandths, first, last, readingOver};
+
+mod table;
+
+use table::PT1000;
+
+pub enum Reading {
+    // Thousandths of a degree.
+    Thousandths(u32),
+    // The number of the refusal.
+    Refused(u32),
+}
+
+fn wide(x: u32) -> u64
+    ensures { λ r. ⌜ (r ≡ x) × (r < 4294967296) ⌝ }
+{
+    x as u64
+}
+
+// Milliohms, by the reference of 1,000 ohms.
+fn resistance_of(probe: u32, reference: u32) -> u64
+    requires { ⌜ 0 < reference ⌝ }
+    ensures { λ r. ⌜ r ≡ resistance probe reference ⌝ }
+{
+    wide(probe) * 1000000 / wide(reference)
+}
+
+// The place of the last entry that is at most r, by halving.
+fn place(table: &[u32], r: u32) -> usize
+    requires { ⌜ (2 ≤ length (now table)) × (first (now table) ≤ r) × (r < last (now table)) ⌝ }
+    ensures { λ i. ⌜ Between (now (table .entry)) i r ⌝ }
+{
+    let mut low = 0;
+    let mut high = table.len() - 1;
+    while low + 1 < high {
+        let middle = low + (high - low) / 2;
+        if table[middle] <= r {
+            low = middle;
+        } else {
+            high = middle;
+        }
+    }
+    low
+}
+
+// Thousandths of a degree between the entries e and f of the degrees i and i + 1.
+fn interpolate(i: usize, e: u32, f: u32, r: u32) -> u32
+    requires { ⌜ (i < 512) × (e ≤ r) × (r < f) ⌝ }
+    ensures { λ t. ⌜ t ≡ interpolated i e f r ⌝ }
+{
+    let part = 1000 * wide(r - e) / wide(f - e);
+    (1000 * i as u64 + part) as u32
+}
+
+// Thousandths of a degree at the resistance r.
+fn thousandths_of(table: &[u32], r: u32) -> u32
+    requires { ⌜ Usable (now table) × (first (now table) ≤ r) × (r ≤ last (now table)) ⌝ }
+    ensures { λ t. ⌜ t ≡ thousandths (now (table .entry)) r ⌝ }
+{
+    let end = table.len() - 1;
+    if table[end] <= r {
+        return 1000 * end as u32;
+    }
+    let i = place(table, r);
+    interpolate(i, table[i], table[i + 1], r)
+}
+
+// The answer over a table, or number 13.
+fn read(table: &[u32], probe: u32, reference: u32) -> Reading
+    requires { ⌜ Usable (now table) ⌝ }
+    ensures { λ r. ⌜ r ≡ readingOver (now (table .entry)) probe reference ⌝ }
+{
+    if probe == 4294967295 {
+        return Reading::Refused(13);
+    }
+    if reference == 4294967295 {
+        return Reading::Refused(13);
+    }
+    if reference == 0 {
+        return Reading::Refused(13);
+    }
+    let r = resistance_of(probe, reference);
+    let end = table.len() - 1;
+    if r < wide(table[0]) {
+        return Reading::Refused(13);
+    }
+    if wide(table[end]) < r {
+        return Reading::Refused(13);
+    }
+    Reading::Thousandths(thousandths_of(table, r as u32))
+}
+
+// The temperature of a PT1000 probe, from its word and the word of its reference resistor of 1,000 ohms. Number 13: a word is
+// FFFFFFFFh, the reference is 0, or the resistance is off the table.
+pub fn degrees(probe: u32, reference: u32) -> Reading
+    ensures { λ r. ⌜ r ≡ readingOver pt1000 probe reference ⌝ }
+{
+    read(&PT1000, probe, reference)
+}

@@ -1,13 +1,17 @@
 -- Tables whose entries rise: the test of neighbours, and the order of any two.
-use Prim.Native.Nat.{ℕ, zero, suc, _≤_, _<_}
+use Prim.Native.Nat.{ℕ, zero, suc, _+_, _≤_, _<_}
 use native.Mathlib.Nat.{le-refl, le-trans, le-of-lt, lt-of-lt-of-le}
 use native.Mathlib.Omega.{arith}
-use mathlib.Core.Path.{_≡_, refl}
+use native.Mathlib.Numerals.{add-one}
+use mathlib.Core.Path.{_≡_, refl, sym}
+use mathlib.Core.Logic.{_↔_}
 use mathlib.Core.Bool.{true, false}
 use mathlib.Core.List.{List, [], _∷_}
-use lib.ListN.{length, getD}
+use lib.ListN.{length, getD, drop, length-drop}
+use lib.Seq.{drop-cons}
 use lib.Dec.{ltb}
-use borrow.Author.Tests.{ltb-true, lt-ltb}
+use borrow.Author.Tests.{ltb-true, lt-ltb, le-ltb}
+use Rattle.unit.specs.Choice.{both}
 use Rattle.unit.specs.Cases.{by-test, fails}
 use Rattle.thermometer.specs.Table.{rising}
 
@@ -56,3 +60,35 @@ rising-of [] up = refl
 rising-of (e ∷ []) up = refl
 rising-of (e ∷ f ∷ rest) up =
     rw (lt-ltb e f (up 0 (omega arith))) (rising-of (f ∷ rest) (λ i h. up (suc i) (omega arith)))
+
+-- "strictly rising", both ways
+pub rising-means :
+    (table : List ℕ) →
+    (rising table ≡ true) ↔ ((i j : ℕ) → i < j → j < length table → getD table i 0 < getD table j 0)
+rising-means table = (rises table, λ up. rising-of table (λ i h. up i (suc i) (omega arith) h))
+
+-- a loop that compares neighbours in turn: a pair that does not rise, a pair that does, and the last entry
+pair-at :
+    (table : List ℕ) (i : ℕ) →
+    i + 1 < length table →
+    rising (drop i table) ≡ both (ltb (getD table i 0) (getD table (i + 1) 0)) (rising (drop (i + 1) table))
+unfolding rising
+pair-at table i h =
+    rw (add-one i)
+    (rw (drop-cons table i 0 (omega arith), drop-cons table (suc i) 0 (omega arith)))
+
+one-rises : (xs : List ℕ) → length xs ≤ 1 → rising xs ≡ true
+unfolding rising
+one-rises [] h = refl
+one-rises (e ∷ []) h = refl
+one-rises (e ∷ f ∷ rest) h = absurd (omega arith)
+
+module _ (table : List ℕ) (i : ℕ) (so-far : rising table ≡ rising (drop i table)) where
+  pub pair-falls : i + 1 < length table → getD table (i + 1) 0 ≤ getD table i 0 → false ≡ rising table
+  pair-falls h l = rw (so-far, pair-at table i h, le-ltb _ _ l)
+
+  pub pair-rises : i + 1 < length table → getD table i 0 < getD table (i + 1) 0 → rising table ≡ rising (drop (i + 1) table)
+  pair-rises h l = rw (so-far, pair-at table i h, lt-ltb _ _ l)
+
+  pub all-rise : length table ≤ i + 1 → true ≡ rising table
+  all-rise h = rw so-far (sym (one-rises (drop i table) (omega (arith, length-drop i table))))

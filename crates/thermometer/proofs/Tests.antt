@@ -1,13 +1,13 @@
 -- Tests that are joined, and a test at each entry of a list.
-use Prim.Native.Nat.{ℕ, zero, suc, _+_, _<_}
+use Prim.Native.Nat.{ℕ, zero, suc, _+_, _≤_, _<_}
 use native.Mathlib.Omega.{arith}
 use mathlib.Core.Path.{_≡_, refl, ap, _∙_}
 use mathlib.Core.Logic.{_↔_, _⊎_, inl, inr, ⊎-elim}
 use mathlib.Core.Bool.{Bool, true, false}
 use mathlib.Core.List.{List, [], _∷_}
 use lib.ListN.{length, getD}
-use lib.Dec.{ltb, eqb}
-use borrow.Author.Tests.{ltb-true, eqb-true, lt-ltb, eq-eqb}
+use lib.Dec.{ltb, leb, eqb}
+use borrow.Author.Tests.{ltb-true, leb-true, eqb-true, lt-ltb, le-leb, eq-eqb}
 use Rattle.unit.specs.Choice.{either, both}
 use Rattle.unit.specs.Cases.{fails}
 
@@ -16,6 +16,9 @@ eqb-means a b = (eqb-true a b, eq-eqb a b)
 
 pub ltb-means : (a b : ℕ) → (ltb a b ≡ true) ↔ (a < b)
 ltb-means a b = (ltb-true a b, lt-ltb a b)
+
+pub leb-means : (a b : ℕ) → (leb a b ≡ true) ↔ (a ≤ b)
+leb-means a b = (leb-true a b, le-leb a b)
 
 pub either-means : {P Q : Type 0} (s t : Bool) → ((s ≡ true) ↔ P) → ((t ≡ true) ↔ Q) → (either s t ≡ true) ↔ (P ⊎ Q)
 either-means true t p q = (λ h. inl (p .0 refl), λ h. refl)

@@ -5,6 +5,7 @@ use mathlib.Core.List.{List, [], _∷_}
 use lib.ListN.{length, getD}
 use lib.Dec.{ltb, eqb}
 use Rattle.unit.specs.Choice.{pick, either}
+use Rattle.thermometer.specs.Table.{accepted}
 use Rattle.thermometer.specs.declared.Reading.{Reading}
 use Rattle.thermometer.specs.declared.Reading.the-variants.{Thousandths, Refused}
 
@@ -48,6 +49,11 @@ offTable table a b =
 -- the answer over a table: "Turned away: number 13"
 unfoldable pub readingOver : List ℕ → ℕ → ℕ → Reading
 readingOver table a b = pick (offTable table a b) (Refused 13) (Thousandths (thousandths table (resistance a b)))
+
+-- the answer over the caller's own table: "Turned away: number 14, bad table, before number 13, for any table failing these."
+-- (Note 7)
+unfoldable pub readingBy : List ℕ → ℕ → ℕ → Reading
+readingBy table a b = pick (accepted table) (readingOver table a b) (Refused 14)
 
 -- What an answer says: its number where it is a refusal, else its thousandths of a degree.
 unfoldable pub numberRead : Reading → List ℕ

@@ -4,7 +4,7 @@ use mathlib.Core.Bool.{Bool, true, false}
 use mathlib.Core.List.{List, [], _∷_}
 use mathlib.Core.Path.{_≡_}
 use lib.ListN.{length}
-use lib.Dec.{ltb}
+use lib.Dec.{ltb, leb}
 use Rattle.unit.specs.Choice.{both}
 
 -- "entry t is 1,000,000 + 3,908.3 × t − 0.5775 × t × t milliohms, to the nearest whole, halves up": the sum in
@@ -26,6 +26,16 @@ unfoldable pub rising : List ℕ → Bool
 rising [] = true
 rising (e ∷ []) = true
 rising (e ∷ f ∷ rest) = both (ltb e f) (rising (f ∷ rest))
+
+-- no entry is above the limit
+unfoldable pub noneAbove : ℕ → List ℕ → Bool
+noneAbove limit [] = true
+noneAbove limit (e ∷ rest) = both (leb e limit) (noneAbove limit rest)
+
+-- "Each call checks it: 2 to 512 entries, strictly rising, none above 10,000,000." (Note 7)
+unfoldable pub accepted : List ℕ → Bool
+accepted table =
+    both (leb 2 (length table)) (both (leb (length table) 512) (both (rising table) (noneAbove 10000000 table)))
 
 -- what a search needs of a table
 pub record Usable (table : List ℕ) : Type 0 where

@@ -2,8 +2,8 @@
 ghost use mathlib.Core.Path.{_≡_};
 ghost use Prim.Native.Nat.{_<_, _≤_};
 ghost use lib.ListN.{length};
-ghost use Rattle.thermometer.specs.Table.{pt1000, Usable};
-ghost use Rattle.thermometer.specs.Degrees.{resistance, interpolated, Between, thousandths, first, last, readingOver};
+ghost use Rattle.thermometer.specs.Table.{pt1000, rising, accepted, Usable};
+ghost use Rattle.thermometer.specs.Degrees.{resistance, interpolated, Between, thousandths, first, last, readingOver, readingBy};
 
 mod table;
 
@@ -101,4 +101,48 @@ pub fn degrees(probe: u32, reference: u32) -> Reading
     ensures { λ r. ⌜ r ≡ readingOver pt1000 probe reference ⌝ }
 {
     read(&PT1000, probe, reference)
+}
+
+// Whether each entry is above the one before it.
+fn is_rising(table: &[u32]) -> bool
+    requires { ⌜ 0 < length (now table) ⌝ }
+    ensures { λ r. ⌜ r ≡ rising (now (table .entry)) ⌝ }
+{
+    let mut i = 0;
+    while i + 1 < table.len() {
+        if table[i + 1] <= table[i] {
+            return false;
+        }
+        i += 1;
+    }
+    true
+}
+
+// Whether a table has 2 to 512 entries that rise, none above 10,000,000: where they rise, the last is the largest.
+fn is_accepted(table: &[u32]) -> bool
+    ensures { λ r. ⌜ r ≡ accepted (now (table .entry)) ⌝ }
+{
+    let n = table.len();
+    if n < 2 {
+        return false;
+    }
+    if 512 < n {
+        return false;
+    }
+    if 10000000 < table[n - 1] {
+        return false;
+    }
+    is_rising(table)
+}
+
+// The temperature of a probe with a table of its own, milliohms at each whole degree from 0. Number 14 for a table of fewer than
+// 2 or more than 512 entries, one that does not rise, and one with an entry above 10,000,000; then number 13, as above.
+pub fn degrees_by(table: &[u32], probe: u32, reference: u32) -> Reading
+    ensures { λ r. ⌜ r ≡ readingBy (now (table .entry)) probe reference ⌝ }
+{
+    if is_accepted(table) {
+        read(table, probe, reference)
+    } else {
+        Reading::Refused(14)
+    }
 }

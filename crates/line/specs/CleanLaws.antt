@@ -6,19 +6,16 @@ use mathlib.Core.List.{List, [], _∷_, _++_}
 use native.Mathlib.Nat.{pow-suc, pow-le-pow-right, zero-mul, zero-add, add-assoc}
 use native.Mathlib.Decide.{decLt}
 use native.Mathlib.Omega.{arith}
-use lib.Dec.{ltb, leb, eqb}
 use lib.ListN.{length, getD, set, drop, length-drop}
 use lib.Seq.{take-suc, getD-drop}
-use borrow.Author.Tests.{lt-ltb, lt-leb, eqb-true, eqb-false, ne-eqb}
-use Rattle.numeral.specs.declared.Number.the-variants.{Value}
+use borrow.Author.Tests.{lt-ltb, lt-leb, ne-eqb}
 use Rattle.numeral.specs.Digit.{digitOf, areDigits, valueOf}
 use Rattle.numeral.specs.DigitLaws.{value-append, are-append, hex-reads}
-use Rattle.numeral.specs.Read.{readHex}
 use Rattle.line.specs.declared.Form.{Form}
 use Rattle.line.specs.declared.Kind.the-variants.{Word}
 use Rattle.line.specs.Words.{isBlank, wordsAfter, words, part, sameBytes}
 use Rattle.line.specs.WordLaws.{length-part, words-blank, word-grows, word-stops, word-ends, same-equal}
-use Rattle.line.specs.Numbers.{isSlash, kindOf, ofNumber, tallied}
+use Rattle.line.specs.Numbers.{isSlash, kindOf, tallied, Outcome}
 use Rattle.line.specs.NumberLaws.{tally-word}
 use Rattle.line.specs.Clean.{DigitsAt, WholeAt, PairAt, Passed}
 
@@ -144,3 +141,8 @@ pub passed-pair : {f : Form} {s : List ℕ} {at n i c v : ℕ} {l l′ : List �
     → Passed f s at n l (i + 3) (c + 1) (set l′ c v)
 passed-pair {i = i} {v = v} p most least pair less =
     passed-more p {a = i + 1} {b = i + 3} {v = v} (rw most (pair .digits)) (rw least (pair .whole)) (pair .alike) (omega arith) less
+
+-- What a list comes to after its first words.
+pub passed-on : {f : Form} {s : List ℕ} {at n i c : ℕ} {l l′ : List ℕ} → Passed f s at n l i c l′ → (k u : ℕ) {o : Outcome}
+    → tallied f n k u l (words (drop at s)) ≡ o → {x : Outcome} → x ≡ tallied f c k u l′ (words (drop i s)) → x ≡ o
+passed-on p k u e h = h ∙ p .alike k u ∙ e

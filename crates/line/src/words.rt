@@ -55,6 +55,9 @@ fn word_end(s: &[u8], start: usize) -> usize
 pub(crate) fn is_blank(c: u8) -> bool
     ensures { λ r. ⌜ r ≡ isBlank c ⌝ }
 {
+    if 32 < c {
+        return false;
+    }
     if c == 32 { true } else { c == 9 }
 }
 

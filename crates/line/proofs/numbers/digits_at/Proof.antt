@@ -1,8 +1,7 @@
 -- `line::numbers::digits_at` meets its contract. The invariant: the bytes up to i are digits of the value; the measure is what is left of the places.
 -- Assumes nothing.
-use Prim.Native.Nat.{_+_, _-_, _<_}
+use Prim.Native.Nat.{_-_}
 use native.Mathlib.Omega.{arith}
-use lib.ListN.{length}
 use Rattle.line.specs.Clean.{DigitsAt}
 use Rattle.line.specs.CleanLaws.{digits-none, digits-more, digits-fit}
 use Rattle.line.proofs.numbers.digits_at.Statement.{statement}

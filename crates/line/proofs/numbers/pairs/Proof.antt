@@ -1,6 +1,6 @@
 -- `line::numbers::pairs` meets its contract. The invariant: the numbers up to i are stored; the measure is what is left of the bytes.
 -- Assumes nothing.
-use Prim.Native.Nat.{_+_, _-_, _≤_}
+use Prim.Native.Nat.{_-_, _≤_}
 use mathlib.Core.Path.{_≡_, refl}
 use native.Mathlib.Omega.{arith}
 use lib.ListN.{length, length-set}

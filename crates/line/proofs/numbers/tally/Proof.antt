@@ -9,6 +9,7 @@ use Rattle.line.specs.Words.{words}
 use Rattle.line.specs.Numbers.{tallied}
 use Rattle.line.specs.WordLaws.{words-end}
 use Rattle.line.specs.NumberLaws.{tally-end, tally-slash, tally-past, tally-word, tally-wrong}
+use Rattle.line.specs.CleanLaws.{passed-on}
 use Rattle.line.proofs.numbers.tally.Statement.{statement}
 use Rattle.line.proofs.numbers.tally.Tie as tie
 
@@ -34,8 +35,7 @@ same-length c = c .before .before .before .before .clean-numbers .kept .1 .1 .1 
 
 returns : tie.Need-returns Inv-loop μ-loop
 returns c =
-    let k = c .before .before .before .before .before .before .before .loop in
-    tally-end _ _ _ _ _ (c .before .next-word .ensures .none (c .if1 .taken)) ∙ c .before .before .before .before .clean-numbers .ensures .alike _ _ ∙ k .inv .3
+    passed-on (c .before .before .before .before .clean-numbers .ensures) _ _ (c .before .before .before .before .before .before .before .loop .inv .3) (tally-end _ _ _ _ _ (c .before .next-word .ensures .none (c .if1 .taken)))
 
 sub-kind-of : tie.Need-sub-kind-of Inv-loop μ-loop
 sub-kind-of c = omega arith
@@ -57,9 +57,8 @@ same-length-2 c = c .before .before .before .before .before .before .before .bef
 
 returns-2 : tie.Need-returns-2 Inv-loop μ-loop
 returns-2 c =
-    let k = c .before .before .before .before .before .before .before .before .before .before .before .loop in
-    tally-wrong _ _ _ _ _ (c .before .before .before .before .before .next-word .ensures .some (c .before .before .before .before .if1 .left)) (sym (c .before .before .kind-of .ensures) ∙ c .enum-told .given .1)
-    ∙ c .before .before .before .before .before .before .before .before .clean-numbers .ensures .alike _ _ ∙ k .inv .3
+    passed-on (c .before .before .before .before .before .before .before .before .clean-numbers .ensures) _ _ (c .before .before .before .before .before .before .before .before .before .before .before .loop .inv .3)
+    (tally-wrong _ _ _ _ _ (c .before .before .before .before .before .next-word .ensures .some (c .before .before .before .before .if1 .left)) (sym (c .before .before .kind-of .ensures) ∙ c .enum-told .given .1))
 
 enum-told-2 : tie.Need-enum-told-2 Inv-loop μ-loop
 enum-told-2 c = search needs
@@ -97,7 +96,7 @@ loop-again c =
       next .high,
       clean .kept .1 .1 .1 .1 .0 ∙ k .inv .1,
       omega (arith, c .before .before .before .before .before .if1 .left, next .low, clean .ensures .count, k .inv .2),
-      rw (c .first-slash .ensures) (tally-slash _ _ _ _ _ word (sym (c .before .before .before .kind-of .ensures) ∙ c .before .enum-told2 .given .1) ∙ clean .ensures .alike _ _ ∙ k .inv .3),
+      rw (c .first-slash .ensures) (passed-on (clean .ensures) _ _ (k .inv .3) (tally-slash _ _ _ _ _ word (sym (c .before .before .before .kind-of .ensures) ∙ c .before .enum-told2 .given .1))),
     )
 
 loop-less-2 : tie.Need-loop-less-2 Inv-loop μ-loop
@@ -112,7 +111,7 @@ loop-again-2 c =
       next .high,
       clean .kept .1 .1 .1 .1 .0 ∙ k .inv .1,
       omega (arith, c .before .before .before .before .if1 .left, next .low, clean .ensures .count, k .inv .2),
-      (tally-past _ _ _ _ _ word (sym (c .before .before .kind-of .ensures) ∙ c .enum-told3 .given .1) ∙ clean .ensures .alike _ _ ∙ k .inv .3),
+      (passed-on (clean .ensures) _ _ (k .inv .3) (tally-past _ _ _ _ _ word (sym (c .before .before .kind-of .ensures) ∙ c .enum-told3 .given .1))),
     )
 
 loop-less-3 : tie.Need-loop-less-3 Inv-loop μ-loop
@@ -127,7 +126,7 @@ loop-again-3 c =
       next .high,
       c .before .before .store .kept .0 ∙ clean .kept .1 .1 .1 .1 .0 ∙ k .inv .1,
       omega (arith, c .before .before .before .before .before .before .before .before .before .if1 .left, next .low, clean .ensures .count, k .inv .2),
-      rw (c .before .before .store .ensures) (tally-word _ _ _ _ _ word (sym (c .before .before .before .before .before .before .before .kind-of .ensures) ∙ c .before .before .before .before .before .v .given .1) ∙ clean .ensures .alike _ _ ∙ k .inv .3),
+      rw (c .before .before .store .ensures) (passed-on (clean .ensures) _ _ (k .inv .3) (tally-word _ _ _ _ _ word (sym (c .before .before .before .before .before .before .before .kind-of .ensures) ∙ c .before .before .before .before .before .v .given .1))),
     )
 
 same-length-3 : tie.Need-same-length-3 Inv-loop μ-loop

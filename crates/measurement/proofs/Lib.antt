@@ -4,3 +4,4 @@ pub mod Integer
 pub mod Mean
 pub mod Ports
 pub mod Meaning
+pub mod Rows

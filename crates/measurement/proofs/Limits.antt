@@ -1,5 +1,5 @@
--- Laws of the limits: the least late word by cases, and the test of a list from a place on.
-use Prim.Native.Nat.{ℕ, zero, suc, _+_, _*_, _/_, _^_, _≤_, _<_, min}
+-- Laws of the limits: the test of a list from a place on.
+use Prim.Native.Nat.{ℕ, zero, suc, _+_, _*_, _/_, _≤_, _<_}
 use native.Mathlib.Nat.{div-lt-iff-lt-mul, mul-comm, zero-mul}
 use native.Mathlib.Omega.{arith}
 use native.Mathlib.Numerals.{add-one}
@@ -9,21 +9,10 @@ use mathlib.Core.List.{List, [], _∷_}
 use lib.ListN.{length, getD, drop}
 use lib.Seq.{drop-cons, drop-length}
 use borrow.Author.Tests.{le-leb, lt-leb}
-use lib.Pow.{pow-mono}
 use lib.Dec.{leb}
 use Rattle.unit.specs.Choice.{either}
 use Rattle.unit.specs.declared.Quanta.{Quanta}
 use Rattle.measurement.specs.Limit.{anyFrom}
-
--- from TIMOUT 6 on the timeout is past every hit
-pub late-long : (k : ℕ) → 6 ≤ k → 2147483648 ≡ min (512 * 2 ^ k * 65536) (2 ^ 31)
-late-long k h = omega (arith, pow-mono {i = 6} {j = k} h)
-
-pub late-fits : (k : ℕ) → k < 6 → 33554432 * 2 ^ k < 2 ^ 64
-late-fits k h = omega (arith, pow-mono {i = k} {j = 5} (omega arith))
-
-pub late-short : (k : ℕ) → k < 6 → 33554432 * 2 ^ k ≡ min (512 * 2 ^ k * 65536) (2 ^ 31)
-late-short k h = omega (arith, pow-mono {i = k} {j = 5} (omega arith))
 
 -- the list from a place on is its word there and the rest
 pub any-at :

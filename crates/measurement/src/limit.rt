@@ -1,17 +1,35 @@
 // The words that are late or open.
 ghost use mathlib.Core.Path.{_≡_};
 ghost use Rattle.measurement.specs.Limit.{lateFrom, openFrom, anyFrom};
+ghost use Rattle.measurement.specs.Timeout.{timeoutRow};
 use crate::words::wide;
 use unit::Quanta;
 
-// The least late word, by the TIMOUT code.
+// The least late word, by the TIMOUT code. A microsecond is 4 periods of 4 MHz, 262,144 quanta; 2^31 and more are no hit.
 pub fn late_from(timeout: u32) -> Quanta
     ensures { λ r. ⌜ r ≡ lateFrom timeout ⌝ }
 {
-    if 6 <= timeout {
+    let bound = timeout_row(timeout) as u64 * 262144;
+    if 2147483648 < bound {
         return Quanta(2147483648);
     }
-    Quanta(33554432 << timeout)
+    Quanta(bound)
+}
+
+// TIMOUT[2:0] as data sheet 000's Table 11 prints it: the timeout in microseconds.
+pub fn timeout_row(timeout: u32) -> u32
+    ensures { λ r. ⌜ r ≡ timeoutRow timeout ⌝ }
+{
+    match timeout {
+        0b000 => 128,
+        0b001 => 256,
+        0b010 => 512,
+        0b011 => 1024,
+        0b100 => 2048,
+        0b101 => 4096,
+        0b110 => 8192,
+        _ => 16384, // 111b
+    }
 }
 
 // The least open word, by the PORTCYC code.

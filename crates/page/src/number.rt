@@ -103,8 +103,8 @@ fn field(w: u32, x: u8) -> u32 {
         b'p' => pulses(w / 256 % 256), // PL
         b'l' => w / 16 % 16, // DPL
         b'r' => w / 16 % 16 + 1, // what 2 MHz is divided by
-        b'h' => hits(w / 8192 % 8), // STOP
-        b't' => 128 << (w % 8), // TIMOUT in microseconds
+        b'h' => register::stop_row(w / 8192 % 8), // STOP
+        b't' => measurement::limit::timeout_row(w % 8), // TIMOUT in microseconds
         b'f' => (w / 4096 % 16 + 1) / 2, // TDF in seconds
         b'g' => (w / 4096 % 16 + 1) % 2 * 5, // and its decimal
         b'n' => w / 128 % 32 + 1, // TDM
@@ -120,11 +120,6 @@ fn field(w: u32, x: u8) -> u32 {
 // Up to 127 pulses are launched.
 fn pulses(pl: u32) -> u32 {
     if 127 < pl { 127 } else { pl }
-}
-
-// Six hits at most.
-fn hits(stop: u32) -> u32 {
-    if 5 < stop { 6 } else { stop + 1 }
 }
 
 // Not 0 where both bytes have bits.

@@ -3,6 +3,7 @@ ghost use mathlib.Core.Path.{_≡_};
 ghost use Prim.Native.Nat.{_<_};
 ghost use lib.ListN.{getD};
 ghost use Rattle.register.specs.Setup.{factory, alarmWord, hitCount, timeout, portCycle, flightUnset, temperatureUnset, eventUnset, differencePeriod, differenceCount, temperaturePeriod, temperatureCount, interruptEnabled, eachInterrupt, clockStands, alarmMode};
+ghost use Rattle.register.specs.Stop.{stopRow};
 use unit::Ticks;
 
 // The word at a place of the set-up.
@@ -36,8 +37,23 @@ pub fn alarm_word(s: [u16; 16]) -> u32
 pub fn hits(s: [u16; 16]) -> u32
     ensures { λ r. ⌜ r ≡ hitCount s ⌝ }
 {
-    let n = word(s, 5) / 8192 % 8 + 1;
-    if 6 < n { 6 } else { n }
+    stop_row(word(s, 5) / 8192 % 8)
+}
+
+// STOP[2:0] as data sheet 000's Table 11 prints it: the number of hits.
+pub fn stop_row(stop: u32) -> u32
+    ensures { λ r. ⌜ r ≡ stopRow stop ⌝ }
+{
+    match stop {
+        0b000 => 1,
+        0b001 => 2,
+        0b010 => 3,
+        0b011 => 4,
+        0b100 => 5,
+        0b101 => 6,
+        0b110 => 6,
+        _ => 6, // 111b
+    }
 }
 
 // TIMOUT.

@@ -1,29 +1,30 @@
 -- `measurement::limit::late_from` meets its contract.
-use mathlib.Core.Path.{ap, _∙_}
+use mathlib.Core.Path.{ap}
 use Prim.Native.Nat.{ℕ}
-use native.Mathlib.Nat.{mod-eq-of-lt}
+use native.Mathlib.Omega.{arith}
 use borrow.Author.Needs.{needs}
 use Rattle.unit.specs.declared.Quanta.{Quanta}
-use Rattle.measurement.specs.Limit.{lateFrom}
-use Rattle.measurement.proofs.Limits.{late-long, late-short, late-fits}
+use Rattle.measurement.proofs.Rows.{late-row}
 use Rattle.measurement.proofs.limit.late_from.Statement.{statement}
 use Rattle.measurement.proofs.limit.late_from.Tie as tie
 
 abbrev quanta : ℕ → Quanta
 quanta n = record { 0 = n }
 
-returns : tie.Need-returns
-unfolding lateFrom
-returns c = ap quanta (late-long (c .before .args .timeout) (c .if1 .taken))
+timeout-row-requires : tie.Need-timeout-row-requires
+timeout-row-requires c κs = search needs
 
-shl-t4 : tie.Need-shl-t4
-shl-t4 c = search needs
+cast-bound : tie.Need-cast-bound
+cast-bound c = search needs
+
+mul-bound : tie.Need-mul-bound
+mul-bound c = search needs
+
+returns : tie.Need-returns
+returns c = ap quanta (omega (arith, late-row (c .before .before .args .timeout)))
 
 returns-2 : tie.Need-returns-2
-unfolding lateFrom
-returns-2 c =
-    let k = c .before .args .timeout in
-    ap quanta (mod-eq-of-lt (late-fits k (c .if1 .left)) ∙ late-short k (c .if1 .left))
+returns-2 c = ap quanta (omega (arith, late-row (c .before .before .args .timeout)))
 
 pub late-from-spec : {M : Type 1} → statement M
-late-from-spec = tie.close (tie.spec returns shl-t4 returns-2)
+late-from-spec = tie.close (tie.spec timeout-row-requires cast-bound mul-bound returns returns-2)

@@ -1,0 +1,12 @@
+-- The printed STOP table of data sheet 000, Table 11.
+use Prim.Native.Nat.{ℕ}
+use mathlib.Core.List.{List, [], _∷_}
+use lib.ListN.{getD}
+
+-- STOP[2:0], 000b first: "1 Hit", "2 Hits" .. "6 Hits", "6 Hits", "6 Hits"
+unfoldable pub stopTable : List ℕ
+stopTable = 1 ∷ 2 ∷ 3 ∷ 4 ∷ 5 ∷ 6 ∷ 6 ∷ 6 ∷ []
+
+-- The row of a value. Three bits hold none past the last row; any other number is given that row.
+unfoldable pub stopRow : ℕ → ℕ
+stopRow stop = getD stopTable stop 6

@@ -8,10 +8,9 @@ use Rattle.measurement.specs.Difference.{differenceMean, portMean}
 use Rattle.device.specs.declared.Model.{Model}
 use Rattle.device.specs.Event.{single, eventStart}
 use Rattle.device.specs.Model.{resetModel, withFlight}
-use Rattle.device.specs.Registers.{half, flightWord, temperatureWord, registerWord}
+use Rattle.device.specs.Registers.{half, flightWord, temperatureWord, registerWord, upwards}
 use Rattle.device.specs.Bus.{startsFlight, startsTemperature, isEvent, flightStarted, flightEvent, temperatureEvent}
 use Rattle.device.specs.Bus.{eventFlight, eventTemperature, startedEvent, initialised, haltedModel, singleStarted, runModel}
-use Rattle.device.proofs.RegisterMeaning.{upwards}
 
 module _ (m : Model) where
   -- "04h Reset", "05h Initialize", "0Ah HALT"

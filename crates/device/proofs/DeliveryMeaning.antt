@@ -15,10 +15,9 @@ use Rattle.measurement.specs.Words.{wordOrZero, six, four, average, filled, los
 use Rattle.measurement.proofs.Sum.{six-total}
 use Rattle.device.specs.declared.Flight.{Flight}
 use Rattle.device.specs.declared.Model.{Model}
-use Rattle.device.specs.Registers.{half, flightWord, registerWord}
+use Rattle.device.specs.Registers.{half, flightWord, registerWord, upwards}
 use Rattle.device.specs.Tick.{lostDifference, lostFlight}
 use Rattle.device.specs.Delivery.{goodDifference, goodFlight, flightFailed, temperatureGood, temperatureFailed}
-use Rattle.device.proofs.RegisterMeaning.{upwards}
 
 word-or-zero : (ws : List ℕ) (i : ℕ) → wordOrZero ws i ≡ getD ws i 0
 unfolding wordOrZero

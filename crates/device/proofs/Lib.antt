@@ -19,3 +19,5 @@ pub mod Calls
 pub mod Held
 pub mod Third
 pub mod Form
+pub mod Blank
+pub mod Probes

@@ -18,14 +18,9 @@ use Rattle.device.specs.declared.Model.{Model}
 use Rattle.device.specs.Event.{noSchedule}
 use Rattle.device.specs.Status.{porBit, noBits, statusWord}
 use Rattle.device.specs.Model.{freshWith, freshModel, resetModel, noFlight, noTemperature}
-use Rattle.device.specs.Registers.{half, calendarWord, flightWord, temperatureWord, registerWord, fill}
+use Rattle.device.specs.Registers.{half, calendarWord, flightWord, temperatureWord, registerWord, fill, upwards}
 use Rattle.device.specs.Write.{covers, written, withWord, setupAfter}
 use Rattle.device.specs.Claim.{Holds}
-
--- the n addresses from a on
-abbrev pub upwards : ℕ → ℕ → List ℕ
-upwards a zero = []
-upwards a (suc n) = a ∷ upwards (a + 1) n
 
 abbrev pub reads : Model → ℕ → List ℕ
 reads m a = map (registerWord m) (upwards a 16)

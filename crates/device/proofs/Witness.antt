@@ -1,31 +1,36 @@
 -- The third demand's hypotheses can be met: a list of calls after which each event command is accepted, and calls that may
--- follow it.
+-- follow it. Two lists that differ in their probes alone, and what they leave.
 use Prim.Native.Nat.{ℕ}
 use mathlib.Core.Bool.{true, false}
-use mathlib.Core.List.{List, [], _∷_, map}
+use mathlib.Core.List.{List, [], _∷_, _++_, map}
 use mathlib.Core.Path.{_≡_, refl}
 use Rattle.calendar.specs.Calendar.{leap, monthLength, dateFits, timeFits, clockValid, start}
 use Rattle.calendar.specs.Calendar.{tickClock}
 use Rattle.calendar.specs.Words.{bcd, hundredthsOf, word30, word31, hourDigits, word32, word33, minuteIn, twelveIn, hourNamed, hourIn, ticksIn, clockFrom}
 use Rattle.calendar.specs.Words.{timeDigits, hourFits, digitsFit, wordsValid, alarmValid}
 use Rattle.register.specs.Setup.{factory, alarmWord, flightUnset, temperatureUnset, clockStands, eventUnset}
-use Rattle.register.specs.Setup.{differenceCount, temperatureCount}
+use Rattle.register.specs.Setup.{differenceCount, temperatureCount, differencePeriod, temperaturePeriod, hitCount, timeout, portCycle}
 use Rattle.frame.specs.Frame.{isCommand, isWrite, isRead, notWhole, pastEnd, wordAt}
+use Rattle.measurement.specs.Limit.{lateFrom, openFrom, anyFrom}
+use Rattle.measurement.specs.Words.{wordOrZero, six, four, sixTotal, average, filled, portPair, portPairs, plusEach}
+use Rattle.measurement.specs.Difference.{differenceWord, biased, differenceMean, portMean}
 use Rattle.device.specs.Event.{noSchedule, scheduleSound, awaits, inEvent, fails, eventStart, tickSchedule, begins, leftAfter, waitAfter, startedAfter}
-use Rattle.device.specs.Event.{settledAfter}
+use Rattle.device.specs.Event.{settledAfter, settle}
 use Rattle.device.specs.Status.{porBit, joined}
 use Rattle.device.specs.Model.{freshModel, freshWith, noFlight, noTemperature, sumFits, flightSound, temperatureSound, sound, kindBusy, busy}
-use Rattle.device.specs.Registers.{calendarWord}
+use Rattle.device.specs.Registers.{calendarWord, half, flightWord, temperatureWord, registerWord}
 use Rattle.device.specs.Write.{covers, written, withWord, setupAfter, ticksAfter, clockAfter, writeInvalid, writeModel}
-use Rattle.device.specs.Tick.{flightAfter, temperatureAfter, clockTicked, tickModel}
+use Rattle.device.specs.Tick.{flightAfter, temperatureAfter, clockTicked, tickModel, reportOf}
+use Rattle.device.specs.Delivery.{sameCount, flightMiscounted, goodDifference, goodSum, goodFlight, flightGood, goodSums, temperatureGood, temperatureFailed}
 use Rattle.device.specs.Bus.{mustBeIdle, startsFlight, startsTemperature, isEvent, commandBusy, notReady, flightSideUnset}
 use Rattle.device.specs.Bus.{temperatureSideUnset, eventSideUnset, commandUnset, flightEvent, temperatureEvent, eventFlight}
 use Rattle.device.specs.Bus.{eventTemperature, startedEvent, initialised, runModel}
-use Rattle.device.specs.Stretch.{ticked}
-use Rattle.device.specs.Call.{Call, transaction, tick, stretch, accepted, verdict, firstOf, table, reply, replyBy}
+use Rattle.device.specs.Stretch.{ticked, scheduleTicked, lastTick, stretchReport}
+use Rattle.device.specs.Call.{Call, transaction, tick, flight, temperature, stretch, anyLate, anyOpen, accepted, verdict, firstOf, table, reply, replyBy}
 use Rattle.device.specs.Call.{noFrame, notCarried, wrongLength, pastRegisters, shortOutput, whileBusy, badCalendar}
 use Rattle.device.specs.Call.{notInitialised, badSetup, notAwaited, miscounted, tooLong, acceptedAnswer, acceptedModel}
-use Rattle.device.specs.Claim.{Entry, after, log, isRefusal, isReading, onlyReads, command}
+use Rattle.device.specs.Claim.{Entry, after, log, isRefusal, isReading, onlyReads, command, startReported, named}
+use Rattle.device.specs.Probes.{OtherProbesIn, same, values, none, next, Flow, flowOf, flowThrough}
 
 -- PL and DPL, TP, Initialize
 abbrev pub before : List Call
@@ -53,3 +58,40 @@ pub later-read :
     ≡ false ∷ false ∷ false ∷ [])
 unfolding ticked begins leftAfter waitAfter startedAfter log onlyReads isRefusal isReading acceptedAnswer startedEvent eventFlight flightEvent eventStart differenceCount eventTemperature temperatureEvent temperatureCount tickModel clockTicked tickClock flightAfter fails tickSchedule settledAfter temperatureAfter after reply replyBy verdict firstOf table noFrame notCarried wrongLength pastRegisters shortOutput whileBusy badCalendar notInitialised badSetup notAwaited miscounted tooLong acceptedModel freshModel freshWith porBit noFlight noTemperature noSchedule start factory sound sumFits flightSound temperatureSound scheduleSound clockValid dateFits timeFits leap monthLength kindBusy busy awaits inEvent isCommand isWrite isRead notWhole pastEnd wordAt calendarWord word30 word31 hourDigits word32 word33 bcd hundredthsOf minuteIn twelveIn hourNamed hourIn ticksIn clockFrom timeDigits hourFits digitsFit wordsValid alarmValid alarmWord covers written withWord setupAfter ticksAfter clockAfter writeInvalid writeModel mustBeIdle startsFlight startsTemperature isEvent commandBusy notReady flightSideUnset temperatureSideUnset eventSideUnset commandUnset flightUnset temperatureUnset eventUnset clockStands runModel initialised joined
 later-read = (refl, refl)
+
+-- An event of both kinds, with a delivery of each.
+abbrev pub withProbes : List ℕ → List Call
+withProbes w =
+    before ++
+    (command 7 [] ∷ temperature w ∷ flight (20000000 ∷ []) (19000000 ∷ []) ∷ tick ∷ stretch 2 ∷ [])
+
+-- four whole ports, and four open ones
+abbrev pub whole : List ℕ
+whole = 4000000 ∷ 4000000 ∷ 4000000 ∷ 4000000 ∷ []
+
+abbrev pub cut : List ℕ
+cut = 0x80000000 ∷ 0x80000000 ∷ 0x80000000 ∷ 0x80000000 ∷ []
+
+pub other-probes : OtherProbesIn (withProbes whole) (withProbes cut)
+other-probes =
+    next _ _ _ _ (same _)
+    (next _ _ _ _ (same _)
+    (next _ _ _ _ (same _)
+    (next _ _ _ _ (same _)
+    (next _ _ _ _ (values whole cut refl)
+    (next _ _ _ _ (same _) (next _ _ _ _ (same _) (next _ _ _ _ (same _) none)))))))
+
+-- HIT1UP, HIT1DN, TOF_DIFF, E4h and TOF_DIFF_AVG are those of 20,000,000 and 19,000,000 in both; T1 and EFh are not the same
+pub probes-seen :
+    map (λ (w : List ℕ). map (registerWord (after freshModel (withProbes w))) (0xC5 ∷ 0xD4 ∷ 0xE2 ∷ 0xE4 ∷ 0xE5 ∷ 0xE7 ∷ 0xEF ∷ []))
+    (whole ∷ cut ∷ [])
+    ≡ (305 ∷ 289 ∷ 15 ∷ 1 ∷ 15 ∷ 61 ∷ 1 ∷ []) ∷ (305 ∷ 289 ∷ 15 ∷ 1 ∷ 15 ∷ 0xFFFF ∷ 0 ∷ []) ∷ []
+unfolding startReported named stretchReport lastTick scheduleTicked reportOf registerWord flightWord temperatureWord half settle goodFlight goodSum goodDifference flightGood temperatureGood temperatureFailed goodSums six four average sixTotal filled portPairs portPair plusEach wordOrZero biased differenceWord differenceMean portMean anyLate anyOpen anyFrom lateFrom openFrom hitCount timeout portCycle flightMiscounted sameCount differencePeriod temperaturePeriod ticked begins leftAfter waitAfter startedAfter log onlyReads isRefusal isReading acceptedAnswer startedEvent eventFlight flightEvent eventStart differenceCount eventTemperature temperatureEvent temperatureCount tickModel clockTicked tickClock flightAfter fails tickSchedule settledAfter temperatureAfter after reply replyBy verdict firstOf table noFrame notCarried wrongLength pastRegisters shortOutput whileBusy badCalendar notInitialised badSetup notAwaited miscounted tooLong acceptedModel freshModel freshWith porBit noFlight noTemperature noSchedule start factory sound sumFits flightSound temperatureSound scheduleSound clockValid dateFits timeFits leap monthLength kindBusy busy awaits inEvent isCommand isWrite isRead notWhole pastEnd wordAt calendarWord word30 word31 hourDigits word32 word33 bcd hundredthsOf minuteIn twelveIn hourNamed hourIn ticksIn clockFrom timeDigits hourFits digitsFit wordsValid alarmValid alarmWord covers written withWord setupAfter ticksAfter clockAfter writeInvalid writeModel mustBeIdle startsFlight startsTemperature isEvent commandBusy notReady flightSideUnset temperatureSideUnset eventSideUnset commandUnset flightUnset temperatureUnset eventUnset clockStands runModel initialised joined
+probes-seen = refl
+
+-- and the command's answer reports a start
+pub start-seen :
+    map (λ (f : Flow). f .started) (flowThrough freshModel (withProbes cut))
+    ≡ false ∷ false ∷ false ∷ true ∷ false ∷ false ∷ false ∷ false ∷ []
+unfolding flowThrough flowOf startReported named stretchReport lastTick scheduleTicked reportOf registerWord flightWord temperatureWord half settle goodFlight goodSum goodDifference flightGood temperatureGood temperatureFailed goodSums six four average sixTotal filled portPairs portPair plusEach wordOrZero biased differenceWord differenceMean portMean anyLate anyOpen anyFrom lateFrom openFrom hitCount timeout portCycle flightMiscounted sameCount differencePeriod temperaturePeriod ticked begins leftAfter waitAfter startedAfter log onlyReads isRefusal isReading acceptedAnswer startedEvent eventFlight flightEvent eventStart differenceCount eventTemperature temperatureEvent temperatureCount tickModel clockTicked tickClock flightAfter fails tickSchedule settledAfter temperatureAfter after reply replyBy verdict firstOf table noFrame notCarried wrongLength pastRegisters shortOutput whileBusy badCalendar notInitialised badSetup notAwaited miscounted tooLong acceptedModel freshModel freshWith porBit noFlight noTemperature noSchedule start factory sound sumFits flightSound temperatureSound scheduleSound clockValid dateFits timeFits leap monthLength kindBusy busy awaits inEvent isCommand isWrite isRead notWhole pastEnd wordAt calendarWord word30 word31 hourDigits word32 word33 bcd hundredthsOf minuteIn twelveIn hourNamed hourIn ticksIn clockFrom timeDigits hourFits digitsFit wordsValid alarmValid alarmWord covers written withWord setupAfter ticksAfter clockAfter writeInvalid writeModel mustBeIdle startsFlight startsTemperature isEvent commandBusy notReady flightSideUnset temperatureSideUnset eventSideUnset commandUnset flightUnset temperatureUnset eventUnset clockStands runModel initialised joined
+start-seen = refl

@@ -10,4 +10,5 @@ pub mod Bus
 pub mod Call
 pub mod Claim
 pub mod Form
+pub mod Probes
 pub mod Bench

@@ -1,7 +1,7 @@
 -- What a read of each register gives, at the read addresses B0h to FFh.
 use Prim.Native.Nat.{ℕ, zero, suc, _+_, _-_, _*_, _/_, _%_}
 use mathlib.Core.Bool.{Bool, true, false}
-use mathlib.Core.List.{List}
+use mathlib.Core.List.{List, [], _∷_}
 use lib.ListN.{getD, set}
 use lib.Dec.{ltb, eqb}
 use Rattle.unit.specs.Choice.{pick}
@@ -57,3 +57,8 @@ putWord out i w = set (set out (2 * i) (w / 256 % 256)) (2 * i + 1) (w % 256)
 unfoldable pub fill : Model → ℕ → List ℕ → ℕ → List ℕ
 fill m a out zero = out
 fill m a out (suc n) = putWord (fill m a out n) n (registerWord m (a + n))
+
+-- the n addresses from a on
+abbrev pub upwards : ℕ → ℕ → List ℕ
+upwards a zero = []
+upwards a (suc n) = a ∷ upwards (a + 1) n

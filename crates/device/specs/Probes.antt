@@ -1,0 +1,60 @@
+-- A change of probes and the flow. Quotations are from Note 14 of the change requests where no other place is named.
+use Prim.Native.Nat.{ℕ}
+use mathlib.Core.Bool.{Bool}
+use mathlib.Core.List.{List, [], _∷_, _++_, map}
+use mathlib.Core.Path.{_≡_}
+use lib.ListN.{length}
+use Rattle.device.specs.declared.Model.{Model}
+use Rattle.device.specs.declared.Reply.{Reply}
+use Rattle.device.specs.Registers.{registerWord, upwards}
+use Rattle.device.specs.Call.{Call, transaction, temperature, reply}
+use Rattle.device.specs.Claim.{differences, startReported, named}
+
+-- Calls "that differ only in the values of delivered temperature words": as many words, of any values.
+pub data OtherProbes : Call → Call → Type 0 where
+  same : (c : Call) → OtherProbes c c
+  values : (v w : List ℕ) → length v ≡ length w → OtherProbes (temperature v) (temperature w)
+  -- "temperature registers and what reads of them return may differ": a buffer that is lent again may hold such bytes
+  buffer : (f o p : List ℕ) → length o ≡ length p → OtherProbes (transaction f o) (transaction f p)
+
+-- "equal call lists" but for that, call by call
+pub data OtherProbesIn : List Call → List Call → Type 0 where
+  none : OtherProbesIn [] []
+  next : (c d : Call) (cs ds : List Call) → OtherProbes c d → OtherProbesIn cs ds → OtherProbesIn (c ∷ cs) (d ∷ ds)
+
+-- Where "HIT, AVG, TOF_DIFF, E4h and TOF_DIFF_AVG" are read. 01: "Up results stand at C5h to D2h, down at D4h to E1h (HIT 1 to
+-- 6, then AVG ..), TOF_DIFF E2h, E3h"; "averages (E5h, E6h; ..)"
+unfoldable pub flowRegisters : List ℕ
+flowRegisters =
+    upwards 0xC5 14 ++
+    upwards 0xD4 14 ++
+    (0xE2 ∷ 0xE3 ∷ []) ++
+    (0xE4 ∷ []) ++
+    (0xE5 ∷ 0xE6 ∷ [])
+
+-- What is compared after a call.
+pub record Flow : Type 0 where
+  -- "difference starts": whether a command's or a tick's answer reports one, and the tick that a stretch's answer names, 0 for
+  -- none
+  pub started : Bool
+  pub tick : ℕ
+  pub words : List ℕ
+
+unfoldable pub flowOf : Reply → Flow
+flowOf r =
+    record {
+      started = startReported differences (r .answer);
+      tick = named differences (r .answer) .started;
+      words = map (registerWord (r .model)) flowRegisters;
+    }
+
+-- "after every call"
+unfoldable pub flowThrough : Model → List Call → List Flow
+flowThrough m [] = []
+flowThrough m (c ∷ cs) = flowOf (reply m c) ∷ flowThrough (reply m c .model) cs
+
+-- "Two runs from equal models with equal call lists that differ only in the values of delivered temperature words must report
+-- the same difference starts and the same .. words after every call." For every model, sound or not, and every list, refused
+-- calls among them.
+abbrev pub ProbesClaim : Type 0
+ProbesClaim = (m : Model) (cs ds : List Call) → OtherProbesIn cs ds → flowThrough m cs ≡ flowThrough m ds

@@ -42,6 +42,8 @@ pub const PORTS: usize = 4;
 const QUANTA_PER_PERIOD: i64 = 65_536;
 /// A word of this size or more means that no hit came.
 const NO_HIT: i64 = 1 << 31;
+/// A port whose word is below this is short: 8 µs, 32 periods of 4 MHz.
+pub const SHORT_LIMIT: i64 = 32 * QUANTA_PER_PERIOD;
 
 /// When the alarm flag is set.
 #[derive(Clone, Copy, PartialEq, Eq)]

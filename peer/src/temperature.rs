@@ -2,7 +2,7 @@
 
 use crate::model::{Model, Outcome};
 use crate::refusal::Refusal;
-use crate::registers::{self, pair, status, PORTS};
+use crate::registers::{self, pair, status, PORTS, SHORT_LIMIT};
 
 impl Model {
     pub fn deliver_temperature(&mut self, words: &[i64]) -> Result<Outcome, Refusal> {
@@ -13,25 +13,28 @@ impl Model {
             return Err(Refusal::WordCount);
         }
         let limit = self.registers.open_limit();
-        let mut any_open = false;
         for (port, &word) in words.iter().enumerate() {
-            let open = word >= limit;
-            any_open |= open;
-            let shown = if open { -1 } else { word };
+            let shown = match word {
+                _ if word >= limit => -1,
+                _ if word < SHORT_LIMIT => 0,
+                _ => word,
+            };
             self.registers
                 .set_pair(pair(registers::PORT_RESULTS, port), shown);
         }
+        let any_open = words.iter().any(|&word| word >= limit);
+        let any_short = words.iter().any(|&word| word < SHORT_LIMIT);
         if any_open {
             self.registers.raise(status::TO);
-        } else {
-            self.count_temperature(words);
         }
-        self.settle_temperature();
-        Ok(if any_open {
+        let outcome = if any_open || any_short {
             Outcome::Failed
         } else {
+            self.count_temperature(words);
             Outcome::Good
-        })
+        };
+        self.settle_temperature();
+        Ok(outcome)
     }
 
     fn count_temperature(&mut self, words: &[i64]) {

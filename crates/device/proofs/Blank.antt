@@ -28,7 +28,7 @@ use Rattle.device.specs.Bus.{startedEvent, initialised, haltedModel, sin
 use Rattle.device.specs.Call.{Call, transaction, tick, flight, temperature, stretch, opcode, words, Row, table}
 use Rattle.device.specs.Call.{noFrame, notCarried, wrongLength, pastRegisters, shortOutput, whileBusy}
 use Rattle.device.specs.Call.{badCalendar, notInitialised, badSetup, notAwaited, miscounted, tooLong}
-use Rattle.device.specs.Call.{anyLate, anyOpen, acceptedAnswer, acceptedModel}
+use Rattle.device.specs.Call.{anyLate, portFault, acceptedAnswer, acceptedModel}
 use Rattle.device.specs.Claim.{differences, startReported, named}
 use Rattle.device.specs.Probes.{OtherProbes, same, values, buffer}
 
@@ -130,13 +130,15 @@ good-settles : (m : Model) (w : List ℕ) → blank (temperatureGood m w) ≡ se
 unfolding temperatureGood settledOne blank unmeasured
 good-settles m w = rw (settled-same (m .temperature .schedule) true true)
 
-failed-settles : (m : Model) (limit : Quanta) (w : List ℕ) → blank (temperatureFailed m limit w) ≡ settledOne (blank m)
+failed-settles :
+    (m : Model) (limit : Quanta) (opened : Bool) (w : List ℕ) →
+    blank (temperatureFailed m limit opened w) ≡ settledOne (blank m)
 unfolding temperatureFailed settledOne blank unmeasured
-failed-settles m limit w = rw (settled-same (m .temperature .schedule) false true)
+failed-settles m limit opened w = rw (settled-same (m .temperature .schedule) false true)
 
 settles : (m : Model) (w : List ℕ) → blank (acceptedModel m (temperature w)) ≡ settledOne (blank m)
 unfolding acceptedModel
-settles m w = by-test (anyOpen m w) (λ e. rw e (failed-settles m _ _)) (λ e. rw e (good-settles m _))
+settles m w = by-test (portFault m w) (λ e. rw e (failed-settles m _ _ _)) (λ e. rw e (good-settles m _))
 
 temperature-same :
     (m : Model) (w : List ℕ) →
@@ -191,7 +193,7 @@ flight-reports m u d = delivery-reports (anyLate m u d)
 
 temperature-reports : (m : Model) (w : List ℕ) → reported (acceptedAnswer m (temperature w)) ≡ (false, 0)
 unfolding acceptedAnswer
-temperature-reports m w = delivery-reports (anyOpen m w)
+temperature-reports m w = delivery-reports (portFault m w)
 
 report-same : (m : Model) (c : Call) → reported (acceptedAnswer m c) ≡ reported (acceptedAnswer (blank m) c)
 unfolding reported startReported named acceptedAnswer blank

@@ -148,7 +148,7 @@ pub temperature-expires :
     limit .0 ≤ getD w 2 0 →
     limit .0 ≤ getD w 3 0 →
     expires (m .temperature .schedule) ≡ true →
-    SameTemperature (tickModel m .temperature) (temperatureFailed m limit w .temperature)
+    SameTemperature (tickModel m .temperature) (temperatureFailed m limit true w .temperature)
 unfolding tickModel temperatureAfter temperatureFailed
 temperature-expires m limit w h i j k e =
     rw e
@@ -180,6 +180,6 @@ module _ (m : Model) (a : alarmRaised m (clockTicked m) ≡ false) where
       (limit : Quanta) (w : List ℕ) →
       expires (m .temperature .schedule) ≡ true →
       expires (m .flight .schedule) ≡ false →
-      tickModel m .status ≡ temperatureFailed m limit w .status
+      tickModel m .status ≡ temperatureFailed m limit true w .status
   unfolding tickModel tickStatus temperatureFailed temperatureStatus flightBits
   temperature-expiry-bits limit w e f = rw (a, e, f) (simp (no-alarm, no-bits))

@@ -27,7 +27,7 @@ use Rattle.device.specs.Bus.{readModel}
 use Rattle.device.specs.Call.{Call, transaction, tick, flight, temperature, stretch, opcode, words}
 use Rattle.device.specs.Call.{noFrame, notCarried, wrongLength, pastRegisters, shortOutput, whileBusy}
 use Rattle.device.specs.Call.{badCalendar, notInitialised, badSetup, notAwaited, miscounted, tooLong}
-use Rattle.device.specs.Call.{table, Verdict, accepted, refused, firstOf, verdict, anyLate, anyOpen}
+use Rattle.device.specs.Call.{table, Verdict, accepted, refused, firstOf, verdict, anyLate, anyOpen, portFault}
 use Rattle.device.specs.Call.{acceptedAnswer, acceptedModel, refuse, accept, replyBy, reply}
 use Rattle.device.specs.Claim.{isRefusal, isReading, isTick, spanOf, stretchIn, ticksIn}
 use Rattle.device.proofs.Table.{NoneHolds, none-holds}
@@ -56,13 +56,13 @@ pub data Step (m : Model) : Call → Reply → Type 0 where
   ports-failed :
       (w : List ℕ) →
       NoneHolds m (temperature w) →
-      anyOpen m w ≡ true →
+      portFault m w ≡ true →
       Step m (temperature w)
-      (record { answer = Failed; model = temperatureFailed m (openFrom (portCycle (m .setup))) (four w) })
+      (record { answer = Failed; model = temperatureFailed m (openFrom (portCycle (m .setup))) (anyOpen m w) (four w) })
   ports-good :
       (w : List ℕ) →
       NoneHolds m (temperature w) →
-      anyOpen m w ≡ false →
+      portFault m w ≡ false →
       Step m (temperature w) (record { answer = Good; model = temperatureGood m (four w) })
   stretching :
       (n : ℕ) →
@@ -104,7 +104,7 @@ accepted-step m tick n p = ticking
 accepted-step m (flight u d) n p =
     by-test (anyLate m u d) (λ l. rw l (flight-failed u d n l)) (λ l. rw l (flight-good u d n l))
 accepted-step m (temperature w) n p =
-    by-test (anyOpen m w) (λ l. rw l (ports-failed w n l)) (λ l. rw l (ports-good w n l))
+    by-test (portFault m w) (λ l. rw l (ports-failed w n l)) (λ l. rw l (ports-good w n l))
 accepted-step m (stretch k) n p = stretching k (ltb-false 16384 k (n .row12))
 
 -- a sound model refuses no tick

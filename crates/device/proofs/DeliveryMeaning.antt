@@ -1,23 +1,34 @@
 -- What a delivery leaves in the results, good and failed. Which registers read them is in RegisterMeaning.
-use Prim.Native.Nat.{ℕ, zero, suc, _/_, _≤_, _<_}
+use Prim.Native.Nat.{ℕ, zero, suc, _+_, _*_, _/_, _≤_, _<_}
 use native.Mathlib.Omega.{arith}
 use mathlib.Core.Bool.{true, false}
 use mathlib.Core.List.{List, [], _∷_, map}
-use mathlib.Core.Logic.{_⊎_, ⊎-elim}
+use mathlib.Core.Logic.{_↔_, _⊎_, ⊎-elim}
 use mathlib.Core.Path.{_≡_, refl, sym}
 use lib.ListN.{length, getD, List·getD-eq-default}
-use borrow.Author.Tests.{le-leb, lt-leb}
+use Rattle.unit.specs.Choice.{either}
 use Rattle.unit.specs.Cases.{by-test, by-ltb}
 use Rattle.unit.specs.declared.Quanta.{Quanta}
+use Rattle.register.specs.Setup.{portCycle}
+use Rattle.measurement.specs.Limit.{openFrom, shortBelow, anyBelow, anyFault}
 use Rattle.measurement.specs.Difference.{differenceWord}
 use Rattle.measurement.specs.Mean.{sum}
 use Rattle.measurement.specs.Words.{wordOrZero, six, four, average, filled, lost, portPair, portPairs}
-use Rattle.measurement.proofs.Sum.{six-total}
+use Rattle.measurement.proofs.Sum.{six-total, neither}
+use Rattle.measurement.proofs.Ports.{port-open, port-short, port-whole}
+use Rattle.measurement.proofs.Meaning.{short-not-open, whole-means}
 use Rattle.device.specs.declared.Flight.{Flight}
 use Rattle.device.specs.declared.Model.{Model}
 use Rattle.device.specs.Registers.{half, flightWord, registerWord, upwards}
 use Rattle.device.specs.Tick.{lostDifference, lostFlight}
-use Rattle.device.specs.Delivery.{goodDifference, goodFlight, flightFailed, temperatureGood, temperatureFailed}
+use Rattle.device.specs.declared.Answer.the-variants.{Good}
+use Rattle.device.specs.Event.{settle}
+use Rattle.device.specs.Status.{joined, temperatureBits}
+use Rattle.device.specs.Delivery.{goodDifference, goodFlight, flightFailed, temperatureStatus, temperatureGood, temperatureFailed}
+use Rattle.device.specs.Call.{temperature, miscounted, anyOpen, portFault, acceptedAnswer, acceptedModel}
+use Rattle.device.specs.Claim.{Holds, Whole}
+use Rattle.device.proofs.Sound.{ports-good}
+use Rattle.device.proofs.RegisterMeaning.{reads-ports}
 
 word-or-zero : (ws : List ℕ) (i : ℕ) → wordOrZero ws i ≡ getD ws i 0
 unfolding wordOrZero
@@ -139,7 +150,8 @@ module _ (m : Model) where
   unfolding flightFailed lostFlight lostDifference
   failed-difference-kept = ⊎-elim (λ e. rw e) (λ e. by-test (m .flight .up) (λ g. rw (g, e)) (λ g. rw g))
 
--- "An open port reads FFFFh FFFFh, the others their words"
+-- "An open port reads FFFFh FFFFh, the others their words"; "A word below 32 × 65,536 now reads 0000h 0000h for that port"
+-- (Note 3): each port of an accepted delivery by its own word, whatever the others are
 port-at : (limit : Quanta) (w : List ℕ) (i : ℕ) → i < 4 → getD (portPairs limit w) i 0 ≡ portPair limit (getD w i 0)
 unfolding portPairs
 port-at limit w zero h = refl
@@ -148,17 +160,64 @@ port-at limit w (suc (suc zero)) h = refl
 port-at limit w (suc (suc (suc zero))) h = refl
 port-at limit w (suc (suc (suc (suc i)))) h = absurd (omega arith)
 
-module _ (m : Model) (limit : Quanta) (w : List ℕ) (i : ℕ) (h : i < 4) where
-  pub open-port :
-      limit .0 ≤ getD w i 0 → getD (temperatureFailed m limit (four w) .temperature .ports) i 0 ≡ 0xFFFFFFFF
-  unfolding temperatureFailed portPair
-  open-port l = rw (port-at limit (four w) i h, four-means w i h, le-leb (limit .0) (getD w i 0) l)
+module _ (m : Model) (w : List ℕ) (e : miscounted m (temperature w) ≡ false) where
+  ports-left : acceptedModel m (temperature w) .temperature .ports ≡ portPairs (openFrom (portCycle (m .setup))) (four w)
+  unfolding acceptedModel temperatureFailed temperatureGood
+  ports-left = by-test (portFault m w) (λ f. rw f) (λ f. rw f (sym (ports-good m w e f .kept)))
 
-  pub whole-port :
-      getD w i 0 < limit .0 → getD (temperatureFailed m limit (four w) .temperature .ports) i 0 ≡ getD w i 0
-  unfolding temperatureFailed portPair
-  whole-port l = rw (port-at limit (four w) i h, four-means w i h, lt-leb (limit .0) (getD w i 0) l)
+  port-reads :
+      (i : ℕ) →
+      i < 4 →
+      Holds (acceptedModel m (temperature w)) (0xE7 + 2 * i) (portPair (openFrom (portCycle (m .setup))) (getD w i 0))
+  port-reads i h =
+      rw (← four-means w i h, ← port-at (openFrom (portCycle (m .setup))) (four w) i h, ← ports-left)
+      (reads-ports (acceptedModel m (temperature w)) i h)
 
-  pub good-port : getD (temperatureGood m (four w) .temperature .ports) i 0 ≡ getD w i 0
-  unfolding temperatureGood
-  good-port = four-means w i h
+  module _ (i : ℕ) (h : i < 4) where
+    pub open-port :
+        openFrom (portCycle (m .setup)) .0 ≤ getD w i 0 →
+        Holds (acceptedModel m (temperature w)) (0xE7 + 2 * i) 0xFFFFFFFF
+    open-port o = rw (port-open (openFrom (portCycle (m .setup))) (getD w i 0) o) at (port-reads i h)
+
+    pub short-port :
+        getD w i 0 < 32 * 65536 → Holds (acceptedModel m (temperature w)) (0xE7 + 2 * i) 0
+    unfolding shortBelow
+    short-port l =
+        rw (port-short (openFrom (portCycle (m .setup))) (getD w i 0) (short-not-open _ _ l) l) at (port-reads i h)
+
+    pub whole-port :
+        32 * 65536 ≤ getD w i 0 →
+        getD w i 0 < openFrom (portCycle (m .setup)) .0 →
+        Holds (acceptedModel m (temperature w)) (0xE7 + 2 * i) (getD w i 0)
+    unfolding shortBelow
+    whole-port l o = rw (port-whole (openFrom (portCycle (m .setup))) (getD w i 0) o l) at (port-reads i h)
+
+module _ (m : Model) (w : List ℕ) where
+  -- "its delivery, single or of an event, is answered failed": good exactly where all words are neither short nor open
+  pub good-words : (acceptedAnswer m (temperature w) ≡ Good) ↔ Whole (m .setup) w
+  unfolding acceptedAnswer portFault
+  good-words =
+      let f = whole-means (openFrom (portCycle (m .setup))) w in
+      by-test (anyFault (openFrom (portCycle (m .setup))) w)
+      (λ t. rw t (
+        λ e. let z : _≡_ {A = ℕ} 0 1 = cc in absurd (omega arith),
+        λ h. let g = f .1 h in let z : _≡_ {A = ℕ} 0 1 = cc in absurd (omega arith),
+      ))
+      (λ t. rw t (λ e. f .0 t, λ h. refl))
+
+  -- "the cycle counts as failed": it is settled, adds no word to a sum and none to the count
+  pub fault-settles :
+      portFault m w ≡ true →
+      (acceptedModel m (temperature w) .temperature .schedule ≡ settle (m .temperature .schedule) false) ×
+      (acceptedModel m (temperature w) .temperature .sums ≡ m .temperature .sums)
+  unfolding acceptedModel temperatureFailed
+  fault-settles f = rw f (refl, refl)
+
+  -- "A short alone does not set TO; an open port in the same delivery still does."
+  pub open-sets-timeout :
+      acceptedModel m (temperature w) .status .timeout ≡ either (m .status .timeout) (anyOpen m w)
+  unfolding acceptedModel temperatureFailed temperatureGood temperatureStatus temperatureBits joined portFault anyFault anyOpen
+  open-sets-timeout =
+      by-test (portFault m w)
+      (λ f. rw f)
+      (λ f. rw (f, neither (anyOpen m w) (anyBelow shortBelow w) f .0))

@@ -22,7 +22,7 @@ use Rattle.device.specs.Stretch.{ticked}
 use Rattle.device.specs.Delivery.{flightGood, flightFailed, temperatureGood, temperatureFailed}
 use Rattle.device.specs.Bus.{isEvent, startedEvent, initialised, haltedModel, singleStarted, runModel, readModel}
 use Rattle.device.specs.Call.{Call, transaction, tick, flight, temperature, stretch, opcode, words}
-use Rattle.device.specs.Call.{Verdict, accepted, refused, verdict, anyLate, anyOpen, acceptedAnswer, acceptedModel, replyBy, reply}
+use Rattle.device.specs.Call.{Verdict, accepted, refused, verdict, anyLate, portFault, acceptedAnswer, acceptedModel, replyBy, reply}
 use Rattle.device.specs.Claim.{isRefusal, after, log}
 use Rattle.device.specs.Form.{formGiven, lastForm, FormClaim}
 use Rattle.device.proofs.Sound.{Bounds, bounds-of, fresh-sound, keeps-sound, ticked-bounds}
@@ -76,7 +76,7 @@ given m (transaction f o) s =
     (λ w. rw (c, w) (read-form m (opcode f) (words f), refl)))
 given m tick s = (tick-model-form m (bounds-of m s), refl)
 given m (flight u d) s = by-test (anyLate m u d) (λ e. rw e (refl, refl)) (λ e. rw e (refl, refl))
-given m (temperature w) s = by-test (anyOpen m w) (λ e. rw e (refl, refl)) (λ e. rw e (refl, refl))
+given m (temperature w) s = by-test (portFault m w) (λ e. rw e (refl, refl)) (λ e. rw e (refl, refl))
 given m (stretch n) s = (ticked-form n m (bounds-of m s), refl)
 
 -- One call, accepted or refused.

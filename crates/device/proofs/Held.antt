@@ -10,14 +10,16 @@ use borrow.Author.Tests.{ltb-true, lt-ltb, eqb-true}
 use Rattle.unit.specs.Choice.{pick, negate}
 use Rattle.unit.specs.Cases.{by-test}
 use Rattle.calendar.proofs.Laws.{held}
-use Rattle.register.specs.Setup.{hitCount, differencePeriod, differenceCount, temperaturePeriod, temperatureCount}
+use Rattle.register.specs.Setup.{hitCount, portCycle, differencePeriod, differenceCount, temperaturePeriod, temperatureCount}
 use Rattle.register.proofs.Laws.{hits-bounds}
+use Rattle.measurement.specs.Limit.{openFrom}
 use Rattle.measurement.specs.Words.{six, four, average, plusEach}
 use Rattle.measurement.specs.Difference.{biased, differenceMean, portMean}
 use Rattle.measurement.specs.Mean.{All, sum, Averages, InRange, biasedTotal, differenceBits, meanAverages, floorMeanWords}
 use Rattle.measurement.proofs.Limits.{quotient-below}
 use Rattle.measurement.proofs.Sum.{six-total}
 use Rattle.measurement.proofs.Mean.{mean-word, port-mean-words}
+use Rattle.measurement.proofs.Meaning.{whole-means}
 use Rattle.device.specs.declared.Schedule.{Schedule}
 use Rattle.device.specs.declared.Flight.{Flight}
 use Rattle.device.specs.declared.Temperature.{Temperature}
@@ -29,7 +31,7 @@ use Rattle.device.specs.Registers.{half, flightWord, temperatureWord, re
 use Rattle.device.specs.Tick.{lostFlight, flightAfter, temperatureAfter, tickModel, reportOf}
 use Rattle.device.specs.Stretch.{ticked, scheduleTicked, lastTick, stretchReport}
 use Rattle.device.specs.Delivery.{sameCount, flightMiscounted, goodSum, goodFlight, goodSums, flightGood, flightFailed, temperatureGood, temperatureFailed}
-use Rattle.device.specs.Call.{Call, flight, temperature, notAwaited, miscounted, anyLate, anyOpen}
+use Rattle.device.specs.Call.{Call, flight, temperature, notAwaited, miscounted, anyLate, portFault}
 use Rattle.device.specs.Claim.{Kind, differences, temperatures, periodOf, countOf, History, noteTick, noteGood, noteFailed, note}
 use Rattle.device.specs.Claim.{isTick, isDelivery, isGood, isFailed, startReported, failureReported, noneLost}
 use Rattle.device.specs.Claim.{isRefusal, spanOf, stretchIn, named, noteTicks}
@@ -192,10 +194,10 @@ module _ (m : Model) (h : History) (i : TemperatureHeld (m .setup) h (m .tempera
   ports-fail :
       (w ports : List ℕ) →
       NoneHolds m (temperature w) →
-      anyOpen m w ≡ true →
+      portFault m w ≡ true →
       TemperatureHeld (m .setup) (noteFailed (m .setup) (temperature w) h)
       (record { schedule = settle (m .temperature .schedule) false; sums = m .temperature .sums; ports = ports })
-  unfolding noteFailed notAwaited anyOpen noneLost
+  unfolding noteFailed notAwaited portFault noneLost
   ports-fail w ports n l =
       let k : Schedule = m .temperature .schedule in
       record {
@@ -208,14 +210,14 @@ module _ (m : Model) (h : History) (i : TemperatureHeld (m .setup) h (m .tempera
   ports-add :
       (w : List ℕ) →
       NoneHolds m (temperature w) →
-      anyOpen m w ≡ false →
+      portFault m w ≡ false →
       TemperatureHeld (m .setup) (noteGood (m .setup) (temperature w) h)
       (record {
         schedule = settle (m .temperature .schedule) true;
         sums = goodSums (m .temperature) (four w);
         ports = four w;
       })
-  unfolding goodSums plusEach portWord noteGood noneLost notAwaited miscounted anyOpen
+  unfolding goodSums plusEach portWord noteGood noneLost notAwaited miscounted portFault
   ports-add w n l =
       let k : Schedule = m .temperature .schedule in
       let p = Sound.ports-good m w (n .row11) l in
@@ -237,8 +239,10 @@ module _ (m : Model) (h : History) (i : TemperatureHeld (m .setup) h (m .tempera
             rw map-append
             (all-append Below (map (portWord j) (h .good)) (getD w j 0) (i .below j) (below-at w j (p .each)));
         complete =
-            all-append (Complete (m .setup)) (h .good) (temperature w) (i .complete)
-            (eqb-true (length w) 4 (negated (eqb (length w) 4) (n .row11)));
+            all-append (Complete (m .setup)) (h .good) (temperature w) (i .complete) (
+              eqb-true (length w) 4 (negated (eqb (length w) 4) (n .row11)),
+              whole-means (openFrom (portCycle (m .setup))) w .0 l,
+            );
       }
 
 -- one tick of either kind

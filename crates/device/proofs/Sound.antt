@@ -21,7 +21,7 @@ use Rattle.measurement.specs.Limit.{lateFrom, openFrom, anyFrom}
 use Rattle.measurement.specs.Words.{six, four, average, sixTotal, plusEach}
 use Rattle.measurement.specs.Difference.{biased}
 use Rattle.measurement.proofs.Limits.{quotient-below}
-use Rattle.measurement.proofs.Sum.{hits-fit}
+use Rattle.measurement.proofs.Sum.{neither, hits-fit}
 use Rattle.measurement.proofs.Ports.{Good, good-ports}
 use Rattle.device.specs.declared.Schedule.{Schedule}
 use Rattle.device.specs.declared.Status.{Status}
@@ -37,7 +37,7 @@ use Rattle.device.specs.Delivery.{sameCount, flightMiscounted, goodSum, 
 use Rattle.device.specs.Bus.{startsFlight, startsTemperature, isEvent, flightStarted, flightEvent, temperatureEvent}
 use Rattle.device.specs.Bus.{eventFlight, eventTemperature, startedEvent, initialised, haltedModel, singleStarted, runModel, readModel}
 use Rattle.device.specs.Call.{Call, transaction, tick, flight, temperature, stretch, Verdict, accepted, refused, opcode, words}
-use Rattle.device.specs.Call.{flightFits, anyLate, anyOpen, acceptedModel, miscounted, badCalendar, verdict, reply, replyBy}
+use Rattle.device.specs.Call.{flightFits, anyLate, portFault, acceptedModel, miscounted, badCalendar, verdict, reply, replyBy}
 use Rattle.device.proofs.Table.{NoneHolds, none-holds, negated, picked}
 use Rattle.device.specs.Event.{scheduleSound, noSchedule, single, eventStart, tickSchedule, settledAfter, fails, settle, halted}
 
@@ -374,10 +374,6 @@ hits-counted f hits ups downs e =
     let (d, _) = failed (sameCount (f .down) hits downs) e1 in
     (same-count (f .up) hits ups u, same-count (f .down) hits downs d)
 
-neither : (a b : Bool) → either a b ≡ false → (a ≡ false) × (b ≡ false)
-neither true b e = (e, cc)
-neither false b e = (refl, e)
-
 -- Where no word is late, the six words of each direction have an average below 2^31.
 pub hits-below :
     (m : Model) (u d : List ℕ) →
@@ -411,13 +407,13 @@ flight-bounds m u d e b =
       temperature = b .temperature;
     }))
 
--- Where no port is open, each word is below 2^31.
+-- Where no port is open or short, each word is below 2^31.
 pub ports-good :
     (m : Model) (w : List ℕ) →
     miscounted m (temperature w) ≡ false →
-    anyOpen m w ≡ false →
+    portFault m w ≡ false →
     Good (openFrom (portCycle (m .setup))) w
-unfolding miscounted anyOpen
+unfolding miscounted portFault
 ports-good m w e o =
     good-ports (portCycle (m .setup)) (cycle-below (m .setup)) w
     (eqb-true (length w) 4 (negated (eqb (length w) 4) e)) o
@@ -429,7 +425,7 @@ temperature-bounds :
     Bounds (acceptedModel m (temperature w))
 unfolding acceptedModel temperatureFailed temperatureGood four
 temperature-bounds m w e b =
-    by-test (anyOpen m w)
+    by-test (portFault m w)
     (λ o. rw o
     (record {
       clock = b .clock;

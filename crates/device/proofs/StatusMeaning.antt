@@ -133,17 +133,19 @@ module _ (k : Schedule) (each failed : Bool) where
   unfolding flightBits noBits
   flight-none = refl
 
+-- Of a temperature one an open port sets TO, and a short one does not (Note 3).
+module _ (k : Schedule) (each opened : Bool) where
   pub temperature-single :
-      inEvent k ≡ false → temperatureBits k each true failed ≡ onlyBits failed false true false (lastOne k)
+      inEvent k ≡ false → temperatureBits k each true opened ≡ onlyBits opened false true false (lastOne k)
   unfolding temperatureBits shown
   temperature-single e = rw e
 
   pub temperature-cycle :
-      inEvent k ≡ true → temperatureBits k each true failed ≡ onlyBits failed false each false (lastOne k)
+      inEvent k ≡ true → temperatureBits k each true opened ≡ onlyBits opened false each false (lastOne k)
   unfolding temperatureBits shown
   temperature-cycle e = rw e
 
-  pub temperature-none : temperatureBits k each false failed ≡ onlyBits false false false false false
+  pub temperature-none : temperatureBits k each false opened ≡ onlyBits false false false false false
   unfolding temperatureBits noBits
   temperature-none = refl
 

@@ -13,7 +13,7 @@ use Rattle.device.specs.Model.{sound}
 use Rattle.device.specs.Call.{Call, Row, accepted, refused, verdict, firstOf, table, reply, replyBy, output, outputBy, bufferOf}
 use Rattle.device.specs.Call.{noFrame, notCarried, wrongLength, pastRegisters, shortOutput, whileBusy, badCalendar}
 use Rattle.device.specs.Call.{notInitialised, badSetup, notAwaited, miscounted, tooLong}
-use Rattle.device.specs.Call.{transaction, tick, flight, temperature, stretch, anyLate, anyOpen, acceptedAnswer, numberIn}
+use Rattle.device.specs.Call.{transaction, tick, flight, temperature, stretch, anyLate, portFault, acceptedAnswer, numberIn}
 use Rattle.frame.specs.Frame.{isCommand, isWrite}
 use lib.ListN.{getD}
 
@@ -111,7 +111,7 @@ accepted-number m (transaction f o) =
     (λ _. picked (λ a. numberIn a ≡ []) (isWrite (getD f 0 0)) (λ _. refl) (λ _. refl))
 accepted-number m tick = refl
 accepted-number m (flight u d) = picked (λ a. numberIn a ≡ []) (anyLate m u d) (λ _. refl) (λ _. refl)
-accepted-number m (temperature w) = picked (λ a. numberIn a ≡ []) (anyOpen m w) (λ _. refl) (λ _. refl)
+accepted-number m (temperature w) = picked (λ a. numberIn a ≡ []) (portFault m w) (λ _. refl) (λ _. refl)
 accepted-number m (stretch n) = refl
 
 pub number-refused : (m : Model) (c : Call) (n : ℕ) → verdict m c ≡ refused n → numberIn (reply m c .answer) ≡ n ∷ []

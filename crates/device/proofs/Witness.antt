@@ -11,7 +11,7 @@ use Rattle.calendar.specs.Words.{timeDigits, hourFits, digitsFit, wordsValid, a
 use Rattle.register.specs.Setup.{factory, alarmWord, flightUnset, temperatureUnset, clockStands, eventUnset}
 use Rattle.register.specs.Setup.{differenceCount, temperatureCount, differencePeriod, temperaturePeriod, hitCount, timeout, portCycle}
 use Rattle.frame.specs.Frame.{isCommand, isWrite, isRead, notWhole, pastEnd, wordAt}
-use Rattle.measurement.specs.Limit.{lateFrom, openFrom, anyFrom}
+use Rattle.measurement.specs.Limit.{lateFrom, openFrom, shortBelow, anyWord, anyFrom, anyBelow, anyFault}
 use Rattle.measurement.specs.Words.{wordOrZero, six, four, sixTotal, average, filled, portPair, portPairs, plusEach}
 use Rattle.measurement.specs.Difference.{differenceWord, biased, differenceMean, portMean}
 use Rattle.device.specs.Event.{noSchedule, scheduleSound, awaits, inEvent, fails, eventStart, tickSchedule, begins, leftAfter, waitAfter, startedAfter}
@@ -26,7 +26,7 @@ use Rattle.device.specs.Bus.{mustBeIdle, startsFlight, startsTemperature
 use Rattle.device.specs.Bus.{temperatureSideUnset, eventSideUnset, commandUnset, flightEvent, temperatureEvent, eventFlight}
 use Rattle.device.specs.Bus.{eventTemperature, startedEvent, initialised, runModel}
 use Rattle.device.specs.Stretch.{ticked, scheduleTicked, lastTick, stretchReport}
-use Rattle.device.specs.Call.{Call, transaction, tick, flight, temperature, stretch, anyLate, anyOpen, accepted, verdict, firstOf, table, reply, replyBy}
+use Rattle.device.specs.Call.{Call, transaction, tick, flight, temperature, stretch, anyLate, anyOpen, portFault, accepted, verdict, firstOf, table, reply, replyBy}
 use Rattle.device.specs.Call.{noFrame, notCarried, wrongLength, pastRegisters, shortOutput, whileBusy, badCalendar}
 use Rattle.device.specs.Call.{notInitialised, badSetup, notAwaited, miscounted, tooLong, acceptedAnswer, acceptedModel}
 use Rattle.device.specs.Claim.{Entry, after, log, isRefusal, isReading, onlyReads, command, startReported, named}
@@ -86,12 +86,12 @@ pub probes-seen :
     map (λ (w : List ℕ). map (registerWord (after freshModel (withProbes w))) (0xC5 ∷ 0xD4 ∷ 0xE2 ∷ 0xE4 ∷ 0xE5 ∷ 0xE7 ∷ 0xEF ∷ []))
     (whole ∷ cut ∷ [])
     ≡ (305 ∷ 289 ∷ 15 ∷ 1 ∷ 15 ∷ 61 ∷ 1 ∷ []) ∷ (305 ∷ 289 ∷ 15 ∷ 1 ∷ 15 ∷ 0xFFFF ∷ 0 ∷ []) ∷ []
-unfolding startReported named stretchReport lastTick scheduleTicked reportOf registerWord flightWord temperatureWord half settle goodFlight goodSum goodDifference flightGood temperatureGood temperatureFailed goodSums six four average sixTotal filled portPairs portPair plusEach wordOrZero biased differenceWord differenceMean portMean anyLate anyOpen anyFrom lateFrom openFrom hitCount timeout portCycle flightMiscounted sameCount differencePeriod temperaturePeriod ticked begins leftAfter waitAfter startedAfter log onlyReads isRefusal isReading acceptedAnswer startedEvent eventFlight flightEvent eventStart differenceCount eventTemperature temperatureEvent temperatureCount tickModel clockTicked tickClock flightAfter fails tickSchedule settledAfter temperatureAfter after reply replyBy verdict firstOf table noFrame notCarried wrongLength pastRegisters shortOutput whileBusy badCalendar notInitialised badSetup notAwaited miscounted tooLong acceptedModel freshModel freshWith porBit noFlight noTemperature noSchedule start factory sound sumFits flightSound temperatureSound scheduleSound clockValid dateFits timeFits leap monthLength kindBusy busy awaits inEvent isCommand isWrite isRead notWhole pastEnd wordAt calendarWord word30 word31 hourDigits word32 word33 bcd hundredthsOf minuteIn twelveIn hourNamed hourIn ticksIn clockFrom timeDigits hourFits digitsFit wordsValid alarmValid alarmWord covers written withWord setupAfter ticksAfter clockAfter writeInvalid writeModel mustBeIdle startsFlight startsTemperature isEvent commandBusy notReady flightSideUnset temperatureSideUnset eventSideUnset commandUnset flightUnset temperatureUnset eventUnset clockStands runModel initialised joined
+unfolding startReported named stretchReport lastTick scheduleTicked reportOf registerWord flightWord temperatureWord half settle goodFlight goodSum goodDifference flightGood temperatureGood temperatureFailed goodSums six four average sixTotal filled portPairs portPair plusEach wordOrZero biased differenceWord differenceMean portMean anyLate anyOpen portFault anyFault anyFrom anyBelow anyWord shortBelow lateFrom openFrom hitCount timeout portCycle flightMiscounted sameCount differencePeriod temperaturePeriod ticked begins leftAfter waitAfter startedAfter log onlyReads isRefusal isReading acceptedAnswer startedEvent eventFlight flightEvent eventStart differenceCount eventTemperature temperatureEvent temperatureCount tickModel clockTicked tickClock flightAfter fails tickSchedule settledAfter temperatureAfter after reply replyBy verdict firstOf table noFrame notCarried wrongLength pastRegisters shortOutput whileBusy badCalendar notInitialised badSetup notAwaited miscounted tooLong acceptedModel freshModel freshWith porBit noFlight noTemperature noSchedule start factory sound sumFits flightSound temperatureSound scheduleSound clockValid dateFits timeFits leap monthLength kindBusy busy awaits inEvent isCommand isWrite isRead notWhole pastEnd wordAt calendarWord word30 word31 hourDigits word32 word33 bcd hundredthsOf minuteIn twelveIn hourNamed hourIn ticksIn clockFrom timeDigits hourFits digitsFit wordsValid alarmValid alarmWord covers written withWord setupAfter ticksAfter clockAfter writeInvalid writeModel mustBeIdle startsFlight startsTemperature isEvent commandBusy notReady flightSideUnset temperatureSideUnset eventSideUnset commandUnset flightUnset temperatureUnset eventUnset clockStands runModel initialised joined
 probes-seen = refl
 
 -- and the command's answer reports a start
 pub start-seen :
     map (λ (f : Flow). f .started) (flowThrough freshModel (withProbes cut))
     ≡ false ∷ false ∷ false ∷ true ∷ false ∷ false ∷ false ∷ false ∷ []
-unfolding flowThrough flowOf startReported named stretchReport lastTick scheduleTicked reportOf registerWord flightWord temperatureWord half settle goodFlight goodSum goodDifference flightGood temperatureGood temperatureFailed goodSums six four average sixTotal filled portPairs portPair plusEach wordOrZero biased differenceWord differenceMean portMean anyLate anyOpen anyFrom lateFrom openFrom hitCount timeout portCycle flightMiscounted sameCount differencePeriod temperaturePeriod ticked begins leftAfter waitAfter startedAfter log onlyReads isRefusal isReading acceptedAnswer startedEvent eventFlight flightEvent eventStart differenceCount eventTemperature temperatureEvent temperatureCount tickModel clockTicked tickClock flightAfter fails tickSchedule settledAfter temperatureAfter after reply replyBy verdict firstOf table noFrame notCarried wrongLength pastRegisters shortOutput whileBusy badCalendar notInitialised badSetup notAwaited miscounted tooLong acceptedModel freshModel freshWith porBit noFlight noTemperature noSchedule start factory sound sumFits flightSound temperatureSound scheduleSound clockValid dateFits timeFits leap monthLength kindBusy busy awaits inEvent isCommand isWrite isRead notWhole pastEnd wordAt calendarWord word30 word31 hourDigits word32 word33 bcd hundredthsOf minuteIn twelveIn hourNamed hourIn ticksIn clockFrom timeDigits hourFits digitsFit wordsValid alarmValid alarmWord covers written withWord setupAfter ticksAfter clockAfter writeInvalid writeModel mustBeIdle startsFlight startsTemperature isEvent commandBusy notReady flightSideUnset temperatureSideUnset eventSideUnset commandUnset flightUnset temperatureUnset eventUnset clockStands runModel initialised joined
+unfolding flowThrough flowOf startReported named stretchReport lastTick scheduleTicked reportOf registerWord flightWord temperatureWord half settle goodFlight goodSum goodDifference flightGood temperatureGood temperatureFailed goodSums six four average sixTotal filled portPairs portPair plusEach wordOrZero biased differenceWord differenceMean portMean anyLate anyOpen portFault anyFault anyFrom anyBelow anyWord shortBelow lateFrom openFrom hitCount timeout portCycle flightMiscounted sameCount differencePeriod temperaturePeriod ticked begins leftAfter waitAfter startedAfter log onlyReads isRefusal isReading acceptedAnswer startedEvent eventFlight flightEvent eventStart differenceCount eventTemperature temperatureEvent temperatureCount tickModel clockTicked tickClock flightAfter fails tickSchedule settledAfter temperatureAfter after reply replyBy verdict firstOf table noFrame notCarried wrongLength pastRegisters shortOutput whileBusy badCalendar notInitialised badSetup notAwaited miscounted tooLong acceptedModel freshModel freshWith porBit noFlight noTemperature noSchedule start factory sound sumFits flightSound temperatureSound scheduleSound clockValid dateFits timeFits leap monthLength kindBusy busy awaits inEvent isCommand isWrite isRead notWhole pastEnd wordAt calendarWord word30 word31 hourDigits word32 word33 bcd hundredthsOf minuteIn twelveIn hourNamed hourIn ticksIn clockFrom timeDigits hourFits digitsFit wordsValid alarmValid alarmWord covers written withWord setupAfter ticksAfter clockAfter writeInvalid writeModel mustBeIdle startsFlight startsTemperature isEvent commandBusy notReady flightSideUnset temperatureSideUnset eventSideUnset commandUnset flightUnset temperatureUnset eventUnset clockStands runModel initialised joined
 start-seen = refl

@@ -9,7 +9,7 @@ use Rattle.register.specs.Setup.{hitCount, timeout, portCycle, interruptEnabled
 use Rattle.frame.specs.Frame.{isCommand, isWrite, isRead, notWhole, pastEnd}
 use Rattle.frame.specs.declared.Decoded.{Decoded}
 use Rattle.frame.specs.declared.Decoded.the-variants.{Command, Read, Write, Refusal}
-use Rattle.measurement.specs.Limit.{lateFrom, openFrom, anyFrom}
+use Rattle.measurement.specs.Limit.{lateFrom, openFrom, anyFrom, anyFault}
 use Rattle.measurement.specs.Words.{six, four}
 use Rattle.device.specs.declared.Schedule.{Schedule}
 use Rattle.device.specs.declared.Model.{Model}
@@ -195,12 +195,16 @@ anyLate m u d = either (anyFrom (lateFrom (timeout (m .setup))) u) (anyFrom (lat
 unfoldable pub anyOpen : Model → List ℕ → Bool
 anyOpen m w = anyFrom (openFrom (portCycle (m .setup))) w
 
+-- "A word below 32 × 65,536 .. and the cycle counts as failed" (Note 3)
+unfoldable pub portFault : Model → List ℕ → Bool
+portFault m w = anyFault (openFrom (portCycle (m .setup))) w
+
 unfoldable pub acceptedAnswer : Model → Call → Answer
 acceptedAnswer m (transaction f o) =
     bySort f (Accepted (startsFlight (opcode f)) (startsTemperature (opcode f))) (Accepted false false) (Accepted false false)
 acceptedAnswer m tick = Ticked (reportOf (m .flight .schedule)) (reportOf (m .temperature .schedule))
 acceptedAnswer m (flight u d) = pick (anyLate m u d) Failed Good
-acceptedAnswer m (temperature w) = pick (anyOpen m w) Failed Good
+acceptedAnswer m (temperature w) = pick (portFault m w) Failed Good
 acceptedAnswer m (stretch n) =
     Stretched (stretchReport (m .flight .schedule) n) (stretchReport (m .temperature .schedule) n)
 
@@ -212,7 +216,8 @@ acceptedModel m tick = tickModel m
 acceptedModel m (flight u d) =
     pick (anyLate m u d) (flightFailed m) (flightGood m (hitCount (m .setup)) (six u) (six d))
 acceptedModel m (temperature w) =
-    pick (anyOpen m w) (temperatureFailed m (openFrom (portCycle (m .setup))) (four w)) (temperatureGood m (four w))
+    pick (portFault m w) (temperatureFailed m (openFrom (portCycle (m .setup))) (anyOpen m w) (four w))
+    (temperatureGood m (four w))
 acceptedModel m (stretch n) = ticked n m
 
 -- The output buffer that an accepted transaction leaves.

@@ -12,7 +12,7 @@ use Rattle.calendar.specs.Moment.{moment, century, midnights}
 use Rattle.calendar.specs.Words.{clockFrom}
 use Rattle.register.specs.Setup.{hitCount, timeout, portCycle, differencePeriod, differenceCount, temperaturePeriod, temperatureCount}
 use Rattle.frame.specs.Frame.{isRead}
-use Rattle.measurement.specs.Limit.{lateFrom, openFrom, anyFrom}
+use Rattle.measurement.specs.Limit.{lateFrom, openFrom, anyFrom, anyFault}
 use Rattle.measurement.specs.Mean.{All, sum, Averages, differenceBits, meanAverages, floorMeanWords}
 use Rattle.device.specs.declared.Schedule.{Schedule}
 use Rattle.device.specs.declared.Model.{Model}
@@ -148,13 +148,14 @@ isDelivery temperatures (temperature w) = true
 isDelivery k (stretch n) = false
 
 -- "By the set-up at acceptance, an accepted flight delivery is answered good exactly when none of its words is late, a
--- temperature one exactly when none is open."
+-- temperature one exactly when none is open." And none short: "its delivery .. is answered failed, and the third demand's good
+-- is read so" (Note 3).
 unfoldable pub noneLost : List ℕ → Call → Bool
 noneLost s (transaction f o) = false
 noneLost s tick = false
 noneLost s (flight u d) =
     negate (either (anyFrom (lateFrom (timeout s)) u) (anyFrom (lateFrom (timeout s)) d))
-noneLost s (temperature w) = negate (anyFrom (openFrom (portCycle s)) w)
+noneLost s (temperature w) = negate (anyFault (openFrom (portCycle s)) w)
 noneLost s (stretch n) = false
 
 -- "A flight delivery's difference is the up list's sum ÷ H rounded down, less the same of the down list"
@@ -190,7 +191,7 @@ pub record History : Type 0 where
   -- "failed, those answered failed and the failures that ticks report"
   pub lost : ℕ
   pub expiries : List Expiry
-  -- deliveries answered good with a word late or open, or failed with none
+  -- deliveries answered good with a word late, open or short, or failed with none
   pub misjudged : ℕ
 
 -- At acceptance, by the command's answer.
@@ -294,12 +295,17 @@ AveragesHeld temperatures s good m =
     Holds m 0xF4 (floorMeanWords (map (portWord 2) good)) ×
     Holds m 0xF6 (floorMeanWords (map (portWord 3) good))
 
--- A good delivery had all its words: "an up list and a down list, each of H words"; "four words, T1 to T4"
+-- "all four words are neither short nor open" (Note 3), by the set-up s
+abbrev pub Whole : List ℕ → List ℕ → Type 0
+Whole s w = (i : ℕ) → i < length w → (32 * 65536 ≤ getD w i 0) × (getD w i 0 < openFrom (portCycle s) .0)
+
+-- A good delivery had all its words: "an up list and a down list, each of H words"; "four words, T1 to T4". "For users the mean
+-- of a port runs from then on over cycles where all four words are neither short nor open." (Note 3)
 abbrev pub Complete : List ℕ → Call → Type 0
 Complete s (transaction f o) = ⊥
 Complete s tick = ⊥
 Complete s (flight u d) = (length u ≡ hitCount s) × (length d ≡ hitCount s)
-Complete s (temperature w) = length w ≡ 4
+Complete s (temperature w) = (length w ≡ 4) × Whole s w
 Complete s (stretch n) = ⊥
 
 -- "cycle counts (E4h, EFh)"
@@ -318,7 +324,7 @@ pub record KindClaim (k : Kind) (s : List ℕ) (h : History) (m : Model) : Type 
   pub timely : All (λ (e : Expiry). e .at ≡ e .start + 8192) (h .expiries)
   -- "A kind is awaited only while its last start lies fewer than 8,192 ticks back."
   pub recent : awaitedNow k m ≡ 1 → h .ticks < h .last + 8192
-  -- "answered good exactly when none of its words is late, .. open"
+  -- "answered good exactly when none of its words is late, .. open", or short (Note 3)
   pub judged : h .misjudged ≡ 0
   pub complete : All (Complete s) (h .good)
   -- "A good measurement of an event adds one to its count"

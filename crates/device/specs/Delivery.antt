@@ -76,8 +76,8 @@ unfoldable pub goodSums : Temperature → List ℕ → List ℕ
 goodSums t w = pick (ltb (t .schedule .settled) (t .schedule .planned)) (plusEach (t .sums) w) (t .sums)
 
 unfoldable pub temperatureStatus : Model → Bool → Status
-temperatureStatus m failed =
-    joined (m .status) (temperatureBits (m .temperature .schedule) (eachInterrupt (m .setup)) true failed)
+temperatureStatus m opened =
+    joined (m .status) (temperatureBits (m .temperature .schedule) (eachInterrupt (m .setup)) true opened)
 
 unfoldable pub temperatureGood : Model → List ℕ → Model
 temperatureGood m w =
@@ -90,13 +90,14 @@ temperatureGood m w =
       temperature = record { schedule = settle (m .temperature .schedule) true; sums = goodSums (m .temperature) w; ports = w };
     }
 
--- "An open port reads FFFFh FFFFh, the others their words; any open fails the measurement and sets TO."
-unfoldable pub temperatureFailed : Model → Quanta → List ℕ → Model
-temperatureFailed m limit w =
+-- "An open port reads FFFFh FFFFh, the others their words; any open fails the measurement and sets TO." A short one fails it
+-- too (Note 3), and "does not set TO; an open port in the same delivery still does": `opened` says whether there is one.
+unfoldable pub temperatureFailed : Model → Quanta → Bool → List ℕ → Model
+temperatureFailed m limit opened w =
     record {
       clock = m .clock;
       setup = m .setup;
-      status = temperatureStatus m true;
+      status = temperatureStatus m opened;
       ready = m .ready;
       flight = m .flight;
       temperature =

@@ -66,12 +66,12 @@ flightBits k each settles failed =
     })
     noBits
 
--- The same of a temperature one: "any open fails the measurement and sets TO".
+-- The same of a temperature one: "any open .. sets TO", and nothing else does: "A short alone does not set TO" (Note 3).
 unfoldable pub temperatureBits : Schedule → Bool → Bool → Bool → Status
-temperatureBits k each settles failed =
+temperatureBits k each settles opened =
     pick settles
     (record {
-      timeout = failed;
+      timeout = opened;
       alarm = false;
       tof = false;
       te = shown k each;

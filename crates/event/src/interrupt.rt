@@ -94,15 +94,15 @@ pub fn flight_bits(k: Schedule, each: bool, settles: bool, failed: bool) -> Stat
     s
 }
 
-// What settling a temperature measurement sets. An open port is a timeout.
-pub fn temperature_bits(k: Schedule, each: bool, settles: bool, failed: bool) -> Status
-    ensures { λ r. ⌜ r ≡ temperatureBits k each settles failed ⌝ }
+// What settling a temperature measurement sets. An open port is a timeout, a short one is none.
+pub fn temperature_bits(k: Schedule, each: bool, settles: bool, opened: bool) -> Status
+    ensures { λ r. ⌜ r ≡ temperatureBits k each settles opened ⌝ }
 {
     let mut s = no_bits();
     if settles {
         let te = shows(k, each);
         let last = is_last(k);
-        s.timeout = failed;
+        s.timeout = opened;
         s.te = te;
         s.tempevtmg = last;
         return s;

@@ -8,30 +8,27 @@ use mathlib.Core.Bool.{Bool, true, false}
 use mathlib.Core.List.{List, [], _∷_}
 use lib.ListN.{length, getD, drop}
 use lib.Seq.{drop-cons, drop-length}
-use borrow.Author.Tests.{le-leb, lt-leb}
-use lib.Dec.{leb}
 use Rattle.unit.specs.Choice.{either}
-use Rattle.unit.specs.declared.Quanta.{Quanta}
-use Rattle.measurement.specs.Limit.{anyFrom}
+use Rattle.measurement.specs.Limit.{anyWord}
 
 -- the list from a place on is its word there and the rest
-pub any-at :
-    (b : Quanta) (ws : List ℕ) (i : ℕ) →
+any-at :
+    (test : ℕ → Bool) (ws : List ℕ) (i : ℕ) →
     i < length ws →
-    anyFrom b (drop i ws) ≡ either (leb (b .0) (getD ws i 0)) (anyFrom b (drop (i + 1) ws))
-unfolding anyFrom
-any-at b ws i h = rw (add-one, drop-cons ws i 0)
+    anyWord test (drop i ws) ≡ either (test (getD ws i 0)) (anyWord test (drop (i + 1) ws))
+unfolding anyWord
+any-at test ws i h = rw (add-one, drop-cons ws i 0)
 
--- a loop that tests the words in turn: a word at the limit or above it, a word below it, and the list's end
-module _ (b : Quanta) (ws : List ℕ) (i : ℕ) (so-far : anyFrom b ws ≡ anyFrom b (drop i ws)) where
-  pub any-found : i < length ws → b .0 ≤ getD ws i 0 → true ≡ anyFrom b ws
-  any-found h l = rw (so-far, any-at b ws i h, le-leb _ _ l)
+-- a loop that tests the words in turn: a word that meets the test, a word that does not, and the list's end
+module _ (test : ℕ → Bool) (ws : List ℕ) (i : ℕ) (so-far : anyWord test ws ≡ anyWord test (drop i ws)) where
+  pub any-found : i < length ws → test (getD ws i 0) ≡ true → true ≡ anyWord test ws
+  any-found h t = rw (so-far, any-at test ws i h, t)
 
-  pub any-passed : i < length ws → getD ws i 0 < b .0 → anyFrom b ws ≡ anyFrom b (drop (i + 1) ws)
-  any-passed h l = rw (so-far, any-at b ws i h, lt-leb _ _ l)
+  pub any-passed : i < length ws → test (getD ws i 0) ≡ false → anyWord test ws ≡ anyWord test (drop (i + 1) ws)
+  any-passed h t = rw (so-far, any-at test ws i h, t)
 
-  pub any-none : i ≡ length ws → false ≡ anyFrom b ws
-  unfolding anyFrom
+  pub any-none : i ≡ length ws → false ≡ anyWord test ws
+  unfolding anyWord
   any-none e = rw (so-far, e, drop-length ws)
 
 -- a quotient is below a bound where the number is below its multiple

@@ -1,24 +1,25 @@
--- What the definitions mean in plain arithmetic: differences, their words, means rounded down, late and open.
+-- What the definitions mean in plain arithmetic: differences, their words, means rounded down, late, open and short.
 use Prim.Native.Nat.{ℕ, zero, suc, _+_, _-_, _*_, _/_, _^_, _≤_, _<_}
 use native.Mathlib.Nat.{div-mul-le-self, lt-div-mul-add}
 use native.Mathlib.Omega.{arith}
 use mathlib.Core.Path.{_≡_, refl, ap}
 use mathlib.Core.Logic.{_↔_, _⊎_, inl, inr, ⊎-elim}
-use mathlib.Core.Bool.{true, false}
+use mathlib.Core.Bool.{Bool, true, false}
 use mathlib.Core.List.{List, [], _∷_}
 use lib.ListN.{length, getD}
-use lib.Dec.{leb, le→leb, lt→ltb, leb→le, ltb→lt}
+use lib.Dec.{leb, ltb, le→leb, lt→ltb, leb→le, ltb→lt}
 use lib.IntN.{ℤ, pos, negsuc, negℤ, sucℤ, _+ℤ_, _*ℤ_, +ℤ-one}
 use lib.Signed.{shrZ, _≤ℤ_, _<ℤ_, leZ-yes, ltZ-yes}
-use borrow.Author.Tests.{leb-true, le-leb}
+use borrow.Author.Tests.{leb-true, le-leb, ltb-true, lt-ltb}
 use mir.Syntax.{w32}
 use mir.Val.{toZ, SFits}
 use mir.Facts.{fits-ofZ, toZ-ofZ}
-use Rattle.unit.specs.Cases.{by-ltb, by-test, fails}
+use Rattle.unit.specs.Cases.{by-ltb, by-test, fails, refuted}
 use Rattle.unit.specs.declared.Quanta.{Quanta}
-use Rattle.measurement.specs.Limit.{lateFrom, openFrom, anyFrom}
+use Rattle.measurement.specs.Limit.{lateFrom, openFrom, shortBelow, anyWord, anyFrom, anyBelow, anyFault}
 use Rattle.measurement.specs.Words.{average, sixTotal}
-use Rattle.measurement.specs.Mean.{sum, Averages, difference, total, floorMean, floorMeanWords, differenceBits}
+use Rattle.measurement.specs.Mean.{All, sum, Averages, difference, total, floorMean, floorMeanWords, differenceBits}
+use Rattle.measurement.proofs.Sum.{neither, all-below, all-above}
 use Rattle.measurement.proofs.Integer.{sub-pos}
 
 -- "TOF_DIFF = AVGUP − AVGDN"
@@ -117,25 +118,73 @@ pub open-means :
 unfolding openFrom
 open-means = (refl, refl, refl, refl)
 
--- some word of a list is at least the limit: one at a place, and any place
-pub any-place :
-    (limit : Quanta) (ws : List ℕ) →
-    anyFrom limit ws ≡ true →
-    (i : ℕ) × (i < length ws) × (limit .0 ≤ getD ws i 0)
-unfolding anyFrom
-any-place limit [] = λ f. absurd (fails false (λ (z : ⊥). z) .0 f)
-any-place limit (w ∷ ws) =
-    by-test (leb (limit .0) w)
-    (λ e. rw e (λ f. (0, omega arith, leb-true (limit .0) w e)))
-    (λ e. rw e (λ f. let p = any-place limit ws f in (suc (p .0), omega arith, p .2)))
+-- "The converter sheet says a temperature reading below 8 µs is a short": w quanta are w × 250 ÷ 65,536 ns
+pub short-means : (w : ℕ) → (w < shortBelow .0) ↔ (w * 250 < 8000 * 65536)
+unfolding shortBelow
+short-means w = (λ h. omega arith, λ h. omega arith)
 
-pub any-at-place :
-    (limit : Quanta) (ws : List ℕ) (i : ℕ) →
+-- no word is both
+pub short-not-open : (cycle w : ℕ) → w < shortBelow .0 → w < openFrom cycle .0
+unfolding shortBelow openFrom
+short-not-open cycle w h = omega arith
+
+-- some word of a list meets a test: one at a place, and any place
+any-place :
+    (test : ℕ → Bool) (ws : List ℕ) →
+    anyWord test ws ≡ true →
+    (i : ℕ) × (i < length ws) × (test (getD ws i 0) ≡ true)
+unfolding anyWord
+any-place test [] = λ f. absurd (fails false (λ (z : ⊥). z) .0 f)
+any-place test (w ∷ ws) =
+    by-test (test w)
+    (λ e. rw e (λ f. (0, omega arith, e)))
+    (λ e. rw e (λ f. let p = any-place test ws f in (suc (p .0), omega arith, p .2)))
+
+any-at-place :
+    (test : ℕ → Bool) (ws : List ℕ) (i : ℕ) →
     i < length ws →
-    limit .0 ≤ getD ws i 0 →
-    anyFrom limit ws ≡ true
-unfolding anyFrom
-any-at-place limit [] i h l = absurd (omega arith)
-any-at-place limit (w ∷ ws) zero h l = rw (le-leb (limit .0) w l)
-any-at-place limit (w ∷ ws) (suc i) h l =
-    by-test (leb (limit .0) w) (λ e. rw e) (λ e. rw e (any-at-place limit ws i (omega arith) l))
+    test (getD ws i 0) ≡ true →
+    anyWord test ws ≡ true
+unfolding anyWord
+any-at-place test [] i h t = absurd (omega arith)
+any-at-place test (w ∷ ws) zero h t = rw t
+any-at-place test (w ∷ ws) (suc i) h t =
+    by-test (test w) (λ e. rw e) (λ e. rw e (any-at-place test ws i (omega arith) t))
+
+module _ (limit : Quanta) (ws : List ℕ) where
+  pub from-means : (anyFrom limit ws ≡ true) ↔ ((i : ℕ) × (i < length ws) × (limit .0 ≤ getD ws i 0))
+  unfolding anyFrom
+  from-means = (
+    λ e. let p = any-place (λ w. leb (limit .0) w) ws e in (p .0, p .1, leb-true (limit .0) (getD ws (p .0) 0) (p .2)),
+    λ p. any-at-place (λ w. leb (limit .0) w) ws (p .0) (p .1) (le-leb (limit .0) (getD ws (p .0) 0) (p .2)),
+  )
+
+  pub below-means : (anyBelow limit ws ≡ true) ↔ ((i : ℕ) × (i < length ws) × (getD ws i 0 < limit .0))
+  unfolding anyBelow
+  below-means = (
+    λ e. let p = any-place (λ w. ltb w (limit .0)) ws e in (p .0, p .1, ltb-true (getD ws (p .0) 0) (limit .0) (p .2)),
+    λ p. any-at-place (λ w. ltb w (limit .0)) ws (p .0) (p .1) (lt-ltb (getD ws (p .0) 0) (limit .0) (p .2)),
+  )
+
+all-at : (P : ℕ → Type 0) (ws : List ℕ) → All P ws → (i : ℕ) → i < length ws → P (getD ws i 0)
+all-at P [] h i l = absurd (omega arith)
+all-at P (w ∷ ws) h zero l = h .0
+all-at P (w ∷ ws) h (suc i) l = all-at P ws (h .1) i (omega arith)
+
+-- "over cycles where all four words are neither short nor open"
+pub whole-means :
+    (limit : Quanta) (ws : List ℕ) →
+    (anyFault limit ws ≡ false) ↔ ((i : ℕ) → i < length ws → (32 * 65536 ≤ getD ws i 0) × (getD ws i 0 < limit .0))
+unfolding anyFault shortBelow
+whole-means limit ws = (
+  λ e i l.
+      let f = neither (anyFrom limit ws) (anyBelow shortBelow ws) e in (
+        all-at (λ w. shortBelow .0 ≤ w) ws (all-above shortBelow ws (f .1)) i l,
+        all-at (λ w. w < limit .0) ws (all-below limit ws (f .0)) i l,
+      ),
+  λ h.
+      rw (
+        refuted (anyFrom limit ws) (λ e. let p = from-means limit ws .0 e in omega (arith, h (p .0) (p .1))),
+        refuted (anyBelow shortBelow ws) (λ e. let p = below-means shortBelow ws .0 e in omega (arith, h (p .0) (p .1))),
+      ),
+)

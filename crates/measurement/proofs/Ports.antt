@@ -1,20 +1,34 @@
--- Laws of the four words of a temperature measurement: none of them open, and all of them open.
+-- Laws of the four words of a temperature measurement: what a port reads, none of them open or short, and all of them open.
 use Prim.Native.Nat.{ℕ, _≤_, _<_}
 use native.Mathlib.Omega.{arith}
 use mathlib.Core.Path.{_≡_, refl}
 use mathlib.Core.Bool.{false}
 use mathlib.Core.List.{List, [], _∷_}
 use lib.ListN.{length, getD}
-use borrow.Author.Tests.{lt-leb, le-leb}
+use borrow.Author.Tests.{lt-leb, le-leb, lt-ltb, le-ltb}
 use Rattle.unit.specs.declared.Quanta.{Quanta}
-use Rattle.measurement.specs.Limit.{anyFrom, openFrom}
+use Rattle.measurement.specs.Limit.{openFrom, shortBelow, anyFrom, anyBelow, anyFault}
 use Rattle.measurement.specs.Words.{wordOrZero, four, portPair, portPairs, lostFour}
 use Rattle.measurement.specs.Mean.{All}
-use Rattle.measurement.proofs.Sum.{all-below}
+use Rattle.measurement.proofs.Sum.{neither, all-below, all-above}
 
 pub open-below : (cycle : ℕ) → cycle < 4 → openFrom cycle .0 < 2147483648
 unfolding openFrom
 open-below cycle h = omega arith
+
+-- a port's pair by its word
+module _ (limit : Quanta) (w : ℕ) where
+  pub port-open : limit .0 ≤ w → portPair limit w ≡ 0xFFFFFFFF
+  unfolding portPair
+  port-open h = rw (le-leb (limit .0) w h)
+
+  pub port-short : w < limit .0 → w < shortBelow .0 → portPair limit w ≡ 0
+  unfolding portPair
+  port-short h l = rw (lt-leb (limit .0) w h, lt-ltb w (shortBelow .0) l)
+
+  pub port-whole : w < limit .0 → shortBelow .0 ≤ w → portPair limit w ≡ w
+  unfolding portPair
+  port-whole h l = rw (lt-leb (limit .0) w h, le-ltb w (shortBelow .0) l)
 
 -- what is known of the four words of a good measurement
 pub record Good (limit : Quanta) (ws : List ℕ) : Type 0 where
@@ -31,16 +45,18 @@ pub good-ports :
     cycle < 4 →
     (ws : List ℕ) →
     length ws ≡ 4 →
-    anyFrom (openFrom cycle) ws ≡ false →
+    anyFault (openFrom cycle) ws ≡ false →
     Good (openFrom cycle) ws
-unfolding wordOrZero four portPairs portPair
+unfolding wordOrZero four portPairs anyFault
 good-ports cycle h [] l e = absurd (omega arith)
 good-ports cycle h (a ∷ []) l e = absurd (omega arith)
 good-ports cycle h (a ∷ b ∷ []) l e = absurd (omega arith)
 good-ports cycle h (a ∷ b ∷ c ∷ []) l e = absurd (omega arith)
 good-ports cycle h (a ∷ b ∷ c ∷ d ∷ []) l e =
     let limit : Quanta = openFrom cycle in
-    let f : All (λ w. w < limit .0) (a ∷ b ∷ c ∷ d ∷ []) = all-below limit (a ∷ b ∷ c ∷ d ∷ []) e in
+    let n = neither (anyFrom limit (a ∷ b ∷ c ∷ d ∷ [])) (anyBelow shortBelow (a ∷ b ∷ c ∷ d ∷ [])) e in
+    let f : All (λ w. w < limit .0) (a ∷ b ∷ c ∷ d ∷ []) = all-below limit (a ∷ b ∷ c ∷ d ∷ []) (n .0) in
+    let g : All (λ w. shortBelow .0 ≤ w) (a ∷ b ∷ c ∷ d ∷ []) = all-above shortBelow (a ∷ b ∷ c ∷ d ∷ []) (n .1) in
     let m : limit .0 < 2147483648 = open-below cycle h in
     record {
       first = omega arith;
@@ -51,10 +67,10 @@ good-ports cycle h (a ∷ b ∷ c ∷ d ∷ []) l e =
       whole = refl;
       kept =
           rw (
-            lt-leb (limit .0) a (f .0),
-            lt-leb (limit .0) b (f .1 .0),
-            lt-leb (limit .0) c (f .1 .1 .0),
-            lt-leb (limit .0) d (f .1 .1 .1 .0),
+            port-whole limit a (f .0) (g .0),
+            port-whole limit b (f .1 .0) (g .1 .0),
+            port-whole limit c (f .1 .1 .0) (g .1 .1 .0),
+            port-whole limit d (f .1 .1 .1 .0) (g .1 .1 .1 .0),
           );
     }
 good-ports cycle h (a ∷ b ∷ c ∷ d ∷ f ∷ ws) l e = absurd (omega arith)
@@ -67,5 +83,6 @@ pub all-open :
     limit .0 ≤ getD ws 2 0 →
     limit .0 ≤ getD ws 3 0 →
     portPairs limit ws ≡ lostFour
-unfolding portPairs portPair lostFour
-all-open limit ws h i j k = rw (le-leb _ _ h, le-leb _ _ i, le-leb _ _ j, le-leb _ _ k)
+unfolding portPairs lostFour
+all-open limit ws h i j k =
+    rw (port-open limit _ h, port-open limit _ i, port-open limit _ j, port-open limit _ k)

@@ -6,12 +6,12 @@ use mathlib.Core.Path.{_≡_, refl}
 use mathlib.Core.Bool.{Bool, true, false}
 use mathlib.Core.List.{List, [], _∷_}
 use lib.ListN.{length}
-use lib.Dec.{leb}
+use lib.Dec.{leb, ltb}
 use lib.Pow.{pow-pos}
-use borrow.Author.Tests.{leb-false}
+use borrow.Author.Tests.{leb-false, ltb-false}
 use Rattle.unit.specs.Choice.{either}
 use Rattle.unit.specs.declared.Quanta.{Quanta}
-use Rattle.measurement.specs.Limit.{anyFrom, lateFrom}
+use Rattle.measurement.specs.Limit.{anyWord, anyFrom, anyBelow, lateFrom}
 use Rattle.measurement.specs.Words.{wordOrZero, six, sixTotal}
 use Rattle.measurement.specs.Mean.{All, sum}
 
@@ -26,23 +26,29 @@ six-total (a ∷ b ∷ c ∷ d ∷ e ∷ []) h = omega arith
 six-total (a ∷ b ∷ c ∷ d ∷ e ∷ f ∷ []) h = omega arith
 six-total (a ∷ b ∷ c ∷ d ∷ e ∷ f ∷ g ∷ ws) h = absurd (omega arith)
 
--- where no word is at the limit, the first is below it, and so are the others
-pub first-below : (b : Quanta) (w : ℕ) (ws : List ℕ) → anyFrom b (w ∷ ws) ≡ false → (w < b .0) × (anyFrom b ws ≡ false)
-unfolding anyFrom
-first-below b w ws e = go (leb (b .0) w) (leb-false (b .0) w) e
-  where
-    go :
-        (t : Bool) →
-        (t ≡ false → w < b .0) →
-        either t (anyFrom b ws) ≡ false →
-        (w < b .0) × (anyFrom b ws ≡ false)
-    go true f e = (f e, cc)
-    go false f e = (f refl, e)
+-- neither of two tests holds
+pub neither : (a b : Bool) → either a b ≡ false → (a ≡ false) × (b ≡ false)
+neither true b e = (e, cc)
+neither false b e = (refl, e)
+
+-- where no word meets a test, each fails it; so it is below a limit that none is at
+none-meets : (test : ℕ → Bool) (ws : List ℕ) → anyWord test ws ≡ false → All (λ w. test w ≡ false) ws
+unfolding anyWord
+none-meets test [] e = tt
+none-meets test (w ∷ ws) e =
+    let f = neither (test w) (anyWord test ws) e in (f .0, none-meets test ws (f .1))
+
+all-by : {P Q : ℕ → Type 0} → ((w : ℕ) → P w → Q w) → (ws : List ℕ) → All P ws → All Q ws
+all-by f [] h = tt
+all-by f (w ∷ ws) h = (f w (h .0), all-by f ws (h .1))
 
 pub all-below : (b : Quanta) (ws : List ℕ) → anyFrom b ws ≡ false → All (λ w. w < b .0) ws
-all-below b [] e = tt
-all-below b (w ∷ ws) e =
-    let f : (w < b .0) × (anyFrom b ws ≡ false) = first-below b w ws e in (f .0, all-below b ws (f .1))
+unfolding anyFrom
+all-below b ws e = all-by (λ w t. leb-false (b .0) w t) ws (none-meets (λ w. leb (b .0) w) ws e)
+
+pub all-above : (b : Quanta) (ws : List ℕ) → anyBelow b ws ≡ false → All (λ w. b .0 ≤ w) ws
+unfolding anyBelow
+all-above b ws e = all-by (λ w t. ltb-false w (b .0) t) ws (none-meets (λ w. ltb w (b .0)) ws e)
 
 -- each word is at most the limit less one
 pub sum-short : (b : ℕ) (ws : List ℕ) → All (λ w. w < b) ws → sum ws + length ws ≤ length ws * b

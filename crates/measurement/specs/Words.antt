@@ -5,6 +5,7 @@ use lib.ListN.{getD, length}
 use lib.Dec.{ltb, leb}
 use Rattle.unit.specs.Choice.{pick}
 use Rattle.unit.specs.declared.Quanta.{Quanta}
+use Rattle.measurement.specs.Limit.{shortBelow}
 
 unfoldable pub wordOrZero : List ℕ → ℕ → ℕ
 wordOrZero ws i = pick (ltb i (length ws)) (getD ws i 0) 0
@@ -35,9 +36,10 @@ unfoldable pub lost : List ℕ
 lost =
     0xFFFFFFFF ∷ 0xFFFFFFFF ∷ 0xFFFFFFFF ∷ 0xFFFFFFFF ∷ 0xFFFFFFFF ∷ 0xFFFFFFFF ∷ 0xFFFFFFFF ∷ []
 
--- "An open port reads FFFFh FFFFh, the others their words"
+-- "An open port reads FFFFh FFFFh, the others their words"; "A word below 32 × 65,536 now reads 0000h 0000h for that port"
+-- (Note 3)
 unfoldable pub portPair : Quanta → ℕ → ℕ
-portPair limit w = pick (leb (limit .0) w) 0xFFFFFFFF w
+portPair limit w = pick (leb (limit .0) w) 0xFFFFFFFF (pick (ltb w (shortBelow .0)) 0 w)
 
 unfoldable pub portPairs : Quanta → List ℕ → List ℕ
 portPairs limit w =

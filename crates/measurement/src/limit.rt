@@ -1,6 +1,6 @@
-// The words that are late or open.
+// The words that are late, open or short.
 ghost use mathlib.Core.Path.{_≡_};
-ghost use Rattle.measurement.specs.Limit.{lateFrom, openFrom, anyFrom};
+ghost use Rattle.measurement.specs.Limit.{lateFrom, openFrom, shortBelow, anyFrom, anyBelow};
 ghost use Rattle.measurement.specs.Timeout.{timeoutRow};
 use crate::words::wide;
 use unit::Quanta;
@@ -39,6 +39,13 @@ pub fn open_from(cycle: u32) -> Quanta
     Quanta((512 * (cycle as u64 + 1) - 8) * 65536)
 }
 
+// The least word that is no short.
+pub fn short_below() -> Quanta
+    ensures { λ r. ⌜ r ≡ shortBelow ⌝ }
+{
+    Quanta(2097152)
+}
+
 // Whether a word is at least the limit.
 pub fn any_from(limit: Quanta, words: &[u32]) -> bool
     ensures { λ r. ⌜ r ≡ anyFrom limit (now (words .entry)) ⌝ }
@@ -46,6 +53,20 @@ pub fn any_from(limit: Quanta, words: &[u32]) -> bool
     let mut i = 0;
     while i < words.len() {
         if limit.0 <= wide(words[i]) {
+            return true;
+        }
+        i += 1;
+    }
+    false
+}
+
+// Whether a word is below the limit.
+pub fn any_below(limit: Quanta, words: &[u32]) -> bool
+    ensures { λ r. ⌜ r ≡ anyBelow limit (now (words .entry)) ⌝ }
+{
+    let mut i = 0;
+    while i < words.len() {
+        if wide(words[i]) < limit.0 {
             return true;
         }
         i += 1;

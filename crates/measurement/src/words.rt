@@ -4,6 +4,7 @@ ghost use Prim.Native.Nat.{_<_, _≤_, _*_, _/_, _+_};
 ghost use lib.ListN.{getD};
 ghost use Rattle.unit.specs.Choice.{pick};
 ghost use Rattle.measurement.specs.Words.{wordOrZero, six, four, sixTotal, average, filled, lost, lostFour, plusEach, portPair, portPairs};
+use crate::limit::short_below;
 use unit::Quanta;
 
 fn word_or_zero(words: &[u32], i: usize) -> u32
@@ -86,15 +87,18 @@ pub fn lost_pairs() -> [u32; 7]
     ]
 }
 
-// A port's pair: FFFFh FFFFh where the word is open.
+// A port's pair: FFFFh FFFFh where the word is open, 0000h 0000h where it is short.
 pub fn port_pair(limit: Quanta, word: u32) -> u32
     ensures { λ r. ⌜ r ≡ portPair limit word ⌝ }
 {
+    let short = short_below();
     if limit.0 <= word as u64 {
-        4294967295
-    } else {
-        word
+        return 4294967295;
     }
+    if (word as u64) < short.0 {
+        return 0;
+    }
+    word
 }
 
 pub fn port_pairs(limit: Quanta, w: [u32; 4]) -> [u32; 4]

@@ -19,9 +19,11 @@ use event::interrupt::temperature_bits;
 use event::schedule::settle_one;
 use measurement::difference::biased_difference;
 use measurement::difference::difference_word;
+use measurement::limit::any_below;
 use measurement::limit::any_from;
 use measurement::limit::late_from;
 use measurement::limit::open_from;
+use measurement::limit::short_below;
 use measurement::words::average_of;
 use measurement::words::choose_pairs;
 use measurement::words::four_words;
@@ -30,6 +32,7 @@ use measurement::words::plus_each;
 use measurement::words::port_pairs;
 use measurement::words::six_words;
 use unit::Quanta;
+use unit::any_of;
 
 fn same_count(measured: bool, hits: u32, given: usize) -> bool
     ensures { λ r. ⌜ r ≡ sameCount measured hits given ⌝ }
@@ -159,20 +162,21 @@ fn good_sums(t: Temperature, w: [u32; 4]) -> [u64; 4]
     sums
 }
 
-fn temperature_status(m: Model, failed: bool) -> Status
-    ensures { λ r. ⌜ r ≡ temperatureStatus m failed ⌝ }
+fn temperature_status(m: Model, opened: bool) -> Status
+    ensures { λ r. ⌜ r ≡ temperatureStatus m opened ⌝ }
 {
     let setup = m.setup;
     let temperature = m.temperature;
     let k = temperature.schedule;
     let old = m.status;
     let each = register::each_interrupt(setup);
-    join(old, temperature_bits(k, each, true, failed))
+    join(old, temperature_bits(k, each, true, opened))
 }
 
-fn temperature_failed(m: Model, limit: Quanta, w: [u32; 4]) -> Model
+// A port is open or short; `opened` says whether one is open.
+fn temperature_failed(m: Model, limit: Quanta, opened: bool, w: [u32; 4]) -> Model
     requires { ⌜ temperatureSound (m .temperature) ≡ true ⌝ }
-    ensures { λ r. ⌜ r ≡ temperatureFailed m limit w ⌝ }
+    ensures { λ r. ⌜ r ≡ temperatureFailed m limit opened w ⌝ }
 {
     let t = m.temperature;
     let k = t.schedule;
@@ -184,7 +188,7 @@ fn temperature_failed(m: Model, limit: Quanta, w: [u32; 4]) -> Model
         sums,
         ports,
     };
-    let status = temperature_status(m, true);
+    let status = temperature_status(m, opened);
     let mut next = m;
     next.status = status;
     next.temperature = temperature;
@@ -248,8 +252,9 @@ pub fn temperature_words(m: Model, words: &[u32]) -> Reply
     let setup = m.setup;
     let limit = open_from(register::port_cycle(setup));
     let w = four_words(words);
-    if any_from(limit, words) {
-        let model = temperature_failed(m, limit, w);
+    let opened = any_from(limit, words);
+    if any_of(opened, any_below(short_below(), words)) {
+        let model = temperature_failed(m, limit, opened, w);
         return Reply {
             answer: Answer::Failed,
             model,

@@ -19,6 +19,7 @@ pub enum Part {
     Decimal(u32),
     Time(u32, bool),
     NoTime,
+    NoPort,
 }
 
 // What the byte c puts where `register` is the next one.
@@ -50,6 +51,9 @@ fn time_part(m: Model, a: u32) -> Part {
     if no_time(m, a) {
         return Part::NoTime;
     }
+    if no_port(m, a) {
+        return Part::NoPort;
+    }
     Part::Time(pair(m, a), a == 0xe2 || a == 0xe5)
 }
 
@@ -64,6 +68,12 @@ fn no_time(m: Model, a: u32) -> bool {
         0xe5 => false,
         _ => true,
     }
+}
+
+// A port's pair of 0000h 0000h is no time either: the port is short, or nothing was measured since the
+// model was fresh.
+fn no_port(m: Model, a: u32) -> bool {
+    0xe7 <= a && a < 0xef && pair(m, a) == 0
 }
 
 // The next register after the byte c.

@@ -32,6 +32,7 @@ fn put_part(buf: &mut [u8], at: usize, part: Part) -> usize {
         Part::Decimal(v) => numeral::put_decimal(buf, at, v as u64),
         Part::Time(w, signed) => put_time(buf, at, w, signed),
         Part::NoTime => numeral::put_text(buf, at, b"no time"),
+        Part::NoPort => numeral::put_text(buf, at, b"no time: short, or not measured"),
     }
 }
 

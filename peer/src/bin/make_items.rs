@@ -7,6 +7,8 @@ use std::process::ExitCode;
 const TICKS_PER_SECOND: u64 = 32_768;
 /// Ticks after its start at which an undelivered measurement fails.
 const DELIVERY_LIMIT: u64 = 8_192;
+/// Temperature words below this are short.
+const SHORT_LIMIT: u64 = 32 << 16;
 /// First writable register.
 const FIRST: u8 = 0x30;
 const RESET: u8 = 0x04;
@@ -74,7 +76,7 @@ impl Random {
 #[derive(Clone, Copy)]
 enum Quality {
     Good,
-    /// With late words or open ports.
+    /// With late words, or with ports that are open or short.
     Failing,
     Miscounted,
 }
@@ -509,12 +511,13 @@ impl Maker {
         }
     }
 
-    /// Words below `limit`, or with one or more at or past it.
-    fn words(&mut self, count: usize, limit: u64, failing: bool) -> Vec<u64> {
+    /// Words from `least` to below `limit`, or with one or more at or past it.
+    fn words(&mut self, count: usize, least: u64, limit: u64, failing: bool) -> Vec<u64> {
         let mut words = vec![0; count];
         for word in &mut words {
-            let random = self.random.below(limit);
-            *word = self.random.one_of(&[0, 1, random, random, limit - 1]);
+            let random = self.random.between(least, limit - 1);
+            let choices = [least, least + 1, random, random, limit - 1];
+            *word = self.random.one_of(&choices);
         }
         if failing && count > 0 {
             let place = self.random.below(count as u64) as usize;
@@ -541,16 +544,33 @@ impl Maker {
         let late_down = failing && down && !late_up;
         let count_up = self.count(if up { hits } else { 0 }, quality);
         let count_down = self.count(if down { hits } else { 0 }, quality);
-        let up = self.words(count_up, limit, late_up);
-        let down = self.words(count_down, limit, late_down);
+        let up = self.words(count_up, 0, limit, late_up);
+        let down = self.words(count_down, 0, limit, late_down);
         self.flight(&up, &down);
     }
 
     fn deliver_temperature(&mut self, quality: Quality) {
         let limit = (512 * ((self.stored(0x40) & 3) + 1) - 8) << 16;
         let count = self.count(4, quality);
-        let words = self.words(count, limit, matches!(quality, Quality::Failing));
+        let failing = matches!(quality, Quality::Failing);
+        let (open, short) = self
+            .random
+            .one_of(&[(true, false), (false, true), (true, true)]);
+        let mut words = self.words(count, SHORT_LIMIT, limit, failing && open);
+        if failing && short {
+            self.shorten(&mut words);
+        }
         self.temperature(&words);
+    }
+
+    /// Makes one word short, or more.
+    fn shorten(&mut self, words: &mut [u64]) {
+        for _ in 0..self.random.one_of(&[1, 1, 2, 4]) {
+            let place = self.random.below(words.len() as u64) as usize;
+            let random = self.random.below(SHORT_LIMIT);
+            let last = SHORT_LIMIT - 1;
+            words[place] = self.random.one_of(&[0, 1, last, last, random]);
+        }
     }
 
     fn single_measurement(&mut self) {

@@ -1,7 +1,7 @@
 -- `measuring::delivery::temperature_words` meets its contract.
-use Rattle.device.specs.Call.{temperatureReply, acceptedAnswer, acceptedModel, anyOpen}
+use Rattle.measurement.specs.Limit.{anyFault}
+use Rattle.device.specs.Call.{temperatureReply, acceptedAnswer, acceptedModel, anyOpen, portFault}
 use Rattle.device.proofs.Sound.{sound-temperature}
-use Rattle.device.specs.Call.{temperatureReply}
 use borrow.Author.Needs.{needs}
 use Rattle.measuring.proofs.delivery.temperature_words.Statement.{statement}
 use Rattle.measuring.proofs.delivery.temperature_words.Tie as tie
@@ -18,23 +18,32 @@ four-words-requires c κs = search needs
 any-from-requires : tie.Need-any-from-requires
 any-from-requires c κs = search needs
 
+short-below-requires : tie.Need-short-below-requires
+short-below-requires c κs = search needs
+
+any-below-requires : tie.Need-any-below-requires
+any-below-requires c κs = search needs
+
+any-of-requires : tie.Need-any-of-requires
+any-of-requires c κs = search needs
+
 temperature-failed-requires : tie.Need-temperature-failed-requires
 temperature-failed-requires c κs =
-    sound-temperature (c .before .before .before .before .before .before .before .args .m) (c .before .before .before .before .before .before .before .pre)
+    sound-temperature (c .before .before .before .before .before .before .before .before .before .before .args .m) (c .before .before .before .before .before .before .before .before .before .before .pre)
 
 returns : tie.Need-returns
-unfolding temperatureReply acceptedAnswer acceptedModel anyOpen
+unfolding temperatureReply acceptedAnswer acceptedModel portFault anyFault anyOpen
 returns c =
-    simp (← c .temperature-failed .ensures, c .before .if1 .taken, ← c .before .before .any-from .ensures, ← c .before .before .before .four-words .ensures, ← c .before .before .before .before .open-from .ensures, ← c .before .before .before .before .before .port-cycle .ensures)
+    simp (← c .temperature-failed .ensures, c .before .if1 .taken, ← c .before .before .any-of .ensures, ← c .before .before .before .any-below .ensures, ← c .before .before .before .before .short-below .ensures, ← c .before .before .before .before .before .any-from .ensures, ← c .before .before .before .before .before .before .four-words .ensures, ← c .before .before .before .before .before .before .before .open-from .ensures, ← c .before .before .before .before .before .before .before .before .port-cycle .ensures)
 
 temperature-good-requires : tie.Need-temperature-good-requires
 temperature-good-requires c κs =
-    sound-temperature (c .before .before .before .before .before .before .before .args .m) (c .before .before .before .before .before .before .before .pre)
+    sound-temperature (c .before .before .before .before .before .before .before .before .before .before .args .m) (c .before .before .before .before .before .before .before .before .before .before .pre)
 
 returns-2 : tie.Need-returns-2
-unfolding temperatureReply acceptedAnswer acceptedModel anyOpen
+unfolding temperatureReply acceptedAnswer acceptedModel portFault anyFault anyOpen
 returns-2 c =
-    simp (← c .temperature-good .ensures, c .before .if1 .left, ← c .before .before .any-from .ensures, ← c .before .before .before .four-words .ensures, ← c .before .before .before .before .open-from .ensures, ← c .before .before .before .before .before .port-cycle .ensures)
+    simp (← c .temperature-good .ensures, c .before .if1 .left, ← c .before .before .any-of .ensures, ← c .before .before .before .any-below .ensures, ← c .before .before .before .before .short-below .ensures, ← c .before .before .before .before .before .any-from .ensures, ← c .before .before .before .before .before .before .four-words .ensures, ← c .before .before .before .before .before .before .before .open-from .ensures, ← c .before .before .before .before .before .before .before .before .port-cycle .ensures)
 
 pub temperature-words-spec : {M : Type 1} → statement M
 temperature-words-spec =
@@ -44,6 +53,9 @@ temperature-words-spec =
     open-from-requires
     four-words-requires
     any-from-requires
+    short-below-requires
+    any-below-requires
+    any-of-requires
     temperature-failed-requires
     returns
     temperature-good-requires

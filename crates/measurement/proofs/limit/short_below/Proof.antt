@@ -1,0 +1,12 @@
+-- `measurement::limit::short_below` meets its contract.
+use mathlib.Core.Path.{refl}
+use Rattle.measurement.specs.Limit.{shortBelow}
+use Rattle.measurement.proofs.limit.short_below.Statement.{statement}
+use Rattle.measurement.proofs.limit.short_below.Tie as tie
+
+returns : tie.Need-returns
+unfolding shortBelow
+returns c = refl
+
+pub short-below-spec : {M : Type 1} → statement M
+short-below-spec = tie.close (tie.spec returns)

@@ -1,0 +1,37 @@
+// A printed listing of differences: for each, a line with its capture number and its nanoseconds.
+ghost use mathlib.Core.Path.{_≡_};
+ghost use Prim.Native.Nat.{_≤_};
+ghost use Rattle.listing.specs.Listing.{captureDigits, listing};
+
+mod line;
+mod lines;
+
+// How many bytes were written, or the number of a refusal.
+pub enum Listed {
+    Written(usize),
+    Refused(u32),
+}
+
+// Lists the differences, whose captures count up from `first`, in the first places of `out`.
+pub fn write_listing(differences: &[i32], first: u32, out: &mut [u8]) -> Listed
+    ensures { λ r. ⌜ record { answer = r; bytes = now (out .exit) } ≡ listing captureDigits (now (differences .entry)) first (now (out .entry)) ⌝ }
+{
+    write_digits(2, differences, first, out)
+}
+
+// The same with a number of digits for the capture.
+fn write_digits(digits: usize, differences: &[i32], first: u32, out: &mut [u8]) -> Listed
+    requires { ⌜ digits ≤ 8 ⌝ }
+    ensures { λ r. ⌜ record { answer = r; bytes = now (out .exit) } ≡ listing digits (now (differences .entry)) first (now (out .entry)) ⌝ }
+{
+    let count = differences.len();
+    if lines::last_above(digits, first, count) {
+        return Listed::Refused(20);
+    }
+    let size = count * (digits + 15);
+    if out.len() < size {
+        return Listed::Refused(21);
+    }
+    lines::put_lines(digits, differences, first, out);
+    Listed::Written(size)
+}

@@ -31,7 +31,12 @@ def listing(digits, differences, first, size):
     return text + "." * (size - len(text)) + "\n"
 
 
+print(listing(8, DIFFERENCES, 4294967272, 555), end="")
+print(listing(8, DIFFERENCES, 4294967273, 555), end="")
+print(listing(8, DIFFERENCES, 233, 555), end="")
+print(listing(8, DIFFERENCES, 0, 551), end="")
 print(listing(2, DIFFERENCES, 232, 411), end="")
 print(listing(2, DIFFERENCES, 233, 411), end="")
 print(listing(2, DIFFERENCES, 0, 407), end="")
 print(listing(2, [], 4294967295, 2), end="")
+print(listing(8, [], 4294967295, 2), end="")

@@ -9,12 +9,19 @@ use lib.ListN.{length, drop, replicate}
 use Rattle.unit.specs.Choice.{pick}
 use Rattle.numeral.specs.Digit.{digits}
 use Rattle.numeral.specs.Print.{nanoseconds}
+use Rattle.listing.specs.declared.Width.{Width}
+use Rattle.listing.specs.declared.Width.the-variants.{Two, Eight}
 use Rattle.listing.specs.declared.Listed.{Listed}
 use Rattle.listing.specs.declared.Listed.the-variants.{Written, Refused}
 
--- "a capture number as two capital hexadecimal digits"
-abbrev pub captureDigits : ℕ
-captureDigits = 2
+-- "The width of the number is said by one definition that serves the old page and the new": the hexadecimal digits of a capture number
+abbrev pub captureDigits : Width → ℕ
+captureDigits Two = 2
+captureDigits Eight = 8
+
+-- "the new form unless the old is named"
+abbrev pub usual : Width
+usual = Eight
 
 -- "a minus or a blank"
 unfoldable pub sign : ℤ → ℕ
@@ -30,7 +37,7 @@ unfoldable pub line : ℕ → ℕ → ℤ → List ℕ
 line d capture difference =
     digits 16 d capture ++ (32 ∷ sign difference ∷ rightJustified 12 (nanoseconds (natAbs difference)) ++ (10 ∷ []))
 
--- "a line of 16 characters and a line feed", where d is 2
+-- "a line of 16 characters and a line feed" where d is 2, and "22 characters and a line feed" where it is 8
 unfoldable pub lineLength : ℕ → ℕ
 lineLength d = d + 15
 
@@ -39,7 +46,7 @@ unfoldable pub lines : ℕ → ℕ → List ℤ → List ℕ
 lines d first [] = []
 lines d first (x ∷ xs) = line d first x ++ lines d (first + 1) xs
 
--- "when the last capture is above FF", or above the largest number of d digits; no captures have no last one
+-- "when the last capture is above FF", and so above the largest number of d digits; no captures have no last one
 unfoldable pub lastAbove : ℕ → ℕ → ℕ → Bool
 lastAbove d first zero = false
 lastAbove d first (suc n) = leb (16 ^ d) (first + n)
@@ -57,7 +64,8 @@ refused number out = record { answer = Refused number; bytes = out }
 abbrev pub written : List ℕ → List ℕ → Outcome
 written text out = record { answer = Written (length text); bytes = text ++ drop (length text) out }
 
--- "Turned away: number 20 when the last capture is above FF, then number 21 when the output is shorter than 17 bytes a line"
+-- "Turned away: number 20 when the last capture is above FF, then number 21 when the output is shorter than 17 bytes a line";
+-- "Numbers 20 and 21 follow the chosen width"
 unfoldable pub listing : ℕ → List ℤ → ℕ → List ℕ → Outcome
 listing d differences first out =
     pick (lastAbove d first (length differences)) (refused 20 out)

@@ -1,10 +1,16 @@
 // A printed listing of differences: for each, a line with its capture number and its nanoseconds.
 ghost use mathlib.Core.Path.{_≡_};
 ghost use Prim.Native.Nat.{_≤_};
-ghost use Rattle.listing.specs.Listing.{captureDigits, listing};
+ghost use Rattle.listing.specs.Listing.{captureDigits, usual, listing};
 
 mod line;
 mod lines;
+
+// How many hexadecimal digits a capture number has.
+pub enum Width {
+    Two,
+    Eight,
+}
 
 // How many bytes were written, or the number of a refusal.
 pub enum Listed {
@@ -14,12 +20,27 @@ pub enum Listed {
 
 // Lists the differences, whose captures count up from `first`, in the first places of `out`.
 pub fn write_listing(differences: &[i32], first: u32, out: &mut [u8]) -> Listed
-    ensures { λ r. ⌜ record { answer = r; bytes = now (out .exit) } ≡ listing captureDigits (now (differences .entry)) first (now (out .entry)) ⌝ }
+    ensures { λ r. ⌜ record { answer = r; bytes = now (out .exit) } ≡ listing (captureDigits usual) (now (differences .entry)) first (now (out .entry)) ⌝ }
 {
-    write_digits(2, differences, first, out)
+    write_listing_as(Width::Eight, differences, first, out)
 }
 
-// The same with a number of digits for the capture.
+// The same in the width that is named.
+pub fn write_listing_as(width: Width, differences: &[i32], first: u32, out: &mut [u8]) -> Listed
+    ensures { λ r. ⌜ record { answer = r; bytes = now (out .exit) } ≡ listing (captureDigits width) (now (differences .entry)) first (now (out .entry)) ⌝ }
+{
+    write_digits(digits_of(width), differences, first, out)
+}
+
+fn digits_of(width: Width) -> usize
+    ensures { λ r. ⌜ (r ≡ captureDigits width) × (r ≤ 8) ⌝ }
+{
+    match width {
+        Width::Two => 2,
+        Width::Eight => 8,
+    }
+}
+
 fn write_digits(digits: usize, differences: &[i32], first: u32, out: &mut [u8]) -> Listed
     requires { ⌜ digits ≤ 8 ⌝ }
     ensures { λ r. ⌜ record { answer = r; bytes = now (out .exit) } ≡ listing digits (now (differences .entry)) first (now (out .entry)) ⌝ }

@@ -1,5 +1,6 @@
 // Writes listings of differences, for comparison with stored output: what `peer/listing.py` wrote, by exact fractions.
 use listing::Listed;
+use listing::Width;
 
 // The eleven differences of Table 1 of the MAX35102 data sheet; halves of a ten-thousandth; steps of a digit more.
 const DIFFERENCES: [i32; 24] = [
@@ -54,23 +55,36 @@ fn write_part(text: &[u8], end: usize) {
     }
 }
 
-// All of them, from a first capture on, in an output of this many bytes.
+// All of them, from a first capture on: in eight digits.
 fn list_all(first: u32, out: &mut [u8]) {
     let listed = listing::write_listing(&DIFFERENCES, first, out);
     write_out(listed, out);
 }
 
-fn list_none(first: u32) {
+// In two digits.
+fn list_old(first: u32, out: &mut [u8]) {
+    let listed = listing::write_listing_as(Width::Two, &DIFFERENCES, first, out);
+    write_out(listed, out);
+}
+
+fn list_none(width: Width, first: u32) {
     let mut out = [b'.'; 2];
-    let listed = listing::write_listing(&DIFFERENCES[0..0], first, &mut out);
+    let listed = listing::write_listing_as(width, &DIFFERENCES[0..0], first, &mut out);
     write_out(listed, &out);
 }
 
 fn main() {
-    let mut out = [b'.'; 411];
-    list_all(232, &mut out);
+    let mut out = [b'.'; 555];
+    list_all(4294967272, &mut out);
+    list_all(4294967273, &mut out);
     list_all(233, &mut out);
-    let mut short = [b'.'; 407];
+    let mut short = [b'.'; 551];
     list_all(0, &mut short);
-    list_none(4294967295);
+    let mut old = [b'.'; 411];
+    list_old(232, &mut old);
+    list_old(233, &mut old);
+    let mut shortest = [b'.'; 407];
+    list_old(0, &mut shortest);
+    list_none(Width::Two, 4294967295);
+    list_none(Width::Eight, 4294967295);
 }

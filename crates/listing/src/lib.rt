@@ -18,7 +18,8 @@ pub enum Listed {
     Refused(u32),
 }
 
-// Lists the differences, whose captures count up from `first`, in the first places of `out`.
+// Lists the differences, whose captures count up from `first`, in the first places of `out`; a capture
+// number has eight digits.
 pub fn write_listing(differences: &[i32], first: u32, out: &mut [u8]) -> Listed
     ensures { λ r. ⌜ record { answer = r; bytes = now (out .exit) } ≡ listing (captureDigits usual) (now (differences .entry)) first (now (out .entry)) ⌝ }
 {

@@ -1,0 +1,10 @@
+pub mod Pace
+pub mod Weight
+pub mod Loops
+pub mod Outcome
+pub mod Least
+pub mod Reached
+pub mod Sent
+pub mod Made
+pub mod Meaning
+pub mod Examples

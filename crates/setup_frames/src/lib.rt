@@ -1,0 +1,33 @@
+// A model's set-up as the bus frames that bring a fresh model to it.
+ghost use lib.ListN.{length};
+ghost use Rattle.setup_frames.specs.Frames.{Written};
+use command::state::is_sound;
+use device::Model;
+
+mod put;
+mod run;
+
+pub enum Framed {
+    // The number of the refusal.
+    Refused(u32),
+    // How many bytes were written, and how many frames.
+    Frames(usize, usize),
+}
+
+// Writes the frames one after the other into the bytes, and the length of each into the lengths.
+pub fn setup_frames(m: Model, bytes: &mut [u8], lengths: &mut [u32]) -> Framed
+    ensures { λ r. ⌜ Written m (now (bytes .entry)) (now (lengths .entry)) r (now (bytes .exit)) (now (lengths .exit)) ⌝ }
+{
+    if is_sound(m) {
+        if bytes.len() < 33 {
+            return Framed::Refused(19);
+        }
+        if lengths.len() < 8 {
+            return Framed::Refused(19);
+        }
+        let setup = m.setup;
+        let written = put::put_frames(setup, bytes, lengths);
+        return Framed::Frames(written.bytes, written.frames);
+    }
+    Framed::Refused(0)
+}

@@ -31,6 +31,14 @@ impl Directions {
 }
 
 impl Model {
+    /// The first start of a group takes back the count and the average of the one before.
+    pub fn start_flight(&mut self) {
+        if self.flight.start(self.now) {
+            self.registers.set(registers::TOF_CYCLE_COUNT, 0);
+            self.registers.set_pair(registers::TOF_DIFF_AVERAGE, 0);
+        }
+    }
+
     pub fn deliver_flight(&mut self, up: &[i64], down: &[i64]) -> Result<Outcome, Refusal> {
         if !self.flight.is_awaited() {
             return Err(Refusal::NotAwaited);

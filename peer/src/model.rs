@@ -141,13 +141,13 @@ impl Model {
             self.fail_flight();
         }
         if report.flight_started {
-            self.flight.start(self.now);
+            self.start_flight();
         }
         if report.temperature_failed {
             self.fail_temperature();
         }
         if report.temperature_started {
-            self.temperature.start(self.now);
+            self.start_temperature();
         }
         self.schedule();
         report

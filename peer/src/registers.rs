@@ -2,6 +2,8 @@
 //!
 //! Addresses are those of a read; a writable register is written at its address less 80h.
 
+use crate::event::Timing;
+
 pub const FIRST: u8 = 0xB0;
 pub const ALARM: u8 = 0xB5;
 const TOF1: u8 = 0xB8;
@@ -107,7 +109,7 @@ impl Registers {
         self.field(CALIBRATION_AND_CONTROL, 9, 9) == 1
     }
 
-    pub fn continuous_event(&self) -> bool {
+    fn continuous_event(&self) -> bool {
         self.field(CALIBRATION_AND_CONTROL, 8, 8) == 1
     }
 
@@ -142,22 +144,22 @@ impl Registers {
         periods * QUANTA_PER_PERIOD
     }
 
-    /// Ticks between the differences of an event.
-    pub fn difference_period(&self) -> i64 {
-        16_384 * (self.field(EVENT_TIMING_1, 15, 12) + 1)
+    /// The differences of an event.
+    pub fn difference_timing(&self) -> Timing {
+        Timing {
+            period: 16_384 * (self.field(EVENT_TIMING_1, 15, 12) + 1),
+            total: self.field(EVENT_TIMING_1, 11, 7) + 1,
+            continuous: self.continuous_event(),
+        }
     }
 
-    pub fn difference_total(&self) -> i64 {
-        self.field(EVENT_TIMING_1, 11, 7) + 1
-    }
-
-    /// Ticks between the temperatures of an event.
-    pub fn temperature_period(&self) -> i64 {
-        32_768 * (self.field(EVENT_TIMING_1, 6, 1) + 1)
-    }
-
-    pub fn temperature_total(&self) -> i64 {
-        self.field(EVENT_TIMING_2, 15, 11) + 1
+    /// The temperatures of an event.
+    pub fn temperature_timing(&self) -> Timing {
+        Timing {
+            period: 32_768 * (self.field(EVENT_TIMING_1, 6, 1) + 1),
+            total: self.field(EVENT_TIMING_2, 15, 11) + 1,
+            continuous: self.continuous_event(),
+        }
     }
 }
 

@@ -5,6 +5,17 @@ use crate::refusal::Refusal;
 use crate::registers::{self, pair, status, PORTS, SHORT_LIMIT};
 
 impl Model {
+    /// The first start of a group takes back the count and the averages of the one before.
+    pub fn start_temperature(&mut self) {
+        if self.temperature.start(self.now) {
+            self.registers.set(registers::TEMPERATURE_CYCLE_COUNT, 0);
+            for port in 0..PORTS {
+                self.registers
+                    .set_pair(pair(registers::PORT_AVERAGES, port), 0);
+            }
+        }
+    }
+
     pub fn deliver_temperature(&mut self, words: &[i64]) -> Result<Outcome, Refusal> {
         if !self.temperature.is_awaited() {
             return Err(Refusal::NotAwaited);

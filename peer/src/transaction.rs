@@ -5,7 +5,7 @@ use crate::event::{Kind, Series};
 use crate::flight::Directions;
 use crate::model::Model;
 use crate::refusal::Refusal;
-use crate::registers::{self, pair, status, PORTS};
+use crate::registers::{self, status};
 
 /// The kinds that a transaction started.
 #[derive(Clone, Copy, Default)]
@@ -108,7 +108,7 @@ impl Model {
         let set_up = &self.registers;
         if started.flight && !set_up.flight_ready()
             || started.temperature && !set_up.temperature_ready()
-            || event && (set_up.continuous_event() || set_up.clock_stands())
+            || event && set_up.clock_stands()
         {
             return Err(Refusal::SetUp);
         }
@@ -121,33 +121,24 @@ impl Model {
             _ => Directions::BOTH,
         };
         if started.flight {
-            self.flight.start(self.now);
+            self.start_flight();
         }
         if started.temperature {
-            self.temperature.start(self.now);
+            self.start_temperature();
         }
         self.schedule();
         Ok(started)
     }
 
+    /// Whether the event is continuous is decided here, for as long as it runs.
     fn begin_event(&mut self, kinds: Started) {
-        let registers = &mut self.registers;
         if kinds.flight {
-            let (period, total) = (registers.difference_period(), registers.difference_total());
-            self.flight.series = Some(Series::new(self.now, period, total));
-            registers.set(registers::TOF_CYCLE_COUNT, 0);
-            registers.set_pair(registers::TOF_DIFF_AVERAGE, 0);
+            let timing = self.registers.difference_timing();
+            self.flight.series = Some(Series::new(self.now, timing));
         }
         if kinds.temperature {
-            let (period, total) = (
-                registers.temperature_period(),
-                registers.temperature_total(),
-            );
-            self.temperature.series = Some(Series::new(self.now, period, total));
-            registers.set(registers::TEMPERATURE_CYCLE_COUNT, 0);
-            for port in 0..PORTS {
-                registers.set_pair(pair(registers::PORT_AVERAGES, port), 0);
-            }
+            let timing = self.registers.temperature_timing();
+            self.temperature.series = Some(Series::new(self.now, timing));
         }
     }
 }

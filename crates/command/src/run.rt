@@ -99,7 +99,7 @@ fn event_side_unset(setup: [u16; 16], op: u32) -> bool
     ensures { λ r. ⌜ r ≡ eventSideUnset setup op ⌝ }
 {
     if is_event(op) {
-        return register::event_unset(setup);
+        return register::clock_stands(setup);
     }
     false
 }
@@ -142,7 +142,8 @@ fn flight_event(f: Flight, setup: [u16; 16]) -> Flight
 {
     let period = register::difference_period(setup);
     let planned = register::difference_count(setup);
-    let schedule = start_event(period, planned);
+    let continuous = register::event_continuous(setup);
+    let schedule = start_event(period, planned, continuous);
     let mut n = f;
     n.schedule = schedule;
     n.up = true;
@@ -156,7 +157,8 @@ fn temperature_event(t: Temperature, setup: [u16; 16]) -> Temperature
 {
     let period = register::temperature_period(setup);
     let planned = register::temperature_count(setup);
-    let schedule = start_event(period, planned);
+    let continuous = register::event_continuous(setup);
+    let schedule = start_event(period, planned, continuous);
     let mut n = t;
     n.schedule = schedule;
     n.sums = [0, 0, 0, 0];

@@ -3,13 +3,13 @@ use mathlib.Core.Path.{_≡_, refl}
 use Rattle.calendar.specs.Calendar.{leap, monthLength, dateFits, timeFits, clockValid, nextYear, nextMonth, nextWeekday}
 use Rattle.calendar.specs.Calendar.{nextDate, nextHour, nextMinute, nextSecond, tickClock}
 use Rattle.calendar.specs.Words.{hundredthsOf, minuteIn, twelveIn, hourNamed, hourIn, clockFrom, timeDigits, hourFits, digitsFit, wordsValid}
-use Rattle.register.specs.Setup.{factory, hitCount, differencePeriod, differenceCount}
+use Rattle.register.specs.Setup.{factory, hitCount, differencePeriod, differenceCount, eventContinuous}
 use Rattle.measurement.specs.Limit.{lateFrom, openFrom, anyWord, anyFrom}
 use Rattle.measurement.specs.Words.{wordOrZero, six, sixTotal, average}
 use Rattle.measurement.specs.Difference.{differenceWord, biased, differenceMean}
 use Rattle.measurement.specs.Mean.{All}
-use Rattle.device.specs.Event.{noSchedule, single, eventStart, awaits, begins, fails, settle, tickSchedule}
-use Rattle.device.specs.Event.{leftAfter, waitAfter, startedAfter, settledAfter}
+use Rattle.device.specs.Event.{noSchedule, single, eventStart, awaits, startsLeft, begins, beginsGroup, fails, settle, tickSchedule}
+use Rattle.device.specs.Event.{leftAfter, waitAfter, startedAfter, settledAfter, goodAfter}
 use Rattle.device.specs.Model.{freshModel, freshWith, noFlight}
 use Rattle.device.specs.Registers.{half, flightWord, registerWord}
 use Rattle.device.specs.Delivery.{goodDifference, goodSum, goodFlight, flightGood}
@@ -17,5 +17,5 @@ use Rattle.device.specs.Bus.{startsFlight, flightStarted, flightEvent, e
 use Rattle.device.specs.Bench.{Example, bench, ticked, startTicks}
 
 pub bench-holds : All (λ (e : Example). e .given ≡ e .wanted) bench
-unfolding bench ticked startTicks leap monthLength dateFits timeFits clockValid nextYear nextMonth nextWeekday nextDate nextHour nextMinute nextSecond tickClock hundredthsOf minuteIn twelveIn hourNamed hourIn clockFrom timeDigits hourFits digitsFit wordsValid factory hitCount differencePeriod differenceCount lateFrom openFrom anyWord anyFrom wordOrZero six sixTotal average differenceWord biased differenceMean noSchedule single eventStart awaits begins fails settle tickSchedule leftAfter waitAfter startedAfter settledAfter freshModel freshWith noFlight half flightWord registerWord goodDifference goodSum goodFlight flightGood startsFlight flightStarted flightEvent eventFlight startedEvent singleStarted
+unfolding bench ticked startTicks leap monthLength dateFits timeFits clockValid nextYear nextMonth nextWeekday nextDate nextHour nextMinute nextSecond tickClock hundredthsOf minuteIn twelveIn hourNamed hourIn clockFrom timeDigits hourFits digitsFit wordsValid factory hitCount differencePeriod differenceCount lateFrom openFrom anyWord anyFrom wordOrZero six sixTotal average differenceWord biased differenceMean noSchedule single eventStart awaits begins fails settle tickSchedule leftAfter waitAfter startedAfter settledAfter freshModel freshWith noFlight half flightWord registerWord goodDifference goodSum goodFlight flightGood startsFlight flightStarted flightEvent eventFlight startedEvent singleStarted startsLeft beginsGroup goodAfter eventContinuous
 bench-holds = (refl, (refl, (refl, (refl, (refl, (refl, (refl, (refl, (refl, (refl, (refl, tt)))))))))))

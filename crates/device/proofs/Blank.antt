@@ -15,12 +15,12 @@ use Rattle.device.specs.declared.Temperature.{Temperature}
 use Rattle.device.specs.declared.Model.{Model}
 use Rattle.device.specs.declared.Answer.{Answer}
 use Rattle.device.specs.declared.Answer.the-variants.{Good, Failed}
-use Rattle.device.specs.Event.{awaits, inEvent, begins, fails, single, leftAfter, waitAfter, startedAfter, settledAfter, tickSchedule, settle, halted}
+use Rattle.device.specs.Event.{awaits, inEvent, startsLeft, begins, beginsGroup, fails, single, leftAfter, waitAfter, startedAfter, settledAfter, goodAfter, tickSchedule, settle, halted}
 use Rattle.device.specs.Status.{noBits}
 use Rattle.device.specs.Model.{kindBusy, busy, withTemperature}
 use Rattle.device.specs.Registers.{calendarWord}
 use Rattle.device.specs.Write.{ticksAfter, clockAfter, writeInvalid, writeModel}
-use Rattle.device.specs.Tick.{temperatureAfter, clockTicked, tickModel}
+use Rattle.device.specs.Tick.{sumsAfter, temperatureAfter, clockTicked, tickModel}
 use Rattle.device.specs.Stretch.{ticked}
 use Rattle.device.specs.Delivery.{flightGood, flightFailed, temperatureGood, temperatureFailed}
 use Rattle.device.specs.Bus.{startsTemperature, isEvent, commandBusy, notReady, commandUnset, temperatureEvent, eventFlight, eventTemperature}
@@ -42,6 +42,7 @@ uncounted k =
       planned = k .planned;
       started = k .started;
       settled = k .settled;
+      continuous = k .continuous;
       good = 0;
     }
 
@@ -61,7 +62,7 @@ blank m =
 
 -- Each accepted call leaves the same of both, but for that.
 tick-same : (m : Model) → blank (tickModel m) ≡ blank (tickModel (blank m))
-unfolding blank unmeasured uncounted tickModel clockTicked temperatureAfter tickSchedule leftAfter waitAfter startedAfter settledAfter begins fails
+unfolding blank unmeasured uncounted tickModel clockTicked temperatureAfter tickSchedule leftAfter waitAfter startedAfter settledAfter goodAfter beginsGroup begins startsLeft fails
 tick-same m = by-test (eqb (m .temperature .schedule .left .0) 1) (λ e. rw e) (λ e. rw e)
 
 stretch-same : (n : ℕ) (m : Model) → blank (ticked n m) ≡ blank (ticked n (blank m))

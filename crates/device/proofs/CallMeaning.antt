@@ -17,13 +17,14 @@ use Rattle.device.specs.declared.Flight.{Flight}
 use Rattle.device.specs.declared.Temperature.{Temperature}
 use Rattle.device.specs.declared.Model.{Model}
 use Rattle.device.specs.declared.Told.the-variants.{Value}
-use Rattle.device.specs.Event.{awaits, fails as expires, tickSchedule, settledAfter, settle}
+use Rattle.device.specs.Event.{awaits, beginsGroup, fails as expires, tickSchedule, settledAfter, goodAfter, settle}
 use Rattle.device.specs.declared.Status.{Status}
 use Rattle.device.specs.Status.{noBits, joined, alarmBit, flightBits, temperatureBits}
 use Rattle.device.specs.Model.{sound}
-use Rattle.device.specs.Tick.{lostFlight, flightAfter, temperatureAfter, clockTicked, alarmRaised, tickStatus, tickModel}
+use Rattle.device.specs.Tick.{lostDifference, lostFlight, sumAfter, sumsAfter, flightTicked, flightAfter, temperatureAfter, clockTicked, alarmRaised, tickStatus, tickModel}
 use Rattle.device.specs.Delivery.{sameCount, flightMiscounted, flightStatus, flightFailed, temperatureStatus, temperatureFailed}
 use Rattle.device.specs.Bus.{flightStarted, flightEvent}
+use Rattle.device.proofs.Sound.{bounds-of, fails-alone}
 use Rattle.device.proofs.StatusMeaning.{kept}
 use Rattle.device.specs.Call.{flight, temperature, refused, verdict, table, firstOf, awaitedTold}
 use Rattle.device.specs.Call.{noFrame, notCarried, wrongLength, pastRegisters, shortOutput, whileBusy, badCalendar}
@@ -105,13 +106,14 @@ pub expires-means : (k : Schedule) → (expires k ≡ true) ↔ (k .left .0 ≡ 
 unfolding expires
 expires-means k = by-eqb (k .left .0) 1 (λ h e. rw e (holds h)) (λ h e. rw e (fails false h))
 
-expired-settled : (k : Schedule) → expires k ≡ true → tickSchedule k .settled ≡ settle k false .settled
+expired-settled :
+    (k : Schedule) → beginsGroup k ≡ false → expires k ≡ true → tickSchedule k .settled ≡ settle k false .settled
 unfolding tickSchedule settledAfter settle
-expired-settled k e = rw e (by-test (ltb (k .settled) (k .planned)) (λ f. rw f) (λ f. rw f))
+expired-settled k n e = rw (n, e) (by-test (ltb (k .settled) (k .planned)) (λ f. rw f) (λ f. rw f))
 
-expired-good : (k : Schedule) → tickSchedule k .good ≡ settle k false .good
-unfolding tickSchedule settle
-expired-good k = by-test (ltb (k .settled) (k .planned)) (λ f. rw f) (λ f. rw f)
+expired-good : (k : Schedule) → beginsGroup k ≡ false → tickSchedule k .good ≡ settle k false .good
+unfolding tickSchedule goodAfter settle
+expired-good k n = rw n (by-test (ltb (k .settled) (k .planned)) (λ f. rw f) (λ f. rw f))
 
 pub record SameFlight (f g : Flight) : Type 0 where
   pub ups : f .ups ≡ g .ups
@@ -122,17 +124,21 @@ pub record SameFlight (f g : Flight) : Type 0 where
   pub good : f .schedule .good ≡ g .schedule .good
 
 pub flight-expires :
-    (m : Model) → expires (m .flight .schedule) ≡ true → SameFlight (tickModel m .flight) (flightFailed m .flight)
-unfolding tickModel flightAfter flightFailed lostFlight
-flight-expires m e =
-    rw e
+    (m : Model) →
+    sound m ≡ true →
+    expires (m .flight .schedule) ≡ true →
+    SameFlight (tickModel m .flight) (flightFailed m .flight)
+unfolding tickModel flightAfter flightTicked sumAfter flightFailed lostFlight lostDifference
+flight-expires m s e =
+    let n = fails-alone (m .flight .schedule) (bounds-of m s .flight .schedule) e in
+    rw (e, n)
     (record {
       ups = refl;
       downs = refl;
       difference = refl;
       sum = refl;
-      settled = expired-settled (m .flight .schedule) e;
-      good = expired-good (m .flight .schedule);
+      settled = expired-settled (m .flight .schedule) n e;
+      good = expired-good (m .flight .schedule) n;
     })
 
 pub record SameTemperature (f g : Temperature) : Type 0 where
@@ -143,20 +149,22 @@ pub record SameTemperature (f g : Temperature) : Type 0 where
 
 pub temperature-expires :
     (m : Model) (limit : Quanta) (w : List ℕ) →
+    sound m ≡ true →
     limit .0 ≤ getD w 0 0 →
     limit .0 ≤ getD w 1 0 →
     limit .0 ≤ getD w 2 0 →
     limit .0 ≤ getD w 3 0 →
     expires (m .temperature .schedule) ≡ true →
     SameTemperature (tickModel m .temperature) (temperatureFailed m limit true w .temperature)
-unfolding tickModel temperatureAfter temperatureFailed
-temperature-expires m limit w h i j k e =
-    rw e
+unfolding tickModel temperatureAfter sumsAfter temperatureFailed
+temperature-expires m limit w s h i j k e =
+    let n = fails-alone (m .temperature .schedule) (bounds-of m s .temperature .schedule) e in
+    rw (e, n)
     (record {
       ports = sym (all-open limit w h i j k);
       sums = refl;
-      settled = expired-settled (m .temperature .schedule) e;
-      good = expired-good (m .temperature .schedule);
+      settled = expired-settled (m .temperature .schedule) n e;
+      good = expired-good (m .temperature .schedule) n;
     })
 
 -- and as the failed delivery does, it sets the bits: of a tick in which nothing else sets one

@@ -3,7 +3,7 @@ use Prim.Native.Nat.{ℕ}
 use mathlib.Core.List.{[], _∷_, map}
 use mathlib.Core.Path.{_≡_, refl}
 use Rattle.unit.specs.Cases.{by-test}
-use Rattle.register.specs.Setup.{differencePeriod, differenceCount, temperaturePeriod, temperatureCount}
+use Rattle.register.specs.Setup.{differencePeriod, differenceCount, temperaturePeriod, temperatureCount, eventContinuous}
 use Rattle.measurement.specs.Difference.{differenceMean, portMean}
 use Rattle.device.specs.declared.Model.{Model}
 use Rattle.device.specs.Event.{single, eventStart}
@@ -44,8 +44,8 @@ module _ (m : Model) where
   -- "07h runs both kinds, 08h differences, 09h temperatures.", with P and N of the set-up
   pub runs-differences :
       map (λ (op : ℕ). runModel m op .flight .schedule) (7 ∷ 8 ∷ 9 ∷ [])
-      ≡ eventStart (differencePeriod (m .setup)) (differenceCount (m .setup)) ∷
-      eventStart (differencePeriod (m .setup)) (differenceCount (m .setup)) ∷
+      ≡ eventStart (differencePeriod (m .setup)) (differenceCount (m .setup)) (eventContinuous (m .setup)) ∷
+      eventStart (differencePeriod (m .setup)) (differenceCount (m .setup)) (eventContinuous (m .setup)) ∷
       m .flight .schedule ∷
       []
   unfolding runModel isEvent startedEvent eventFlight startsFlight flightEvent
@@ -53,9 +53,9 @@ module _ (m : Model) where
 
   pub runs-temperatures :
       map (λ (op : ℕ). runModel m op .temperature .schedule) (7 ∷ 8 ∷ 9 ∷ [])
-      ≡ eventStart (temperaturePeriod (m .setup)) (temperatureCount (m .setup)) ∷
+      ≡ eventStart (temperaturePeriod (m .setup)) (temperatureCount (m .setup)) (eventContinuous (m .setup)) ∷
       m .temperature .schedule ∷
-      eventStart (temperaturePeriod (m .setup)) (temperatureCount (m .setup)) ∷
+      eventStart (temperaturePeriod (m .setup)) (temperatureCount (m .setup)) (eventContinuous (m .setup)) ∷
       []
   unfolding runModel isEvent startedEvent eventTemperature startsTemperature temperatureEvent
   runs-temperatures = refl

@@ -2,7 +2,7 @@
 -- and deliveries.
 use Prim.Native.Nat.{ℕ, zero, suc, _+_, _-_, _*_, _/_, _%_, _≤_, _<_}
 use native.Mathlib.Omega.{arith}
-use mathlib.Core.Bool.{true, false}
+use mathlib.Core.Bool.{Bool, true, false}
 use mathlib.Core.List.{List}
 use mathlib.Core.Path.{_≡_, refl, _∙_}
 use lib.ListN.{length, getD, set, length-set}
@@ -40,9 +40,9 @@ pub single-awaited : (k : Schedule) → awaits (single k) ≡ true
 unfolding awaits single
 single-awaited k = refl
 
-pub start-awaited : (p : Ticks) (n : ℕ) → awaits (eventStart p n) ≡ true
+pub start-awaited : (p : Ticks) (n : ℕ) (c : Bool) → awaits (eventStart p n c) ≡ true
 unfolding awaits eventStart
-start-awaited p n = refl
+start-awaited p n c = refl
 
 -- "HALT drops awaited measurements, ends the event"
 pub halted-idle : (k : Schedule) → kindBusy (halted k) ≡ false

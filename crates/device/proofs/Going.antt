@@ -1,22 +1,23 @@
 -- The schedule of an event against what the calls told of it so far: one argument for both kinds.
-use Prim.Native.Nat.{ℕ, zero, suc, _+_, _*_, _≤_, _<_}
-use native.Mathlib.Nat.{zero-mul, mul-le-mul-right}
+use Prim.Native.Nat.{ℕ, zero, suc, _+_, _-_, _*_, _%_, _≤_, _<_}
+use native.Mathlib.Nat.{zero-mul, mul-le-mul-left, mul-le-mul-right, add-mul-mod-self-right, mod-eq-of-lt}
 use native.Mathlib.Omega.{arith}
 use native.Mathlib.Numerals.{add-one}
 use mathlib.Core.Path.{_≡_, refl, sym, _∙_}
-use mathlib.Core.Bool.{true, false}
+use mathlib.Core.Bool.{Bool, true, false}
 use mathlib.Core.List.{List, [], _∷_, _++_, append-nil}
 use lib.ListN.{length, length-append}
-use borrow.Author.Tests.{lt-ltb, le-leb, lt-leb}
-use Rattle.unit.specs.Choice.{pick, negate}
-use Rattle.unit.specs.Cases.{by-ltb, by-eqb}
+use borrow.Author.Tests.{lt-ltb, le-leb, lt-leb, eq-eqb, ne-eqb}
+use Rattle.unit.specs.Choice.{pick, both, negate}
+use Rattle.unit.specs.Cases.{by-test, by-ltb, by-eqb}
 use Rattle.unit.specs.declared.Ticks.{Ticks}
 use Rattle.measurement.specs.Mean.{All}
 use Rattle.device.specs.declared.Schedule.{Schedule}
-use Rattle.device.specs.Event.{awaits, begins, fails, eventStart, leftAfter, waitAfter, startedAfter, settledAfter}
-use Rattle.device.specs.Event.{tickSchedule, settle}
+use Rattle.device.specs.Event.{awaits, startsLeft, begins, beginsGroup, fails, eventStart, leftAfter, waitAfter, startedAfter}
+use Rattle.device.specs.Event.{settledAfter, goodAfter, tickSchedule, settle}
 use Rattle.device.specs.Call.{Call}
-use Rattle.device.specs.Claim.{History, Expiry, noteTick, noteGood, noteFailed, noneLost, reached}
+use Rattle.device.specs.Claim.{Plan, History, Expiry, opensGroup, noteTick, noteGood, noteFailed, noneLost, reached, plannedStarts}
+use Rattle.device.proofs.TickCases.{by-begins, by-group, no-group, one-less}
 
 -- 0, P, 2 P and so on: n of them
 unfoldable pub multiples : ℕ → ℕ → List ℕ
@@ -26,29 +27,40 @@ multiples P (suc n) = multiples P n ++ (n * P ∷ [])
 abbrev pub Timely : Expiry → Type 0
 Timely e = e .at ≡ e .start + 8192
 
--- The starts told after t ticks, the last of them, and the ticks until the next.
-pub record Begun (P N : ℕ) (told : List ℕ) (latest t wait started : ℕ) : Type 0 where
+-- The starts told after t ticks, `total` of them, the last of them, and the ticks until the next, where one is to come.
+pub record Begun (P : ℕ) (told : List ℕ) (latest t wait total : ℕ) (more : Bool) : Type 0 where
   pub long : 16384 ≤ P
+  pub some : 1 ≤ total
+  pub starts : told ≡ multiples P total
+  pub last : latest + P ≡ total * P
+  pub due : total * P ≤ t + P
+  pub next : more ≡ true → (total * P ≡ t + wait) × (1 ≤ wait)
+
+-- The place of the last of `total` starts in its group of N, `turns` groups gone before.
+pub record Placed (N total started turns : ℕ) (continuous : Bool) : Type 0 where
   pub some : 1 ≤ started
   pub most : started ≤ N
-  pub starts : told ≡ multiples P started
-  pub last : latest + P ≡ started * P
-  pub due : started * P ≤ t + P
-  pub next : started < N → (started * P ≡ t + wait) × (1 ≤ wait)
+  pub place : total ≡ turns * N + started
+  pub alone : continuous ≡ false → turns ≡ 0
 
 -- What was told good and failed, against the numbers settled and good.
 pub record Counted (told : List Call) (lost : ℕ) (expiries : List Expiry) (misjudged settled count : ℕ) : Type 0 where
-  pub all : settled ≡ length told + (lost + length expiries)
+  pub all : settled ≡ length told + lost
   pub good : count ≡ length told
   pub timely : All Timely expiries
   pub judged : misjudged ≡ 0
 
--- What holds of the schedule `k` of an event with period P and N measurements, from its start on: `h` is what was told.
-pub record Going (P N : ℕ) (h : History) (k : Schedule) : Type 0 where
-  pub period : k .period .0 ≡ P
-  pub planned : k .planned ≡ N
-  pub begun : Begun P N (h .starts) (h .last) (h .ticks) (k .wait .0) (k .started)
-  pub counted : Counted (h .good) (h .lost) (h .expiries) (h .misjudged) (k .settled) (k .good)
+-- What holds of the schedule `k` of an event of plan p from its start on: `h` is what was told.
+pub record Going (p : Plan) (h : History) (k : Schedule) : Type 0 where
+  pub period : k .period .0 ≡ p .period
+  pub planned : k .planned ≡ p .count
+  pub continuous : k .continuous ≡ p .continuous
+  pub total : ℕ
+  pub turns : ℕ
+  pub begun : Begun (p .period) (h .starts) (h .last) (h .ticks) (k .wait .0) total (startsLeft k)
+  pub placed : Placed (p .count) total (k .started) turns (p .continuous)
+  pub told : h .started ≡ k .started
+  pub counted : Counted (h .good) (h .failed) (h .expiries) (h .misjudged) (k .settled) (k .good)
   pub since : 0 < k .left .0 → k .left .0 + h .ticks ≡ h .last + 8192
   pub idle : k .left .0 ≡ 0 → k .started ≡ k .settled
   pub busy : 0 < k .left .0 → k .started ≡ k .settled + 1
@@ -85,98 +97,164 @@ reached-are P (suc N) s t o l d n =
     let f : t < N * P = omega (arith, n (omega arith), mul-le-mul-right P h) in
     rw (lt-leb (N * P) t f, append-nil, reached-are P N s t o h d (λ u. n (omega arith))))
 
--- how a tick begins a measurement, or not
-pub by-begins :
-    {G : Type 0} (k : Schedule) →
-    (k .started < k .planned → k .wait .0 ≤ 1 → begins k ≡ true → startedAfter k ≡ k .started + 1 → G) →
-    ((k .started < k .planned → 2 ≤ k .wait .0) → begins k ≡ false → startedAfter k ≡ k .started → G) →
-    G
-unfolding begins startedAfter
-by-begins k f g =
-    by-ltb (k .started) (k .planned)
-    (λ l e. by-ltb 1 (k .wait .0)
-    (λ w _. let d = lt-leb (k .wait .0) 1 w in g (λ _. w) (rw (e, d)) (rw (e, d)))
-    (λ w _. let d = le-leb (k .wait .0) 1 w in f l w (rw (e, d)) (rw (e, d))))
-    (λ l e. g (λ u. absurd (omega arith)) (rw e) (rw e))
+both-false : (b : Bool) → both b false ≡ false
+both-false true = refl
+both-false false = refl
 
-module _ (P N : ℕ) (h : History) (k : Schedule) (g : Going P N h k) where
+module _ (p : Plan) (h : History) (k : Schedule) (g : Going p h k) where
   -- at a start nothing is awaited, since the period is longer than a measurement may last
-  pub none-awaited : k .started < k .planned → k .wait .0 ≤ 1 → k .left .0 ≡ 0
+  pub none-awaited : startsLeft k ≡ true → k .wait .0 ≤ 1 → k .left .0 ≡ 0
   none-awaited l w =
       by-ltb 0 (k .left .0)
-      (λ p _. absurd (omega (arith, g .since p, g .begun .next (omega arith))))
-      (λ p _. omega arith)
+      (λ a _. absurd (omega (arith, g .since a, g .begun .next l)))
+      (λ a _. omega arith)
 
-  -- a tick with a start
+  -- a start opens a group as it is told exactly where it begins one
+  opens-none : k .started < k .planned → opensGroup p h ≡ false
+  unfolding opensGroup
+  opens-none l = rw (ne-eqb (h .started) (p .count) (λ e. omega (arith, g .told, g .planned))) (both-false (p .continuous))
+
+  opens-one : k .continuous ≡ true → k .planned ≤ k .started → opensGroup p h ≡ true
+  unfolding opensGroup
+  opens-one c l =
+      rw (← g .continuous, c, eq-eqb (h .started) (p .count) (omega (arith, g .told, g .planned, g .placed .most)))
+
+  pub group-told : both (begins k) (opensGroup p h) ≡ beginsGroup k
+  group-told =
+      by-begins k
+      (λ l w b. by-group k b (λ u n s. rw (b, n) (opens-none u)) (λ c u n s. rw (b, n) (opens-one c u)))
+      (λ f b. rw (b, no-group k b .0))
+
+  -- the next start, after one in this tick
+  begun-next :
+      startsLeft k ≡ true →
+      k .wait .0 ≤ 1 →
+      (more : Bool) →
+      Begun (p .period) (h .starts ++ ((h .ticks + 1) ∷ [])) (h .ticks + 1) (h .ticks + 1) (k .period .0) (g .total + 1) more
+  begun-next l w more =
+      let n = g .begun .next l in
+      let d : g .total * p .period ≡ h .ticks + 1 = omega arith in
+      record {
+        long = g .begun .long;
+        some = omega arith;
+        starts = rw (g .begun .starts, multiples-next (p .period) (g .total), d);
+        last = omega arith;
+        due = omega arith;
+        next = λ u. omega (arith, g .period, g .begun .long);
+      }
+
+  -- a tick with a start of the group
   going-begins :
-      k .started < k .planned →
+      startsLeft k ≡ true →
       k .wait .0 ≤ 1 →
       begins k ≡ true →
+      k .started < k .planned →
+      beginsGroup k ≡ false →
       startedAfter k ≡ k .started + 1 →
-      Going P N (noteTick (begins k) (fails k) h) (tickSchedule k)
-  unfolding noteTick tickSchedule leftAfter waitAfter settledAfter fails
-  going-begins l w b s =
+      Going p (noteTick p (begins k) (fails k) h) (tickSchedule k)
+  unfolding noteTick tickSchedule leftAfter waitAfter settledAfter goodAfter fails
+  going-begins l w b u n s =
       let z : k .left .0 ≡ 0 = none-awaited l w in
-      let n = g .begun .next (omega arith) in
-      let d : k .started * P ≡ h .ticks + 1 = omega arith in
-      rw (b, s, z, le-leb (k .wait .0) 1 w)
+      rw (opens-none u, b, n, s, z, le-leb (k .wait .0) 1 w)
       (record {
         period = g .period;
         planned = g .planned;
-        begun =
+        continuous = g .continuous;
+        total = g .total + 1;
+        turns = g .turns;
+        begun = begun-next l w _;
+        placed =
             record {
-              long = g .begun .long;
               some = omega arith;
-              most = omega arith;
-              starts = rw (g .begun .starts, multiples-next P (k .started), d);
-              last = omega arith;
-              due = omega arith;
-              next = λ u. omega arith;
+              most = omega (arith, g .planned);
+              place = omega (arith, g .placed .place);
+              alone = g .placed .alone;
             };
+        told = omega (arith, g .told);
         counted = g .counted;
         since = λ u. omega arith;
         idle = λ u. absurd (omega arith);
         busy = λ u. omega (arith, g .idle z);
       })
 
-  -- a tick without one
+  -- a tick with the first start of a group
+  going-turns :
+      startsLeft k ≡ true →
+      k .wait .0 ≤ 1 →
+      begins k ≡ true →
+      k .continuous ≡ true →
+      k .planned ≤ k .started →
+      beginsGroup k ≡ true →
+      startedAfter k ≡ 1 →
+      Going p (noteTick p (begins k) (fails k) h) (tickSchedule k)
+  unfolding noteTick tickSchedule leftAfter waitAfter settledAfter goodAfter fails
+  going-turns l w b c u n s =
+      let z : k .left .0 ≡ 0 = none-awaited l w in
+      rw (opens-one c u, b, n, s, z, le-leb (k .wait .0) 1 w)
+      (record {
+        period = g .period;
+        planned = g .planned;
+        continuous = g .continuous;
+        total = g .total + 1;
+        turns = g .turns + 1;
+        begun = begun-next l w _;
+        placed =
+            record {
+              some = omega arith;
+              most = omega (arith, g .placed .some, g .placed .most);
+              place = omega (arith, g .placed .place, g .placed .most, g .planned);
+              alone = λ e. let z : _≡_ {A = ℕ} 0 1 = cc (g .continuous) in absurd (omega arith);
+            };
+        told = refl;
+        counted = record { all = refl; good = refl; timely = g .counted .timely; judged = g .counted .judged };
+        since = λ u. omega arith;
+        idle = λ u. absurd (omega arith);
+        busy = λ u. refl;
+      })
+
+  -- a tick without a start
   begun-on :
-      (k .started < k .planned → 2 ≤ k .wait .0) →
-      Begun P N (h .starts) (h .last) (h .ticks + 1) (waitAfter k) (k .started)
+      (startsLeft k ≡ true → 2 ≤ k .wait .0) →
+      Begun (p .period) (h .starts) (h .last) (h .ticks + 1) (waitAfter k) (g .total) (startsLeft k)
   unfolding waitAfter
   begun-on f =
       record {
         long = g .begun .long;
         some = g .begun .some;
-        most = g .begun .most;
         starts = g .begun .starts;
         last = g .begun .last;
         due = omega arith;
         next =
             λ u.
-            let w : 1 < k .wait .0 = f (omega arith) in
+            let w : 1 < k .wait .0 = f u in
             rw (lt-leb (k .wait .0) 1 w) (omega (arith, g .begun .next u));
       }
 
   going-expires :
-      (k .started < k .planned → 2 ≤ k .wait .0) →
+      (startsLeft k ≡ true → 2 ≤ k .wait .0) →
       begins k ≡ false →
-      startedAfter k ≡ k .started →
       k .left .0 ≡ 1 →
-      Going P N (noteTick (begins k) (fails k) h) (tickSchedule k)
-  unfolding noteTick tickSchedule leftAfter waitAfter settledAfter fails
-  going-expires f b s z =
+      Going p (noteTick p (begins k) (fails k) h) (tickSchedule k)
+  unfolding noteTick tickSchedule leftAfter waitAfter settledAfter goodAfter fails startsLeft
+  going-expires f b z =
       let c = g .since (omega arith) in
       let d = g .busy (omega arith) in
       let e : Expiry = record { start = h .last; at = h .ticks + 1 } in
-      rw (b, s, z, lt-ltb (k .settled) (k .planned) (omega arith))
+      let (n, s) = no-group k b in
+      let u : k .settled < k .planned = omega (arith, g .placed .most, g .planned) in
+      rw (b, n, s, z, lt-ltb (k .settled) (k .planned) u)
       (record {
         period = g .period;
         planned = g .planned;
+        continuous = g .continuous;
+        total = g .total;
+        turns = g .turns;
         begun = begun-on f;
+        placed = g .placed;
+        told = g .told;
         counted =
             record {
-              all = omega (arith, one-longer (h .expiries) e);
+              all = omega arith;
               good = g .counted .good;
               timely = all-append Timely (h .expiries) e (g .counted .timely) (omega arith);
               judged = g .counted .judged;
@@ -187,60 +265,61 @@ module _ (P N : ℕ) (h : History) (k : Schedule) (g : Going P N h k) where
       })
 
   going-on :
-      (k .started < k .planned → 2 ≤ k .wait .0) →
+      (startsLeft k ≡ true → 2 ≤ k .wait .0) →
       begins k ≡ false →
-      startedAfter k ≡ k .started →
       fails k ≡ false →
       (0 < leftAfter k → k .left .0 ≡ leftAfter k + 1) →
       (leftAfter k ≡ 0 → k .left .0 ≡ 0) →
-      Going P N (noteTick (begins k) (fails k) h) (tickSchedule k)
-  unfolding noteTick tickSchedule settledAfter
-  going-on f b s e more none =
-      rw (b, s, e)
+      Going p (noteTick p (begins k) (fails k) h) (tickSchedule k)
+  unfolding noteTick tickSchedule settledAfter goodAfter startsLeft
+  going-on f b e more none =
+      let (n, s) = no-group k b in
+      rw (b, n, s, e)
       (record {
         period = g .period;
         planned = g .planned;
+        continuous = g .continuous;
+        total = g .total;
+        turns = g .turns;
         begun = begun-on f;
+        placed = g .placed;
+        told = g .told;
         counted = g .counted;
         since = λ u. omega (arith, more u, g .since (omega (arith, more u)));
         idle = λ u. g .idle (none u);
         busy = λ u. g .busy (omega (arith, more u));
       })
 
-  -- one tick less is left, unless it was the last
-  one-less :
-      ¬ (k .left .0 ≡ 1) →
-      begins k ≡ false →
-      (0 < leftAfter k → k .left .0 ≡ leftAfter k + 1) × (leftAfter k ≡ 0 → k .left .0 ≡ 0)
-  unfolding leftAfter
-  one-less n b = rw b (by-ltb 0 (k .left .0) (λ l e. rw e (omega arith)) (λ l e. rw e (omega arith)))
-
   going-rests :
-      (k .started < k .planned → 2 ≤ k .wait .0) →
+      (startsLeft k ≡ true → 2 ≤ k .wait .0) →
       begins k ≡ false →
-      startedAfter k ≡ k .started →
-      Going P N (noteTick (begins k) (fails k) h) (tickSchedule k)
+      Going p (noteTick p (begins k) (fails k) h) (tickSchedule k)
   unfolding fails
-  going-rests f b s =
-      by-eqb (k .left .0) 1 (λ z _. going-expires f b s z)
-      (λ n e. let (more, none) = one-less n b in going-on f b s (rw e) more none)
+  going-rests f b =
+      by-eqb (k .left .0) 1 (λ z _. going-expires f b z)
+      (λ n e. let (more, none) = one-less k n b in going-on f b (rw e) more none)
 
-  pub going-tick : Going P N (noteTick (begins k) (fails k) h) (tickSchedule k)
-  going-tick = by-begins k going-begins going-rests
+  pub going-tick : Going p (noteTick p (begins k) (fails k) h) (tickSchedule k)
+  going-tick = by-begins k (λ l w b. by-group k b (going-begins l w b) (going-turns l w b)) going-rests
 
   pub unsettled : 0 < k .left .0 → k .settled < k .planned
-  unsettled l = omega (arith, g .busy l)
+  unsettled l = omega (arith, g .busy l, g .placed .most, g .planned)
 
   -- a delivery answered good, and one answered failed, as its words are
   pub going-good :
-      (s : List ℕ) (c : Call) → 0 < k .left .0 → noneLost s c ≡ true → Going P N (noteGood s c h) (settle k true)
-  unfolding noteGood settle
+      (s : List ℕ) (c : Call) → 0 < k .left .0 → noneLost s c ≡ true → Going p (noteGood s c h) (settle k true)
+  unfolding noteGood settle startsLeft
   going-good s c l e =
       rw (e, lt-ltb (k .settled) (k .planned) (unsettled l))
       (record {
         period = g .period;
         planned = g .planned;
+        continuous = g .continuous;
+        total = g .total;
+        turns = g .turns;
         begun = g .begun;
+        placed = g .placed;
+        told = g .told;
         counted =
             record {
               all = omega (arith, one-longer (h .good) c);
@@ -254,14 +333,19 @@ module _ (P N : ℕ) (h : History) (k : Schedule) (g : Going P N h k) where
       })
 
   pub going-failed :
-      (s : List ℕ) (c : Call) → 0 < k .left .0 → noneLost s c ≡ false → Going P N (noteFailed s c h) (settle k false)
-  unfolding noteFailed settle
+      (s : List ℕ) (c : Call) → 0 < k .left .0 → noneLost s c ≡ false → Going p (noteFailed s c h) (settle k false)
+  unfolding noteFailed settle startsLeft
   going-failed s c l e =
       rw (e, lt-ltb (k .settled) (k .planned) (unsettled l))
       (record {
         period = g .period;
         planned = g .planned;
+        continuous = g .continuous;
+        total = g .total;
+        turns = g .turns;
         begun = g .begun;
+        placed = g .placed;
+        told = g .told;
         counted =
             record {
               all = omega arith;
@@ -274,23 +358,43 @@ module _ (P N : ℕ) (h : History) (k : Schedule) (g : Going P N h k) where
         busy = λ u. absurd (omega arith);
       })
 
-  -- "exactly at those elapsed ticks j × P, j below N, .. that the list reaches"
-  pub all-reached : h .starts ≡ reached P N (h .ticks)
+  -- "exactly at those elapsed ticks j × P, j below N, .. that the list reaches", and "every j" of a continuous event
+  total-below : k .continuous ≡ true → g .total ≤ h .ticks + 1
+  total-below c =
+      by-ltb (h .ticks + 1) (g .total)
+      (λ l _. absurd (omega (arith, g .begun .due, g .begun .long, mul-le-mul-right (p .period) l, mul-le-mul-left (h .ticks) (g .begun .long))))
+      (λ l _. l)
+
+  pub all-reached : h .starts ≡ plannedStarts p (h .ticks)
+  unfolding plannedStarts startsLeft
   all-reached =
       g .begun .starts ∙
       sym
-      (reached-are P N (k .started) (h .ticks) (omega arith) (g .begun .most) (g .begun .due)
-      (λ u. omega (arith, g .begun .next u)))
+      (by-test (k .continuous)
+      (λ c. rw (← g .continuous, c)
+      (reached-are (p .period) (h .ticks + 1) (g .total) (h .ticks) (omega (arith, g .begun .long)) (total-below c) (g .begun .due)
+      (λ u. omega (arith, g .begun .next (rw c)))))
+      (λ c. rw (← g .continuous, c)
+      (let n = g .placed .alone (sym (g .continuous) ∙ c) in
+      let e : g .total ≡ k .started = omega (arith, g .placed .place, rw n at (g .placed .place)) in
+      reached-are (p .period) (p .count) (g .total) (h .ticks) (omega (arith, g .begun .long)) (omega (arith, g .placed .most)) (g .begun .due)
+      (λ u. omega (arith, g .begun .next (rw (c, lt-ltb (k .started) (k .planned) (omega (arith, g .planned)))))))))
+
+  -- "Each N starts of a kind make a group": the last of them has its place in it
+  pub in-group : h .started ≡ (length (h .starts) - 1) % p .count + 1
+  in-group =
+      let n : length (h .starts) - 1 ≡ k .started - 1 + g .turns * p .count =
+      rw (g .begun .starts, multiples-length (p .period) (g .total)) (omega (arith, g .placed .place, g .placed .some)) in
+      rw (n, add-mul-mod-self-right (k .started - 1) (g .turns) (p .count), mod-eq-of-lt {n = k .started - 1} {m = p .count} (omega (arith, g .placed .some, g .placed .most)))
+      (omega (arith, g .told, g .placed .some))
 
   -- "started = good + failed + awaited"
-  pub balanced :
-      length (h .starts) ≡ length (h .good) + (h .lost + length (h .expiries)) + pick (negate (awaits k)) 0 1
+  pub balanced : h .started ≡ length (h .good) + h .failed + pick (negate (awaits k)) 0 1
   unfolding awaits
   balanced =
-      rw (g .begun .starts, multiples-length P (k .started))
-      (by-ltb 0 (k .left .0)
-      (λ l e. rw e (omega (arith, g .busy l)))
-      (λ l e. rw e (omega (arith, g .idle (omega arith)))))
+      by-ltb 0 (k .left .0)
+      (λ l e. rw e (omega (arith, g .told, g .busy l)))
+      (λ l e. rw e (omega (arith, g .told, g .idle (omega arith))))
 
   -- "awaited only while its last start lies fewer than 8,192 ticks back"
   pub recent : pick {A = ℕ} (negate (awaits k)) 0 1 ≡ 1 → h .ticks < h .last + 8192
@@ -300,27 +404,31 @@ module _ (P N : ℕ) (h : History) (k : Schedule) (g : Going P N h k) where
 
 -- at acceptance
 pub going-start :
-    (p : Ticks) (N : ℕ) →
+    (p : Ticks) (N : ℕ) (c : Bool) →
     16384 ≤ p .0 →
     1 ≤ N →
-    Going (p .0) N
-    (record { ticks = 0; starts = 0 ∷ []; last = 0; good = []; lost = 0; expiries = []; misjudged = 0 })
-    (eventStart p N)
+    Going (record { period = p .0; count = N; continuous = c })
+    (record { ticks = 0; starts = 0 ∷ []; last = 0; expiries = []; misjudged = 0; started = 1; good = []; failed = 0 })
+    (eventStart p N c)
 unfolding eventStart multiples
-going-start p N l o =
+going-start p N c l o =
     record {
       period = refl;
       planned = refl;
+      continuous = refl;
+      total = 1;
+      turns = 0;
       begun =
           record {
             long = l;
             some = omega arith;
-            most = o;
             starts = rw (zero-mul (p .0));
             last = omega arith;
             due = omega arith;
             next = λ u. omega arith;
           };
+      placed = record { some = omega arith; most = o; place = omega arith; alone = λ e. refl };
+      told = refl;
       counted = record { all = refl; good = refl; timely = tt; judged = refl };
       since = λ u. omega arith;
       idle = λ u. absurd (omega arith);

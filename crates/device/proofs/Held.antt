@@ -26,26 +26,26 @@ use Rattle.device.specs.declared.Temperature.{Temperature}
 use Rattle.device.specs.declared.Model.{Model}
 use Rattle.device.specs.declared.Reply.{Reply}
 use Rattle.device.specs.declared.Answer.the-variants.{Refused}
-use Rattle.device.specs.Event.{awaits, begins, fails, settle}
+use Rattle.device.specs.Event.{begins, beginsGroup, fails, settle}
 use Rattle.device.specs.Registers.{half, flightWord, temperatureWord, registerWord}
-use Rattle.device.specs.Tick.{lostFlight, flightAfter, temperatureAfter, tickModel, reportOf}
+use Rattle.device.specs.Tick.{sumAfter, sumsAfter, lostFlight, flightTicked, flightAfter, temperatureAfter, tickModel, reportOf}
 use Rattle.device.specs.Stretch.{ticked, scheduleTicked, lastTick, stretchReport}
 use Rattle.device.specs.Delivery.{sameCount, flightMiscounted, goodSum, goodFlight, goodSums, flightGood, flightFailed, temperatureGood, temperatureFailed}
 use Rattle.device.specs.Call.{Call, flight, temperature, notAwaited, miscounted, anyLate, portFault}
-use Rattle.device.specs.Claim.{Kind, differences, temperatures, periodOf, countOf, History, noteTick, noteGood, noteFailed, note}
+use Rattle.device.specs.Claim.{Kind, differences, temperatures, periodOf, countOf, Plan, planOf, History, opensGroup, noteTick, noteGood, noteFailed, note}
 use Rattle.device.specs.Claim.{isTick, isDelivery, isGood, isFailed, startReported, failureReported, noneLost}
 use Rattle.device.specs.Claim.{isRefusal, spanOf, stretchIn, named, noteTicks}
 use Rattle.device.specs.Claim.{averagesOf, portWord, awaitedNow, deliveryOf, countRegister, Complete, KindClaim}
 use Rattle.device.proofs.Table.{NoneHolds, negated, picked}
-use Rattle.device.proofs.Sound.{hits-counted, hits-below}
+use Rattle.device.proofs.Sound.{left-some, hits-counted, hits-below}
 use Rattle.device.proofs.Sound
-use Rattle.device.proofs.Going.{Going, all-append, going-tick, going-good, going-failed, unsettled, all-reached, balanced, recent}
+use Rattle.device.proofs.Going.{Going, all-append, group-told, going-tick, going-good, going-failed, unsettled, all-reached, in-group, balanced, recent}
 use Rattle.device.proofs.Stretch.{scheduleOf, schedule-ticked, setup-ticked, Apart, apart, start-named, failure-named}
 use Rattle.device.proofs.Calls.{Step, refusal, reading, ticking, flight-failed, flight-good, ports-failed, ports-good}
 use Rattle.device.proofs.Calls.{stretching}
 
 pub record FlightHeld (s : List ℕ) (h : History) (f : Flight) : Type 0 where
-  pub going : Going (differencePeriod s .0) (differenceCount s) h (f .schedule)
+  pub going : Going (planOf differences s) h (f .schedule)
   pub sum : f .sum ≡ biasedTotal (map (averagesOf s) (h .good))
   pub range : All InRange (map (averagesOf s) (h .good))
   pub up : f .up ≡ true
@@ -59,7 +59,7 @@ abbrev Below : ℕ → Type 0
 Below w = w < 2147483648
 
 pub record TemperatureHeld (s : List ℕ) (h : History) (t : Temperature) : Type 0 where
-  pub going : Going (temperaturePeriod s .0) (temperatureCount s) h (t .schedule)
+  pub going : Going (planOf temperatures s) h (t .schedule)
   pub sums :
       t .sums ≡ portSum 0 (h .good) ∷ portSum 1 (h .good) ∷ portSum 2 (h .good) ∷ portSum 3 (h .good) ∷ []
   pub below : (i : ℕ) → All Below (map (portWord i) (h .good))
@@ -90,11 +90,6 @@ below-at [] i b = omega arith
 below-at (w ∷ ws) zero b = b .0
 below-at (w ∷ ws) (suc i) b = below-at ws i (b .1)
 
--- a delivery is accepted only while its kind is awaited
-left-some : (k : Schedule) → negate (awaits k) ≡ false → 0 < k .left .0
-unfolding awaits
-left-some k a = ltb-true 0 (k .left .0) (held (ltb 0 (k .left .0)) (negated (awaits k) a) .0)
-
 -- with both directions measured, both lists have H words
 same-as : (hits given : ℕ) → sameCount true hits given ≡ true → given ≡ hits
 unfolding sameCount
@@ -116,17 +111,38 @@ both-counted f hits u d a b e =
     let (p, q) = counted-both (sameCount true hits u) (sameCount true hits d) (rw (a, b) at e) in
     (same-as hits u p, same-as hits d q)
 
+-- What the good deliveries of an event, or of its current group, sum up to.
+record FlightTold (s : List ℕ) (good : List Call) (total : ℕ) : Type 0 where
+  sum : total ≡ biasedTotal (map (averagesOf s) good)
+  range : All InRange (map (averagesOf s) good)
+  complete : All (Complete s) good
+
 module _ (m : Model) (h : History) (i : FlightHeld (m .setup) h (m .flight)) where
+  abbrev flightPlan : Plan
+  flightPlan = planOf differences (m .setup)
+
+  -- a group's first start leaves none of them
+  flight-told :
+      FlightTold (m .setup)
+      (noteTick flightPlan (begins (m .flight .schedule)) (fails (m .flight .schedule)) h .good)
+      (sumAfter (m .flight))
+  unfolding noteTick sumAfter biasedTotal
+  flight-told =
+      rw (group-told flightPlan h (m .flight .schedule) (i .going))
+      (by-test (beginsGroup (m .flight .schedule))
+      (λ e. rw e (record { sum = refl; range = tt; complete = tt }))
+      (λ e. rw e (record { sum = i .sum; range = i .range; complete = i .complete })))
+
   flight-ticks :
-      FlightHeld (m .setup) (noteTick (begins (m .flight .schedule)) (fails (m .flight .schedule)) h)
+      FlightHeld (m .setup) (noteTick flightPlan (begins (m .flight .schedule)) (fails (m .flight .schedule)) h)
       (flightAfter (m .flight))
-  unfolding flightAfter lostFlight noteTick
+  unfolding flightAfter flightTicked lostFlight
   flight-ticks =
       let k : Schedule = m .flight .schedule in
-      let g = going-tick _ _ h k (i .going) in
-      picked (FlightHeld (m .setup) (noteTick (begins k) (fails k) h)) (fails k)
-      (λ _. record { going = g; sum = i .sum; range = i .range; up = i .up; down = i .down; complete = i .complete })
-      (λ _. record { going = g; sum = i .sum; range = i .range; up = i .up; down = i .down; complete = i .complete })
+      let g = going-tick flightPlan h k (i .going) in
+      picked (FlightHeld (m .setup) (noteTick flightPlan (begins k) (fails k) h)) (fails k)
+      (λ _. record { going = g; sum = flight-told .sum; range = flight-told .range; up = i .up; down = i .down; complete = flight-told .complete })
+      (λ _. record { going = g; sum = flight-told .sum; range = flight-told .range; up = i .up; down = i .down; complete = flight-told .complete })
 
   flight-fails :
       (u d : List ℕ) →
@@ -138,7 +154,7 @@ module _ (m : Model) (h : History) (i : FlightHeld (m .setup) h (m .flight)) whe
   flight-fails u d n l =
       let k : Schedule = m .flight .schedule in
       record {
-        going = going-failed _ _ h k (i .going) (m .setup) (flight u d) (left-some k (n .row10)) (rw l);
+        going = going-failed _ h k (i .going) (m .setup) (flight u d) (left-some k (n .row10)) (rw l);
         sum = i .sum;
         range = i .range;
         up = i .up;
@@ -163,9 +179,9 @@ module _ (m : Model) (h : History) (i : FlightHeld (m .setup) h (m .flight)) whe
       let td = six-total d (omega arith) in
       let r = rw (tu, td) at (hits-below m u d (n .row11) l) in
       record {
-        going = going-good _ _ h k (i .going) (m .setup) (flight u d) w (rw l);
+        going = going-good _ h k (i .going) (m .setup) (flight u d) w (rw l);
         sum =
-            rw (lt-ltb (k .settled) (k .planned) (unsettled _ _ h k (i .going) w), tu, td, map-append, total-more)
+            rw (lt-ltb (k .settled) (k .planned) (unsettled _ h k (i .going) w), tu, td, map-append, total-more)
             (omega arith);
         range =
             rw map-append
@@ -178,18 +194,37 @@ module _ (m : Model) (h : History) (i : FlightHeld (m .setup) h (m .flight)) whe
             (both-counted (m .flight) hits (length u) (length d) (i .up) (i .down) (n .row11));
       }
 
+record PortsTold (s : List ℕ) (good : List Call) (totals : List ℕ) : Type 0 where
+  sums : totals ≡ portSum 0 good ∷ portSum 1 good ∷ portSum 2 good ∷ portSum 3 good ∷ []
+  below : (i : ℕ) → All Below (map (portWord i) good)
+  complete : All (Complete s) good
+
 module _ (m : Model) (h : History) (i : TemperatureHeld (m .setup) h (m .temperature)) where
+  abbrev portPlan : Plan
+  portPlan = planOf temperatures (m .setup)
+
+  ports-told :
+      PortsTold (m .setup)
+      (noteTick portPlan (begins (m .temperature .schedule)) (fails (m .temperature .schedule)) h .good)
+      (sumsAfter (m .temperature))
+  unfolding noteTick sumsAfter sum
+  ports-told =
+      rw (group-told portPlan h (m .temperature .schedule) (i .going))
+      (by-test (beginsGroup (m .temperature .schedule))
+      (λ e. rw e (record { sums = refl; below = λ _. tt; complete = tt }))
+      (λ e. rw e (record { sums = i .sums; below = i .below; complete = i .complete })))
+
   ports-tick :
       TemperatureHeld (m .setup)
-      (noteTick (begins (m .temperature .schedule)) (fails (m .temperature .schedule)) h)
+      (noteTick portPlan (begins (m .temperature .schedule)) (fails (m .temperature .schedule)) h)
       (temperatureAfter (m .temperature))
-  unfolding temperatureAfter noteTick
+  unfolding temperatureAfter
   ports-tick =
       let k : Schedule = m .temperature .schedule in
-      let g = going-tick _ _ h k (i .going) in
-      picked (TemperatureHeld (m .setup) (noteTick (begins k) (fails k) h)) (fails k)
-      (λ _. record { going = g; sums = i .sums; below = i .below; complete = i .complete })
-      (λ _. record { going = g; sums = i .sums; below = i .below; complete = i .complete })
+      let g = going-tick portPlan h k (i .going) in
+      picked (TemperatureHeld (m .setup) (noteTick portPlan (begins k) (fails k) h)) (fails k)
+      (λ _. record { going = g; sums = ports-told .sums; below = ports-told .below; complete = ports-told .complete })
+      (λ _. record { going = g; sums = ports-told .sums; below = ports-told .below; complete = ports-told .complete })
 
   ports-fail :
       (w ports : List ℕ) →
@@ -201,7 +236,7 @@ module _ (m : Model) (h : History) (i : TemperatureHeld (m .setup) h (m .tempera
   ports-fail w ports n l =
       let k : Schedule = m .temperature .schedule in
       record {
-        going = going-failed _ _ h k (i .going) (m .setup) (temperature w) (left-some k (n .row10)) (rw l);
+        going = going-failed _ h k (i .going) (m .setup) (temperature w) (left-some k (n .row10)) (rw l);
         sums = i .sums;
         below = i .below;
         complete = i .complete;
@@ -223,10 +258,10 @@ module _ (m : Model) (h : History) (i : TemperatureHeld (m .setup) h (m .tempera
       let p = Sound.ports-good m w (n .row11) l in
       let a = left-some k (n .row10) in
       record {
-        going = going-good _ _ h k (i .going) (m .setup) (temperature w) a (rw l);
+        going = going-good _ h k (i .going) (m .setup) (temperature w) a (rw l);
         sums =
             rw (
-              lt-ltb (k .settled) (k .planned) (unsettled _ _ h k (i .going) a),
+              lt-ltb (k .settled) (k .planned) (unsettled _ h k (i .going) a),
               p .whole,
               i .sums,
               port-more 0 (h .good) (temperature w),
@@ -249,14 +284,14 @@ module _ (m : Model) (h : History) (i : TemperatureHeld (m .setup) h (m .tempera
 tick-held :
     (k : Kind) (m : Model) (h : History) →
     KindHeld k (m .setup) h m →
-    KindHeld k (m .setup) (noteTick (begins (scheduleOf k m)) (fails (scheduleOf k m)) h) (tickModel m)
+    KindHeld k (m .setup) (noteTick (planOf k (m .setup)) (begins (scheduleOf k m)) (fails (scheduleOf k m)) h) (tickModel m)
 unfolding tickModel
 tick-held differences m h i = flight-ticks m h i
 tick-held temperatures m h i = ports-tick m h i
 
 held-apart : (k : Kind) (s : List ℕ) (h : History) (m : Model) → KindHeld k s h m → Apart (scheduleOf k m)
-held-apart differences s h m i = apart _ _ h (m .flight .schedule) (i .going)
-held-apart temperatures s h m i = apart _ _ h (m .temperature .schedule) (i .going)
+held-apart differences s h m i = apart _ h (m .flight .schedule) (i .going)
+held-apart temperatures s h m i = apart _ h (m .temperature .schedule) (i .going)
 
 -- a stretch tells what its ticks would: up to tick j of its n
 stretch-held :
@@ -264,17 +299,17 @@ stretch-held :
     n ≤ 16384 →
     j ≤ n →
     KindHeld k (m .setup) h m →
-    KindHeld k (m .setup) (noteTicks j (stretchReport (scheduleOf k m) n) h) (ticked j m)
+    KindHeld k (m .setup) (noteTicks (planOf k (m .setup)) j (stretchReport (scheduleOf k m) n) h) (ticked j m)
 unfolding noteTicks ticked stretchReport
 stretch-held k m h n zero l u i = i
 stretch-held k m h n (suc j) l u i =
-    let g : History = noteTicks j (stretchReport (scheduleOf k m) n) h in
+    let g : History = noteTicks (planOf k (m .setup)) j (stretchReport (scheduleOf k m) n) h in
     let p = stretch-held k m h n j l (omega arith) i in
     let a : Apart (scheduleTicked j (scheduleOf k m)) = subst Apart (schedule-ticked k j m) (held-apart k (m .setup) g (ticked j m) p) in
-    let t : KindHeld k (m .setup) (noteTick (begins (scheduleOf k (ticked j m))) (fails (scheduleOf k (ticked j m))) g) (tickModel (ticked j m)) =
+    let t : KindHeld k (m .setup) (noteTick (planOf k (m .setup)) (begins (scheduleOf k (ticked j m))) (fails (scheduleOf k (ticked j m))) g) (tickModel (ticked j m)) =
     subst
     (λ (s : List ℕ).
-    KindHeld k s g (ticked j m) → KindHeld k s (noteTick (begins (scheduleOf k (ticked j m))) (fails (scheduleOf k (ticked j m))) g) (tickModel (ticked j m)))
+    KindHeld k s g (ticked j m) → KindHeld k s (noteTick (planOf k s) (begins (scheduleOf k (ticked j m))) (fails (scheduleOf k (ticked j m))) g) (tickModel (ticked j m)))
     (setup-ticked j m) (tick-held k (ticked j m) g) p
     in
     rw (
@@ -338,10 +373,11 @@ unfolding periodOf countOf countRegister awaitedNow deliveryOf notAwaited regist
 held-claim differences s h m i =
     let a = difference-average s h (m .flight) i in
     record {
-      starts = all-reached _ _ h (m .flight .schedule) (i .going);
-      balance = balanced _ _ h (m .flight .schedule) (i .going);
+      starts = all-reached _ h (m .flight .schedule) (i .going);
+      group = in-group _ h (m .flight .schedule) (i .going);
+      balance = balanced _ h (m .flight .schedule) (i .going);
       timely = i .going .counted .timely;
-      recent = recent _ _ h (m .flight .schedule) (i .going);
+      recent = recent _ h (m .flight .schedule) (i .going);
       judged = i .going .counted .judged;
       complete = i .complete;
       count = i .going .counted .good;
@@ -353,10 +389,11 @@ held-claim temperatures s h m i =
     let c = port-average s h (m .temperature) 2 i (ap (λ l. getD l 2 0) (i .sums)) in
     let d = port-average s h (m .temperature) 3 i (ap (λ l. getD l 3 0) (i .sums)) in
     record {
-      starts = all-reached _ _ h (m .temperature .schedule) (i .going);
-      balance = balanced _ _ h (m .temperature .schedule) (i .going);
+      starts = all-reached _ h (m .temperature .schedule) (i .going);
+      group = in-group _ h (m .temperature .schedule) (i .going);
+      balance = balanced _ h (m .temperature .schedule) (i .going);
       timely = i .going .counted .timely;
-      recent = recent _ _ h (m .temperature .schedule) (i .going);
+      recent = recent _ h (m .temperature .schedule) (i .going);
       judged = i .going .counted .judged;
       complete = i .complete;
       count = i .going .counted .good;

@@ -1,5 +1,6 @@
 -- Laws of the definitions, for this crate and those above it.
 pub mod Table
+pub mod TickCases
 pub mod Sound
 pub mod Decode
 pub mod Facts
@@ -18,6 +19,7 @@ pub mod StretchMeaning
 pub mod Calls
 pub mod Held
 pub mod Third
+pub mod Groups
 pub mod Form
 pub mod Blank
 pub mod Probes

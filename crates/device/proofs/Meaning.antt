@@ -10,44 +10,43 @@ use borrow.Author.Tests.{leb-true, leb-false, lt-ltb, le-ltb, le-leb, lt-leb}
 use Rattle.unit.specs.Choice.{pick, either}
 use Rattle.unit.specs.Cases.{by-test, by-ltb, by-eqb, holds, fails}
 use Rattle.unit.specs.declared.Ticks.{Ticks}
-use Rattle.register.specs.Setup.{flightUnset, temperatureUnset, eventUnset}
+use Rattle.register.specs.Setup.{flightUnset, temperatureUnset, clockStands}
 use Rattle.device.specs.declared.Schedule.{Schedule}
 use Rattle.device.specs.declared.Model.{Model}
-use Rattle.device.specs.Event.{awaits, inEvent, begins, single, eventStart, settle}
-use Rattle.device.specs.Event.{tickSchedule, leftAfter, waitAfter, startedAfter}
+use Rattle.device.specs.Event.{awaits, inEvent, startsLeft, begins, beginsGroup, single, eventStart, settle}
+use Rattle.device.specs.Event.{tickSchedule, leftAfter, waitAfter, startedAfter, settledAfter, goodAfter}
 use Rattle.device.specs.Model.{kindBusy, busy}
 use Rattle.device.specs.Bus.{mustBeIdle, startsFlight, startsTemperature, isEvent, commandBusy, notReady}
 use Rattle.device.specs.Bus.{flightSideUnset, temperatureSideUnset, eventSideUnset, commandUnset}
 
 -- "while a measurement is awaited or an event runs": ticks are left to the awaited one, or fewer are settled than planned
-pub kind-busy-means : (k : Schedule) → (kindBusy k ≡ true) ↔ ((0 < k .left .0) ⊎ (k .settled < k .planned))
+-- or it is a continuous event
+abbrev pub Running : Schedule → Type 0
+Running k = (0 < k .left .0) ⊎ (k .continuous ≡ true) ⊎ (k .settled < k .planned)
+
+pub kind-busy-means : (k : Schedule) → (kindBusy k ≡ true) ↔ Running k
 unfolding kindBusy awaits inEvent
 kind-busy-means k =
     by-ltb 0 (k .left .0)
     (λ h e. rw e (holds (inl h)))
-    (λ h e. by-ltb (k .settled) (k .planned)
-    (λ i f. rw (e, f) (holds (inr i)))
-    (λ i f. rw (e, f) (fails false (⊎-elim (λ x. omega arith) (λ x. omega arith)))))
+    (λ h e. by-test (k .continuous)
+    (λ c. rw (e, c) (holds (inr (inl refl))))
+    (λ c. by-ltb (k .settled) (k .planned)
+    (λ i f. rw (e, c, f) (holds (inr (inr i))))
+    (λ i f. rw (e, c, f) (fails false
+    (⊎-elim (λ x. omega arith) (⊎-elim (λ x. let z : _≡_ {A = ℕ} 0 1 = cc in omega arith) (λ x. omega arith)))))))
 
-pub busy-means :
-    (m : Model) →
-    (busy m ≡ true)
-    ↔ ((0 < m .flight .schedule .left .0)
-    ⊎ (m .flight .schedule .settled < m .flight .schedule .planned)
-    ⊎ (0 < m .temperature .schedule .left .0)
-    ⊎ (m .temperature .schedule .settled < m .temperature .schedule .planned))
-unfolding busy kindBusy awaits inEvent
+pub busy-means : (m : Model) → (busy m ≡ true) ↔ (Running (m .flight .schedule) ⊎ Running (m .temperature .schedule))
+unfolding busy
 busy-means m =
-    by-ltb 0 (m .flight .schedule .left .0)
-    (λ h e. rw e (holds (inl h)))
-    (λ h e. by-ltb (m .flight .schedule .settled) (m .flight .schedule .planned)
-    (λ i f. rw (e, f) (holds (inr (inl i))))
-    (λ i f. by-ltb 0 (m .temperature .schedule .left .0)
-    (λ j g. rw (e, f, g) (holds (inr (inr (inl j)))))
-    (λ j g. by-ltb (m .temperature .schedule .settled) (m .temperature .schedule .planned)
-    (λ l t. rw (e, f, g, t) (holds (inr (inr (inr l)))))
-    (λ l t. rw (e, f, g, t) (fails false
-    (⊎-elim (λ x. omega arith) (⊎-elim (λ x. omega arith) (⊎-elim (λ x. omega arith) (λ x. omega arith)))))))))
+    let f = kind-busy-means (m .flight .schedule) in
+    let t = kind-busy-means (m .temperature .schedule) in
+    by-test (kindBusy (m .flight .schedule))
+    (λ e. rw e (holds (inl (f .0 e))))
+    (λ e. rw e (
+      λ g. inr (t .0 g),
+      ⊎-elim (λ x. let y = f .1 x in let z : _≡_ {A = ℕ} 0 1 = cc in absurd (omega arith)) (λ x. t .1 x),
+    ))
 
 -- "a command but HALT and Reset"
 pub idle-means : (op : ℕ) → (mustBeIdle op ≡ false) ↔ ((op ≡ 4) ⊎ (op ≡ 10))
@@ -110,13 +109,13 @@ command-busy-means m op =
     (λ i f. rw (e, f) (fails false (λ x. x .2 i)))
     (λ i f. rw (e, f) (λ b. (b, h, i), λ x. x .0)))
 
--- "Number 9: for flight, PL .. or DPL .. zero; for temperature, TP .. not 11b." "Number 9 also: ET_CONT .. or EOSC is 1; only
--- the kinds run are judged for PL, DPL and TP.": command by command
+-- "Number 9: for flight, PL .. or DPL .. zero; for temperature, TP .. not 11b." "Number 9 also: .. EOSC is 1; only the kinds run
+-- are judged for PL, DPL and TP.": command by command. "Number 9 no longer occurs for ET_CONT." (Note 5)
 pub unset-means :
     (m : Model) (f t e : Bool) →
     flightUnset (m .setup) ≡ f →
     temperatureUnset (m .setup) ≡ t →
-    eventUnset (m .setup) ≡ e →
+    clockStands (m .setup) ≡ e →
     map (commandUnset m) commands
     ≡ f ∷ f ∷ f ∷ t ∷ false ∷ false ∷ either e (either f t) ∷ either e f ∷ either e t ∷ false ∷ []
 unfolding commandUnset eventSideUnset flightSideUnset temperatureSideUnset startsFlight startsTemperature isEvent
@@ -144,16 +143,17 @@ unset-means m f t e x y z = rw (x, y, z) (computed f t e)
 -- A measurement starts, and an event: "A kind is awaited from its start"; 8,192 ticks are left to it. "Acceptance zeroes cycle
 -- counts"
 pub start-means :
-    (p : Ticks) (n : ℕ) →
-    (eventStart p n .left .0 ≡ 8192) ×
-    (eventStart p n .wait ≡ p) ×
-    (eventStart p n .period ≡ p) ×
-    (eventStart p n .planned ≡ n) ×
-    (eventStart p n .started ≡ 1) ×
-    (eventStart p n .settled ≡ 0) ×
-    (eventStart p n .good ≡ 0)
+    (p : Ticks) (n : ℕ) (c : Bool) →
+    (eventStart p n c .left .0 ≡ 8192) ×
+    (eventStart p n c .wait ≡ p) ×
+    (eventStart p n c .period ≡ p) ×
+    (eventStart p n c .planned ≡ n) ×
+    (eventStart p n c .started ≡ 1) ×
+    (eventStart p n c .settled ≡ 0) ×
+    (eventStart p n c .continuous ≡ c) ×
+    (eventStart p n c .good ≡ 0)
 unfolding eventStart
-start-means p n = (refl, refl, refl, refl, refl, refl, refl)
+start-means p n c = (refl, refl, refl, refl, refl, refl, refl, refl)
 
 pub single-means :
     (k : Schedule) →
@@ -161,19 +161,43 @@ pub single-means :
     (single k .planned ≡ k .planned) ×
     (single k .started ≡ k .started) ×
     (single k .settled ≡ k .settled) ×
+    (single k .continuous ≡ k .continuous) ×
     (single k .good ≡ k .good)
 unfolding single
-single-means k = (refl, refl, refl, refl, refl)
+single-means k = (refl, refl, refl, refl, refl, refl)
 
--- A tick starts one where one is left to start and its time has come.
-pub begins-means : (k : Schedule) → (begins k ≡ true) ↔ ((k .started < k .planned) × (k .wait .0 ≤ 1))
+-- A start is to come while fewer are started than planned, and in a continuous event always.
+pub left-means : (k : Schedule) → (startsLeft k ≡ true) ↔ ((k .continuous ≡ true) ⊎ (k .started < k .planned))
+unfolding startsLeft
+left-means k =
+    by-test (k .continuous)
+    (λ c. rw c (holds (inl refl)))
+    (λ c. by-ltb (k .started) (k .planned)
+    (λ h e. rw (c, e) (holds (inr h)))
+    (λ h e. rw (c, e) (fails false (⊎-elim (λ x. let z : _≡_ {A = ℕ} 0 1 = cc in omega arith) (λ x. omega arith)))))
+
+-- A tick starts one where one is to come and its time has come.
+pub begins-means :
+    (k : Schedule) → (begins k ≡ true) ↔ (((k .continuous ≡ true) ⊎ (k .started < k .planned)) × (k .wait .0 ≤ 1))
 unfolding begins
 begins-means k =
-    by-ltb (k .started) (k .planned)
-    (λ h e. by-test (leb (k .wait .0) 1)
-    (λ f. rw (e, f) (holds (h, leb-true (k .wait .0) 1 f)))
+    let s = left-means k in
+    by-test (startsLeft k)
+    (λ e. by-test (leb (k .wait .0) 1)
+    (λ f. rw (e, f) (holds (s .0 e, leb-true (k .wait .0) 1 f)))
     (λ f. let l : 1 < k .wait .0 = leb-false (k .wait .0) 1 f in rw (e, f) (fails false (λ x. omega arith))))
-    (λ h e. rw e (fails false (λ x. omega arith)))
+    (λ e. rw e (fails false (λ x. let y = s .1 (x .0) in let z : _≡_ {A = ℕ} 0 1 = cc in omega arith)))
+
+-- "at the first start of a group that kind's sums, count and averages go to 0" (Note 5): the first is the one that finds all N
+-- of the group before it started
+pub group-means : (k : Schedule) → (beginsGroup k ≡ true) ↔ ((begins k ≡ true) × (k .planned ≤ k .started))
+unfolding beginsGroup
+group-means k =
+    by-test (begins k)
+    (λ b. by-ltb (k .started) (k .planned)
+    (λ h e. rw (b, e) (fails false (λ x. omega arith)))
+    (λ h e. rw (b, e) (holds (refl, h))))
+    (λ b. rw b (fails false (λ x. let z : _≡_ {A = ℕ} 0 1 = cc in omega arith)))
 
 -- "A good measurement of an event adds one to its count, a single one none"; "A measurement is settled when it is good or
 -- failed."; "A kind is awaited .. until an accepted delivery"
@@ -212,15 +236,25 @@ pub wait-again : (k : Schedule) → k .wait .0 ≤ 1 → tickSchedule k .wait .0
 unfolding tickSchedule waitAfter
 wait-again k h = rw (le-leb (k .wait .0) 1 h)
 
-pub started-means : (k : Schedule) → tickSchedule k .started ≡ k .started + pick (begins k) 1 0
-unfolding tickSchedule startedAfter begins
-started-means k =
-    by-test (ltb (k .started) (k .planned))
-    (λ e. by-test (leb (k .wait .0) 1) (λ f. rw (e, f)) (λ f. rw (e, f) (omega arith)))
-    (λ e. rw e (omega arith))
+pub started-means :
+    (k : Schedule) → k .started < k .planned → tickSchedule k .started ≡ k .started + pick (begins k) 1 0
+unfolding tickSchedule startedAfter
+started-means k l =
+    rw (lt-ltb (k .started) (k .planned) l) (by-test (begins k) (λ e. rw e) (λ e. rw e (omega arith)))
+
+pub group-started :
+    (k : Schedule) →
+    beginsGroup k ≡ true →
+    (tickSchedule k .started ≡ 1) × (tickSchedule k .settled ≡ 0) × (tickSchedule k .good ≡ 0)
+unfolding tickSchedule startedAfter settledAfter goodAfter
+group-started k e =
+    let (b, l) = group-means k .0 e in rw (e, b, le-ltb (k .started) (k .planned) l) (refl, refl, refl)
 
 pub tick-keeps :
     (k : Schedule) →
-    (tickSchedule k .period ≡ k .period) × (tickSchedule k .planned ≡ k .planned) × (tickSchedule k .good ≡ k .good)
-unfolding tickSchedule
-tick-keeps k = (refl, refl, refl)
+    (tickSchedule k .period ≡ k .period) ×
+    (tickSchedule k .planned ≡ k .planned) ×
+    (tickSchedule k .continuous ≡ k .continuous) ×
+    (beginsGroup k ≡ false → tickSchedule k .good ≡ k .good)
+unfolding tickSchedule goodAfter
+tick-keeps k = (refl, refl, refl, λ n. rw n)

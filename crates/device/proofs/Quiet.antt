@@ -18,14 +18,14 @@ use Rattle.register.specs.Setup.{clockStands, alarmWord, alarmMode}
 use Rattle.device.specs.declared.Schedule.{Schedule}
 use Rattle.device.specs.declared.Model.{Model}
 use Rattle.device.specs.declared.Progress.{Progress}
-use Rattle.device.specs.Event.{begins, fails, leftAfter, waitAfter, startedAfter, settledAfter, tickSchedule}
+use Rattle.device.specs.Event.{startsLeft, begins, beginsGroup, fails, leftAfter, waitAfter, startedAfter, settledAfter, goodAfter, tickSchedule}
 use Rattle.device.specs.Status.{flightBits, temperatureBits}
-use Rattle.device.specs.Tick.{flightAfter, temperatureAfter, clockTicked, alarmRaised, tickStatus, tickModel, reportOf}
+use Rattle.device.specs.Tick.{sumAfter, sumsAfter, flightTicked, flightAfter, temperatureAfter, clockTicked, alarmRaised, tickStatus, tickModel, reportOf}
 use Rattle.device.specs.Stretch.{ticked, scheduleTicked, lastTick, stretchReport, least, quietLeft, quietWait, quietClock, quietSchedule, quietFor}
 use Rattle.device.specs.Stretch.{laterSchedule, laterClock, laterModel, progress, movedQuietly, noted, movedByOne, moved}
 use Rattle.device.specs.Claim.{Kind, differences, temperatures}
 use Rattle.device.proofs.CallMeaning.{no-bits, no-alarm}
-use Rattle.device.proofs.Going.{by-begins}
+use Rattle.device.proofs.TickCases.{no-group}
 use Rattle.device.proofs.Stretch.{scheduleOf, schedule-ticked}
 
 below-left : (a b : ℕ) {q : ℕ} → q < least a b → q < a
@@ -69,7 +69,7 @@ module _ (k : Schedule) (q : ℕ) (l : q < quietSchedule k) where
       (λ n e. absurd (omega (arith, rw (le-leb (k .wait .0) 1 a, b, e) at wait-quiet)))))
 
   pub begins-none : begins (laterSchedule q k) ≡ false
-  unfolding begins laterSchedule
+  unfolding begins startsLeft laterSchedule
   begins-none =
       ⊎-elim
       (λ (p : (k .wait .0 ≤ 1) × (begins k ≡ false) × (k .wait .0 ≡ k .period .0)).
@@ -77,7 +77,7 @@ module _ (k : Schedule) (q : ℕ) (l : q < quietSchedule k) where
       (λ (r : q + 1 < k .wait .0).
       let a : 1 < k .wait .0 - q = omega arith in
       rw (lt-leb (k .wait .0) 1 (omega arith), lt-leb (k .wait .0 - q) 1 a)
-      (by-test (ltb (k .started) (k .planned)) (λ e. rw e) (λ e. rw e)))
+      (by-test (startsLeft k) (λ e. rw e) (λ e. rw e)))
       wait-later
 
   pub fails-none : fails (laterSchedule q k) ≡ false
@@ -103,13 +103,16 @@ module _ (k : Schedule) (q : ℕ) (l : q < quietSchedule k) where
       rw (lt-leb (k .wait .0) 1 (omega arith), lt-leb (k .wait .0 - q) 1 a) (omega arith))
       wait-later
 
+  pub group-none : beginsGroup (laterSchedule q k) ≡ false
+  group-none = no-group (laterSchedule q k) begins-none .0
+
   started-same : startedAfter (laterSchedule q k) ≡ k .started
   unfolding laterSchedule
-  started-same = by-begins (laterSchedule q k) (λ l w b s. let z : _≡_ {A = ℕ} 0 1 = cc (begins-none) in absurd (omega arith)) (λ f b s. s)
+  started-same = no-group (laterSchedule q k) begins-none .1
 
   pub schedule-later : tickSchedule (laterSchedule q k) ≡ laterSchedule (q + 1) k
-  unfolding tickSchedule laterSchedule settledAfter
-  schedule-later = rw (left-less, wait-less, started-same, fails-none)
+  unfolding tickSchedule laterSchedule settledAfter goodAfter
+  schedule-later = rw (left-less, wait-less, started-same, group-none, fails-none)
 
 -- the clock, and that it raises no alarm
 same-time : (c d : Clock) (w mode : ℕ) → c .minute ≡ d .minute → c .hour ≡ d .hour → alarmRings c d w mode ≡ false
@@ -184,13 +187,15 @@ module _ (m : Model) (q : ℕ) (l : q < quietFor m) where
       status-same (laterModel q m) (alarm-none m q for-clock) (fails-later differences) (fails-later temperatures)
 
   pub model-later : tickModel (laterModel q m) ≡ laterModel (q + 1) m
-  unfolding tickModel laterModel flightAfter temperatureAfter
+  unfolding tickModel laterModel flightAfter flightTicked temperatureAfter sumAfter sumsAfter
   model-later =
       rw (
         status-later,
         clock-later m q for-clock,
         fails-none (m .flight .schedule) q (for-schedule differences),
         fails-none (m .temperature .schedule) q (for-schedule temperatures),
+        group-none (m .flight .schedule) q (for-schedule differences),
+        group-none (m .temperature .schedule) q (for-schedule temperatures),
         schedule-later (m .flight .schedule) q (for-schedule differences),
         schedule-later (m .temperature .schedule) q (for-schedule temperatures),
       )

@@ -6,16 +6,17 @@ use mathlib.Core.List.{List}
 use mathlib.Core.Path.{_≡_, refl, sym}
 use lib.ListN.{length, getD, drop}
 use lib.Dec.{ltb, leb, eqb}
-use borrow.Author.Tests.{ltb-false, le-ltb, eqb-true}
+use borrow.Author.Tests.{ltb-true, ltb-false, lt-ltb, le-ltb, le-leb, lt-leb, eqb-true, eq-eqb}
 use Rattle.unit.specs.Choice.{pick, either, both, negate}
-use Rattle.unit.specs.Cases.{by-test, by-ltb}
+use Rattle.unit.specs.Cases.{by-test, by-ltb, by-eqb}
 use Rattle.unit.specs.declared.Ticks.{Ticks}
 use Rattle.calendar.specs.Calendar.{clockValid}
 use Rattle.calendar.specs.Words.{clockFrom, hourFits, digitsFit, wordsValid}
 use Rattle.calendar.proofs.Laws.{passed, held, tick-valid}
 use Rattle.calendar.proofs.Facts.{start-valid}
-use Rattle.register.specs.Setup.{hitCount, timeout, portCycle, clockStands, differencePeriod, differenceCount, temperaturePeriod, temperatureCount}
-use Rattle.register.proofs.Laws.{hits-bounds, cycle-below, difference-count-bounds, temperature-count-bounds}
+use Rattle.register.specs.Setup.{hitCount, timeout, portCycle, clockStands, eventContinuous, differencePeriod, differenceCount, temperaturePeriod, temperatureCount}
+use Rattle.register.proofs.Laws.{hits-bounds, cycle-below, difference-period-bounds, difference-count-bounds}
+use Rattle.register.proofs.Laws.{temperature-period-bounds, temperature-count-bounds}
 use Rattle.frame.specs.Frame.{isCommand, isWrite}
 use Rattle.measurement.specs.Limit.{lateFrom, openFrom, anyFrom}
 use Rattle.measurement.specs.Words.{six, four, average, sixTotal, plusEach}
@@ -29,22 +30,42 @@ use Rattle.device.specs.Status.{noBits, porBit}
 use Rattle.device.specs.declared.Flight.{Flight}
 use Rattle.device.specs.declared.Temperature.{Temperature}
 use Rattle.device.specs.declared.Model.{Model}
-use Rattle.device.specs.Model.{sound, flightSound, temperatureSound, sumFits, freshWith, freshModel, resetModel, noFlight, noTemperature}
+use Rattle.device.specs.Model.{sound, busy, kindBusy, flightSound, temperatureSound, sumFits, freshWith, freshModel, resetModel, noFlight, noTemperature}
 use Rattle.device.specs.Write.{clockAfter, writeInvalid, writeModel}
-use Rattle.device.specs.Tick.{lostFlight, flightAfter, temperatureAfter, clockTicked, tickModel}
+use Rattle.device.specs.Tick.{sumAfter, sumsAfter, lostFlight, flightTicked, flightAfter, temperatureAfter, clockTicked, tickModel}
 use Rattle.device.specs.Stretch.{ticked}
 use Rattle.device.specs.Delivery.{sameCount, flightMiscounted, goodSum, goodSums, goodFlight, flightGood, flightFailed, temperatureGood, temperatureFailed}
-use Rattle.device.specs.Bus.{startsFlight, startsTemperature, isEvent, flightStarted, flightEvent, temperatureEvent}
+use Rattle.device.specs.Bus.{mustBeIdle, commandBusy, startsFlight, startsTemperature, isEvent, flightStarted, flightEvent, temperatureEvent}
 use Rattle.device.specs.Bus.{eventFlight, eventTemperature, startedEvent, initialised, haltedModel, singleStarted, runModel, readModel}
 use Rattle.device.specs.Call.{Call, transaction, tick, flight, temperature, stretch, Verdict, accepted, refused, opcode, words}
-use Rattle.device.specs.Call.{flightFits, anyLate, portFault, acceptedModel, miscounted, badCalendar, verdict, reply, replyBy}
+use Rattle.device.specs.Call.{flightFits, anyLate, portFault, acceptedModel, miscounted, whileBusy, notAwaited, badCalendar, verdict, reply, replyBy}
 use Rattle.device.proofs.Table.{NoneHolds, none-holds, negated, picked}
-use Rattle.device.specs.Event.{scheduleSound, noSchedule, single, eventStart, tickSchedule, settledAfter, fails, settle, halted}
+use Rattle.device.specs.Event.{countsSound, waitSound, balanceSound, scheduleSound, noSchedule, awaits, inEvent, startsLeft, begins}
+use Rattle.device.specs.Event.{beginsGroup, leftAfter, waitAfter, startedAfter, settledAfter, goodAfter, fails, single, eventStart}
+use Rattle.device.specs.Event.{tickSchedule, settle, halted}
+use Rattle.device.proofs.TickCases.{by-begins, by-group, no-group, one-less}
+
+-- a start to come: the period, the wait for it, and the ticks that the awaited one has left
+pub record Spaced (left wait period : ℕ) : Type 0 where
+  pub long : 16384 ≤ period
+  pub within : wait ≤ period
+  pub some : 1 ≤ wait
+  pub apart : 0 < left → left + 8192 ≤ wait
+
+-- an event that runs: all that are started but the awaited one are settled
+pub record Balanced (left started settled : ℕ) : Type 0 where
+  pub some : 1 ≤ started
+  pub busy : 0 < left → settled + 1 ≡ started
+  pub idle : left ≡ 0 → settled ≡ started
 
 pub record ScheduleBounds (k : Schedule) : Type 0 where
   pub planned : k .planned ≤ 32
-  pub settled : k .settled ≤ k .planned
+  pub started : k .started ≤ k .planned
+  pub settled : k .settled ≤ k .started
   pub good : k .good ≤ k .settled
+  pub left : k .left .0 ≤ 8192
+  pub wait : startsLeft k ≡ true → Spaced (k .left .0) (k .wait .0) (k .period .0)
+  pub balance : inEvent k ≡ true → Balanced (k .left .0) (k .started) (k .settled)
 
 pub record FlightBounds (f : Flight) : Type 0 where
   pub schedule : ScheduleBounds (f .schedule)
@@ -69,23 +90,130 @@ pub record Bounds (m : Model) : Type 0 where
 chosen : {A : Type 0} (P : A → Type 0) (t : Bool) {x y : A} → P x → P y → P (pick t x y)
 chosen P t p q = picked P t (λ e. p) (λ e. q)
 
+-- Where either would do and none held, neither does.
+pub neither-picked : (t : Bool) {r : Bool} → pick t true r ≡ false → (t ≡ false) × (r ≡ false)
+neither-picked true e = (e, cc)
+neither-picked false e = (refl, e)
+
 -- Where a test had to hold, it did.
 failed : (t : Bool) {r : Bool} → pick t r true ≡ false → (t ≡ true) × (r ≡ false)
 failed true e = (refl, e)
 failed false e = (sym e, cc)
 
 -- The test and the bounds say the same.
-pub schedule-of : (k : Schedule) → scheduleSound k ≡ true → ScheduleBounds k
-unfolding scheduleSound
-schedule-of k e =
+counts-of :
+    (k : Schedule) →
+    countsSound k ≡ true →
+    (k .planned ≤ 32) × (k .started ≤ k .planned) × (k .settled ≤ k .started) × (k .good ≤ k .settled)
+unfolding countsSound
+counts-of k e =
     let (p, e1) = passed (ltb 32 (k .planned)) e in
-    let (s, e2) = passed (ltb (k .planned) (k .settled)) e1 in
-    let (g, _) = passed (ltb (k .settled) (k .good)) e2 in
+    let (q, e2) = passed (ltb (k .planned) (k .started)) e1 in
+    let (s, e3) = passed (ltb (k .started) (k .settled)) e2 in
+    let (g, _) = passed (ltb (k .settled) (k .good)) e3 in
     omega (arith, ltb-false)
 
+spaced-of :
+    (left wait period : ℕ) →
+    pick (ltb period 16384) false
+    (pick (ltb period wait) false
+    (pick (ltb 0 left) (pick (ltb wait (left + 8192)) false true) (pick (ltb 0 wait) true false)))
+    ≡ true →
+    Spaced left wait period
+spaced-of left wait period e =
+    let (l, e1) = passed (ltb period 16384) e in
+    let (w, e2) = passed (ltb period wait) e1 in
+    let a = ltb-false period 16384 l in
+    let b = ltb-false period wait w in
+    by-ltb 0 left
+    (λ x f.
+    let c = ltb-false wait (left + 8192) (passed (ltb wait (left + 8192)) (rw f at e2) .0) in
+    record { long = a; within = b; some = omega arith; apart = λ _. c })
+    (λ x f.
+    let c = ltb-true 0 wait (held (ltb 0 wait) (rw f at e2) .0) in
+    record { long = a; within = b; some = c; apart = λ y. absurd (omega arith) })
+
+spaced-test :
+    (left wait period : ℕ) →
+    Spaced left wait period →
+    pick (ltb period 16384) false
+    (pick (ltb period wait) false
+    (pick (ltb 0 left) (pick (ltb wait (left + 8192)) false true) (pick (ltb 0 wait) true false)))
+    ≡ true
+spaced-test left wait period s =
+    rw (le-ltb period 16384 (s .long), le-ltb period wait (s .within))
+    (by-ltb 0 left
+    (λ x f. rw (f, le-ltb wait (left + 8192) (s .apart x)))
+    (λ x f. rw (f, lt-ltb 0 wait (s .some))))
+
+balanced-of :
+    (left started settled : ℕ) →
+    pick (ltb 0 left) (pick (eqb (settled + 1) started) true false)
+    (pick (ltb 0 started) (pick (eqb settled started) true false) false)
+    ≡ true →
+    Balanced left started settled
+balanced-of left started settled e =
+    by-ltb 0 left
+    (λ x f.
+    let c = eqb-true (settled + 1) started (held (eqb (settled + 1) started) (rw f at e) .0) in
+    record { some = omega arith; busy = λ _. c; idle = λ y. absurd (omega arith) })
+    (λ x f.
+    let (a, d) = held (ltb 0 started) (rw f at e) in
+    let c = eqb-true settled started (held (eqb settled started) d .0) in
+    record { some = ltb-true 0 started a; busy = λ y. absurd (omega arith); idle = λ _. c })
+
+balanced-test :
+    (left started settled : ℕ) →
+    Balanced left started settled →
+    pick (ltb 0 left) (pick (eqb (settled + 1) started) true false)
+    (pick (ltb 0 started) (pick (eqb settled started) true false) false)
+    ≡ true
+balanced-test left started settled b =
+    by-ltb 0 left
+    (λ x f. rw (f, eq-eqb (settled + 1) started (b .busy x)))
+    (λ x f. rw (f, lt-ltb 0 started (b .some), eq-eqb settled started (b .idle (omega arith))))
+
+pub schedule-of : (k : Schedule) → scheduleSound k ≡ true → ScheduleBounds k
+unfolding scheduleSound waitSound balanceSound
+schedule-of k e =
+    let (c, e1) = held (countsSound k) e in
+    let (w, r) = held (waitSound k) e1 in
+    let (p, q, s, g) = counts-of k c in
+    let (l, v) = passed (ltb 8192 (k .left .0)) w in
+    record {
+      planned = p;
+      started = q;
+      settled = s;
+      good = g;
+      left = ltb-false 8192 (k .left .0) l;
+      wait = λ t. spaced-of (k .left .0) (k .wait .0) (k .period .0) (rw t at v);
+      balance = λ t. balanced-of (k .left .0) (k .started) (k .settled) (rw t at r);
+    }
+
 schedule-sound : (k : Schedule) → ScheduleBounds k → scheduleSound k ≡ true
-unfolding scheduleSound
-schedule-sound k b = simp (le-ltb, b .planned, b .settled, b .good)
+unfolding scheduleSound countsSound waitSound balanceSound
+schedule-sound k b =
+    rw (
+      le-ltb 32 (k .planned) (b .planned),
+      le-ltb (k .planned) (k .started) (b .started),
+      le-ltb (k .started) (k .settled) (b .settled),
+      le-ltb (k .settled) (k .good) (b .good),
+      le-ltb 8192 (k .left .0) (b .left),
+    )
+    (by-test (startsLeft k)
+    (λ t. rw (t, spaced-test (k .left .0) (k .wait .0) (k .period .0) (b .wait t)) (rest k b))
+    (λ t. rw t (rest k b)))
+  where
+    rest :
+        (k : Schedule) →
+        ScheduleBounds k →
+        pick (inEvent k)
+        (pick (ltb 0 (k .left .0)) (pick (eqb (k .settled + 1) (k .started)) true false)
+        (pick (ltb 0 (k .started)) (pick (eqb (k .settled) (k .started)) true false) false))
+        true
+        ≡ true
+    rest k b =
+        by-test (inEvent k) (λ t. rw (t, balanced-test (k .left .0) (k .started) (k .settled) (b .balance t))) (λ t. rw t)
 
 sum-of : (s g most : ℕ) → sumFits s g most ≡ true → s ≤ g * most
 unfolding sumFits
@@ -144,39 +272,292 @@ sound-of m b =
 
 -- The schedule of one kind.
 pub no-schedule-bounds : ScheduleBounds noSchedule
-unfolding noSchedule
-no-schedule-bounds = omega arith
+unfolding noSchedule startsLeft inEvent
+no-schedule-bounds =
+    record {
+      planned = omega arith;
+      started = omega arith;
+      settled = omega arith;
+      good = omega arith;
+      left = omega arith;
+      wait = λ t. let z : _≡_ {A = ℕ} 0 1 = cc in absurd (omega arith);
+      balance = λ t. let z : _≡_ {A = ℕ} 0 1 = cc in absurd (omega arith);
+    }
 
-pub single-bounds : (k : Schedule) → ScheduleBounds k → ScheduleBounds (single k)
-unfolding single
-single-bounds k b = omega arith
+-- where no event runs, all that were planned are started and settled
+idle-all : (k : Schedule) → inEvent k ≡ false → (k .continuous ≡ false) × (k .planned ≤ k .settled)
+unfolding inEvent
+idle-all k =
+    by-test (k .continuous) (λ c. rw c (λ e. (cc, absurd (let z : _≡_ {A = ℕ} 0 1 = cc in omega arith))))
+    (λ c. rw c
+    (by-ltb (k .settled) (k .planned) (λ l e. rw e (λ f. (refl, absurd (let z : _≡_ {A = ℕ} 0 1 = cc in omega arith))))
+    (λ l e. rw e (λ f. (refl, l)))))
 
-pub start-bounds : (p : Ticks) (n : ℕ) → n ≤ 32 → ScheduleBounds (eventStart p n)
-unfolding eventStart
-start-bounds p n h = omega arith
+none-left : (k : Schedule) → k .continuous ≡ false → k .planned ≤ k .started → startsLeft k ≡ false
+unfolding startsLeft
+none-left k c l = rw (c, le-ltb (k .started) (k .planned) l)
+
+pub single-bounds : (k : Schedule) → kindBusy k ≡ false → ScheduleBounds k → ScheduleBounds (single k)
+unfolding single kindBusy startsLeft inEvent
+single-bounds k i b =
+    let e = neither-picked (awaits k) i .1 in
+    let (c, l) = idle-all k e in
+    record {
+      planned = b .planned;
+      started = b .started;
+      settled = b .settled;
+      good = b .good;
+      left = omega arith;
+      wait = λ t. let n = none-left k c (omega (arith, b .settled)) in let z : _≡_ {A = ℕ} 0 1 = cc in absurd (omega arith);
+      balance = λ t. let z : _≡_ {A = ℕ} 0 1 = cc in absurd (omega arith);
+    }
+
+pub start-bounds : (p : Ticks) (n : ℕ) (c : Bool) → 16384 ≤ p .0 → 1 ≤ n → n ≤ 32 → ScheduleBounds (eventStart p n c)
+unfolding eventStart startsLeft inEvent
+start-bounds p n c l o h =
+    record {
+      planned = h;
+      started = o;
+      settled = omega arith;
+      good = omega arith;
+      left = omega arith;
+      wait = λ t. record { long = l; within = omega arith; some = omega arith; apart = λ _. omega arith };
+      balance = λ t. record { some = omega arith; busy = λ _. refl; idle = λ y. absurd (omega arith) };
+    }
 
 pub halted-bounds : (k : Schedule) → ScheduleBounds k → ScheduleBounds (halted k)
-unfolding halted
-halted-bounds k b = omega arith
+unfolding halted startsLeft inEvent
+halted-bounds k b =
+    let n = le-ltb (k .settled) (k .settled) (omega arith) in
+    record {
+      planned = omega arith;
+      started = omega arith;
+      settled = omega arith;
+      good = b .good;
+      left = omega arith;
+      wait = λ t. let z : _≡_ {A = ℕ} 0 1 = cc n in absurd (omega arith);
+      balance = λ t. let z : _≡_ {A = ℕ} 0 1 = cc n in absurd (omega arith);
+    }
 
-pub tick-bounds : (k : Schedule) → ScheduleBounds k → ScheduleBounds (tickSchedule k)
-unfolding tickSchedule settledAfter
-tick-bounds k b =
-    by-test (fails k)
-    (λ f. by-ltb (k .settled) (k .planned) (λ h e. rw (f, e) (omega arith)) (λ h e. rw (f, e) (omega arith)))
-    (λ f. rw f (omega arith))
+-- an event runs where a start is to come
+left-runs : (k : Schedule) → ScheduleBounds k → startsLeft k ≡ true → inEvent k ≡ true
+unfolding startsLeft inEvent
+left-runs k b =
+    by-test (k .continuous) (λ c. rw c (λ t. refl))
+    (λ c. rw c
+    (by-ltb (k .started) (k .planned)
+    (λ l e. rw (e, lt-ltb (k .settled) (k .planned) (omega (arith, b .settled))) (λ t. refl))
+    (λ l e. rw e (λ t. let z : _≡_ {A = ℕ} 0 1 = cc in absurd (omega arith)))))
+
+unsettled-runs : (k : Schedule) → k .settled < k .planned → inEvent k ≡ true
+unfolding inEvent
+unsettled-runs k l = rw (lt-ltb (k .settled) (k .planned) l) (by-test (k .continuous) (λ c. rw c) (λ c. rw c))
+
+module _ (k : Schedule) (b : ScheduleBounds k) where
+  -- a tick with a start: none is awaited then
+  start-idle : startsLeft k ≡ true → k .wait .0 ≤ 1 → k .left .0 ≡ 0
+  start-idle l w = by-ltb 0 (k .left .0) (λ a _. absurd (omega (arith, b .wait l .apart a))) (λ a _. omega arith)
+
+  begun-bounds :
+      startsLeft k ≡ true →
+      k .wait .0 ≤ 1 →
+      begins k ≡ true →
+      k .started < k .planned →
+      beginsGroup k ≡ false →
+      startedAfter k ≡ k .started + 1 →
+      ScheduleBounds (tickSchedule k)
+  unfolding tickSchedule leftAfter waitAfter settledAfter goodAfter fails
+  begun-bounds l w e u n s =
+      let z : k .left .0 ≡ 0 = start-idle l w in
+      let r = b .balance (left-runs k b l) in
+      let q = b .wait l in
+      rw (e, n, s, z, le-leb (k .wait .0) 1 w)
+      (record {
+        planned = b .planned;
+        started = omega arith;
+        settled = omega arith;
+        good = b .good;
+        left = omega arith;
+        wait = λ t. record { long = q .long; within = omega arith; some = omega arith; apart = λ _. q .long };
+        balance = λ t. record { some = omega arith; busy = λ _. omega (arith, r .idle z); idle = λ y. absurd (omega arith) };
+      })
+
+  turned-bounds :
+      startsLeft k ≡ true →
+      k .wait .0 ≤ 1 →
+      begins k ≡ true →
+      beginsGroup k ≡ true →
+      startedAfter k ≡ 1 →
+      ScheduleBounds (tickSchedule k)
+  unfolding tickSchedule leftAfter waitAfter settledAfter goodAfter fails
+  turned-bounds l w e n s =
+      let r = b .balance (left-runs k b l) in
+      let q = b .wait l in
+      rw (e, n, s, le-leb (k .wait .0) 1 w)
+      (record {
+        planned = b .planned;
+        started = omega (arith, r .some, b .started);
+        settled = omega arith;
+        good = omega arith;
+        left = omega arith;
+        wait = λ t. record { long = q .long; within = omega arith; some = omega arith; apart = λ _. q .long };
+        balance = λ t. record { some = omega arith; busy = λ _. refl; idle = λ y. absurd (omega arith) };
+      })
+
+  -- the wait after a tick without a start
+  spaced-on :
+      (left : ℕ) →
+      (0 < left → k .left .0 ≡ left + 1) →
+      (startsLeft k ≡ true → 2 ≤ k .wait .0) →
+      startsLeft k ≡ true →
+      Spaced left (waitAfter k) (k .period .0)
+  unfolding waitAfter
+  spaced-on left more f t =
+      let q = b .wait t in
+      let w : 1 < k .wait .0 = f t in
+      rw (lt-leb (k .wait .0) 1 w)
+      (record {
+        long = q .long;
+        within = omega (arith, q .within);
+        some = omega arith;
+        apart = λ a. omega (arith, more a, q .apart (omega (arith, more a)));
+      })
+
+  expired-bounds :
+      (startsLeft k ≡ true → 2 ≤ k .wait .0) →
+      begins k ≡ false →
+      k .left .0 ≡ 1 →
+      k .settled < k .planned →
+      ScheduleBounds (tickSchedule k)
+  unfolding tickSchedule leftAfter waitAfter settledAfter goodAfter fails startsLeft inEvent
+  expired-bounds f e z u =
+      let (n, s) = no-group k e in
+      let r = b .balance (unsettled-runs k u) in
+      let d = r .busy (omega arith) in
+      let p = spaced-on 0 (λ a. absurd (omega arith)) f in
+      rw (e, n, s, z, lt-ltb (k .settled) (k .planned) u)
+      (record {
+        planned = b .planned;
+        started = b .started;
+        settled = omega arith;
+        good = omega (arith, b .good);
+        left = omega arith;
+        wait = p;
+        balance = λ t. record { some = r .some; busy = λ a. absurd (omega arith); idle = λ y. d };
+      })
+
+  dropped-bounds :
+      (startsLeft k ≡ true → 2 ≤ k .wait .0) →
+      begins k ≡ false →
+      k .left .0 ≡ 1 →
+      k .planned ≤ k .settled →
+      ScheduleBounds (tickSchedule k)
+  unfolding tickSchedule leftAfter waitAfter settledAfter goodAfter fails startsLeft inEvent
+  dropped-bounds f e z u =
+      let (n, s) = no-group k e in
+      let p = spaced-on 0 (λ a. absurd (omega arith)) f in
+      rw (e, n, s, z, le-ltb (k .settled) (k .planned) u)
+      (record {
+        planned = b .planned;
+        started = b .started;
+        settled = b .settled;
+        good = b .good;
+        left = omega arith;
+        wait = p;
+        balance =
+            λ t.
+            by-test (k .continuous)
+            (λ c. absurd (omega (arith, b .balance (rw c) .busy (omega arith), b .started)))
+            (λ c. let z : _≡_ {A = ℕ} 0 1 = cc (rw (c, le-ltb (k .settled) (k .planned) u) at t) in absurd (omega arith));
+      })
+
+  rested-bounds :
+      (startsLeft k ≡ true → 2 ≤ k .wait .0) →
+      begins k ≡ false →
+      fails k ≡ false →
+      (0 < leftAfter k → k .left .0 ≡ leftAfter k + 1) →
+      (leftAfter k ≡ 0 → k .left .0 ≡ 0) →
+      leftAfter k ≤ 8192 →
+      ScheduleBounds (tickSchedule k)
+  unfolding tickSchedule settledAfter goodAfter startsLeft inEvent
+  rested-bounds f e g more none most =
+      let (n, s) = no-group k e in
+      let p = spaced-on (leftAfter k) more f in
+      rw (n, s, g)
+      (record {
+        planned = b .planned;
+        started = b .started;
+        settled = b .settled;
+        good = b .good;
+        left = most;
+        wait = p;
+        balance =
+            λ t.
+            let r = b .balance t in
+            record { some = r .some; busy = λ a. r .busy (omega (arith, more a)); idle = λ y. r .idle (none y) };
+      })
+
+  left-most : begins k ≡ false → leftAfter k ≤ 8192
+  unfolding leftAfter
+  left-most e =
+      rw e (by-ltb 0 (k .left .0) (λ l f. rw f (omega (arith, b .left))) (λ l f. rw f (omega arith)))
+
+  pub tick-bounds : ScheduleBounds (tickSchedule k)
+  unfolding fails
+  tick-bounds =
+      by-begins k
+      (λ l w e. by-group k e (λ u n s. begun-bounds l w e u n s) (λ c u n s. turned-bounds l w e n s))
+      (λ f e. by-eqb (k .left .0) 1
+      (λ z _. by-ltb (k .settled) (k .planned) (λ u _. expired-bounds f e z u) (λ u _. dropped-bounds f e z u))
+      (λ n g. let (more, none) = one-less k n e in rested-bounds f e (rw g) more none (left-most e)))
+
+-- No measurement starts in the tick that fails one.
+pub fails-alone : (k : Schedule) → ScheduleBounds k → fails k ≡ true → beginsGroup k ≡ false
+unfolding fails
+fails-alone k b e =
+    let l : k .left .0 ≡ 1 = eqb-true (k .left .0) 1 (held (eqb (k .left .0) 1) e .0) in
+    by-begins k (λ s w t. absurd (omega (arith, b .wait s .apart (omega arith)))) (λ f t. no-group k t .0)
 
 -- A failed one adds none to the count.
 pub settle-good : (k : Schedule) → settle k false .good ≡ k .good
 unfolding settle
 settle-good k = by-test (ltb (k .settled) (k .planned)) (λ e. rw e) (λ e. rw e)
 
-pub settle-bounds : (k : Schedule) (good : Bool) → ScheduleBounds k → ScheduleBounds (settle k good)
-unfolding settle
-settle-bounds k good b =
+pub settle-bounds : (k : Schedule) (good : Bool) → 0 < k .left .0 → ScheduleBounds k → ScheduleBounds (settle k good)
+unfolding settle startsLeft inEvent
+settle-bounds k good a b =
     by-ltb (k .settled) (k .planned)
-    (λ h e. by-test good (λ g. rw (e, g) (omega arith)) (λ g. rw (e, g) (omega arith)))
-    (λ h e. rw e (omega arith))
+    (λ h e.
+    let r = b .balance (unsettled-runs k h) in
+    let d = r .busy a in
+    let g : pick good (k .good + 1) (k .good) ≤ k .settled + 1 =
+    by-test good (λ g. rw g (omega (arith, b .good))) (λ g. rw g (omega (arith, b .good))) in
+    rw e
+    (record {
+      planned = b .planned;
+      started = b .started;
+      settled = omega arith;
+      good = g;
+      left = omega arith;
+      wait =
+          λ t.
+          let q = b .wait t in
+          record { long = q .long; within = q .within; some = q .some; apart = λ y. absurd (omega arith) };
+      balance = λ t. record { some = r .some; busy = λ y. absurd (omega arith); idle = λ y. d };
+    }))
+    (λ h e. rw e
+    (record {
+      planned = b .planned;
+      started = b .started;
+      settled = b .settled;
+      good = b .good;
+      left = omega arith;
+      wait =
+          λ t.
+          let q = b .wait t in
+          record { long = q .long; within = q .within; some = q .some; apart = λ y. absurd (omega arith) };
+      balance = λ t. absurd (omega (arith, b .balance t .busy a, b .started));
+    }))
 
 -- The parts of a fresh model, a started event, a tick, and settling.
 no-flight-bounds : FlightBounds noFlight
@@ -191,7 +572,9 @@ flight-event-bounds : (f : Flight) (s : List ℕ) → FlightBounds (flightEvent 
 unfolding flightEvent eventStart
 flight-event-bounds f s =
     record {
-      schedule = start-bounds (differencePeriod s) (differenceCount s) (difference-count-bounds s .1);
+      schedule =
+          start-bounds (differencePeriod s) (differenceCount s) (eventContinuous s) (difference-period-bounds s .0)
+          (difference-count-bounds s .0) (difference-count-bounds s .1);
       sum = omega arith;
     }
 
@@ -199,30 +582,44 @@ temperature-event-bounds : (t : Temperature) (s : List ℕ) → TemperatureBound
 unfolding temperatureEvent eventStart
 temperature-event-bounds t s =
     record {
-      schedule = start-bounds (temperaturePeriod s) (temperatureCount s) (temperature-count-bounds s .1);
+      schedule =
+          start-bounds (temperaturePeriod s) (temperatureCount s) (eventContinuous s)
+          (omega (arith, temperature-period-bounds s)) (temperature-count-bounds s .0) (temperature-count-bounds s .1);
       sums = omega arith;
     }
 
 flight-after-bounds : (f : Flight) → FlightBounds f → FlightBounds (flightAfter f)
-unfolding flightAfter lostFlight tickSchedule
+unfolding flightAfter flightTicked lostFlight
 flight-after-bounds f b =
     let k = tick-bounds (f .schedule) (b .schedule) in
+    let s : sumAfter f ≤ tickSchedule (f .schedule) .good * 4294967296 = sum-after in
     chosen FlightBounds (fails (f .schedule))
-    (record { schedule = k; sum = b .sum })
-    (record { schedule = k; sum = b .sum })
+    (record { schedule = k; sum = s })
+    (record { schedule = k; sum = s })
+  where
+    sum-after : sumAfter f ≤ tickSchedule (f .schedule) .good * 4294967296
+    sum-after =
+        unfold sumAfter tickSchedule goodAfter in
+        by-test (beginsGroup (f .schedule)) (λ e. rw e (omega arith)) (λ e. rw e (b .sum))
 
 temperature-after-bounds : (t : Temperature) → TemperatureBounds t → TemperatureBounds (temperatureAfter t)
-unfolding temperatureAfter tickSchedule
+unfolding temperatureAfter
 temperature-after-bounds t b =
     let k = tick-bounds (t .schedule) (b .schedule) in
     chosen TemperatureBounds (fails (t .schedule))
-    (record { schedule = k; sums = b .sums })
-    (record { schedule = k; sums = b .sums })
+    (record { schedule = k; sums = sums-after })
+    (record { schedule = k; sums = sums-after })
+  where
+    sums-after : PortBounds (sumsAfter t) (tickSchedule (t .schedule) .good)
+    sums-after =
+        unfold sumsAfter tickSchedule goodAfter in
+        by-test (beginsGroup (t .schedule)) (λ e. rw e (omega arith)) (λ e. rw e (b .sums))
 
-flight-lost-bounds : (f : Flight) → FlightBounds f → FlightBounds (lostFlight f (settle (f .schedule) false))
+flight-lost-bounds :
+    (f : Flight) → 0 < f .schedule .left .0 → FlightBounds f → FlightBounds (lostFlight f (settle (f .schedule) false))
 unfolding lostFlight
-flight-lost-bounds f b =
-    record { schedule = settle-bounds (f .schedule) false (b .schedule); sum = rw (settle-good (f .schedule)) (b .sum) }
+flight-lost-bounds f a b =
+    record { schedule = settle-bounds (f .schedule) false a (b .schedule); sum = rw (settle-good (f .schedule)) (b .sum) }
 
 -- An average below 2^31 keeps the biased difference below 2^32.
 biased-below : (u d : List ℕ) (h : ℕ) → sixTotal u < h * 2147483648 → biased (average u h) (average d h) ≤ 4294967296
@@ -232,13 +629,14 @@ biased-below u d h l = omega (arith, quotient-below (sixTotal u) h 2147483648 l)
 flight-good-bounds :
     (f : Flight) (h : ℕ) (u d : List ℕ) →
     sixTotal u < h * 2147483648 →
+    0 < f .schedule .left .0 →
     FlightBounds f →
     FlightBounds (goodFlight f h u d)
 unfolding goodFlight goodSum settle
-flight-good-bounds f h u d l b =
+flight-good-bounds f h u d l a b =
     let k = biased-below u d h l in
     record {
-      schedule = settle-bounds (f .schedule) true (b .schedule);
+      schedule = settle-bounds (f .schedule) true a (b .schedule);
       sum =
           by-test (ltb (f .schedule .settled) (f .schedule .planned)) (λ e. rw e (omega arith)) (λ e. rw e (b .sum));
     }
@@ -249,23 +647,25 @@ temperature-good-bounds :
     getD w 1 0 < 2147483648 →
     getD w 2 0 < 2147483648 →
     getD w 3 0 < 2147483648 →
+    0 < t .schedule .left .0 →
     TemperatureBounds t →
     TemperatureBounds (record { schedule = settle (t .schedule) true; sums = goodSums t w; ports = p })
 unfolding goodSums settle plusEach
-temperature-good-bounds t w p h0 h1 h2 h3 b =
+temperature-good-bounds t w p h0 h1 h2 h3 a b =
     record {
-      schedule = settle-bounds (t .schedule) true (b .schedule);
+      schedule = settle-bounds (t .schedule) true a (b .schedule);
       sums =
           by-test (ltb (t .schedule .settled) (t .schedule .planned)) (λ e. rw e (omega arith)) (λ e. rw e (b .sums));
     }
 
 temperature-lost-bounds :
     (t : Temperature) (p : List ℕ) →
+    0 < t .schedule .left .0 →
     TemperatureBounds t →
     TemperatureBounds (record { schedule = settle (t .schedule) false; sums = t .sums; ports = p })
-temperature-lost-bounds t p b =
+temperature-lost-bounds t p a b =
     record {
-      schedule = settle-bounds (t .schedule) false (b .schedule);
+      schedule = settle-bounds (t .schedule) false a (b .schedule);
       sums = rw (settle-good (t .schedule)) (b .sums);
     }
 
@@ -303,20 +703,21 @@ write-bounds bytes op n m e b =
       temperature = b .temperature;
     }
 
-single-started-bounds : (m : Model) (op : ℕ) → Bounds m → Bounds (singleStarted m op)
-unfolding singleStarted flightStarted single
-single-started-bounds m op b =
+single-started-bounds : (m : Model) (op : ℕ) → busy m ≡ false → Bounds m → Bounds (singleStarted m op)
+unfolding singleStarted flightStarted busy
+single-started-bounds m op i b =
     let f = b .flight in
     let t = b .temperature in
+    let (j, k) = neither-picked (kindBusy (m .flight .schedule)) i in
     chosen Bounds (eqb op 3)
     (record {
       clock = b .clock;
       flight = f;
-      temperature = record { schedule = single-bounds (m .temperature .schedule) (t .schedule); sums = t .sums };
+      temperature = record { schedule = single-bounds (m .temperature .schedule) k (t .schedule); sums = unfold single in t .sums };
     })
     (record {
       clock = b .clock;
-      flight = record { schedule = single-bounds (m .flight .schedule) (f .schedule); sum = f .sum };
+      flight = record { schedule = single-bounds (m .flight .schedule) j (f .schedule); sum = unfold single in f .sum };
       temperature = t;
     })
 
@@ -343,13 +744,18 @@ halted-model-bounds m b =
       temperature = record { schedule = halted-bounds (m .temperature .schedule) (t .schedule); sums = t .sums };
     }
 
-run-bounds : (m : Model) (op : ℕ) → Bounds m → Bounds (runModel m op)
+-- every command but HALT and Reset needs an idle model
+must-idle : (m : Model) (op : ℕ) → commandBusy m op ≡ false → eqb op 4 ≡ false → eqb op 10 ≡ false → busy m ≡ false
+unfolding commandBusy mustBeIdle
+must-idle m op i e f = rw (e, f) at i
+
+run-bounds : (m : Model) (op : ℕ) → commandBusy m op ≡ false → Bounds m → Bounds (runModel m op)
 unfolding runModel resetModel initialised
-run-bounds m op b =
-    chosen Bounds (eqb op 4) (fresh-bounds noBits)
-    (chosen Bounds (eqb op 5) (record { clock = b .clock; flight = b .flight; temperature = b .temperature })
-    (chosen Bounds (eqb op 10) (halted-model-bounds m b)
-    (chosen Bounds (isEvent op) (started-event-bounds m op b) (single-started-bounds m op b))))
+run-bounds m op i b =
+    picked Bounds (eqb op 4) (λ _. fresh-bounds noBits)
+    (λ e. chosen Bounds (eqb op 5) (record { clock = b .clock; flight = b .flight; temperature = b .temperature })
+    (picked Bounds (eqb op 10) (λ _. halted-model-bounds m b)
+    (λ f. chosen Bounds (isEvent op) (started-event-bounds m op b) (single-started-bounds m op (must-idle m op i e f) b))))
 
 read-bounds : (m : Model) (a n : ℕ) → Bounds m → Bounds (readModel m a n)
 unfolding readModel
@@ -389,21 +795,28 @@ hits-below m u d e late =
     let (some, most) = hits-bounds (m .setup) in
     (hits-fit k h u lu some most nu, hits-fit k h d ld some most nd)
 
+-- A delivery is accepted only while its kind is awaited.
+pub left-some : (k : Schedule) → negate (awaits k) ≡ false → 0 < k .left .0
+unfolding awaits
+left-some k a = ltb-true 0 (k .left .0) (held (ltb 0 (k .left .0)) (negated (awaits k) a) .0)
+
 flight-bounds :
     (m : Model) (u d : List ℕ) →
+    notAwaited m (flight u d) ≡ false →
     miscounted m (flight u d) ≡ false →
     Bounds m →
     Bounds (acceptedModel m (flight u d))
-unfolding acceptedModel flightFailed flightGood
-flight-bounds m u d e b =
+unfolding acceptedModel flightFailed flightGood notAwaited
+flight-bounds m u d w e b =
+    let a = left-some (m .flight .schedule) w in
     by-test (anyLate m u d)
     (λ l. rw l
-    (record { clock = b .clock; flight = flight-lost-bounds (m .flight) (b .flight); temperature = b .temperature }))
+    (record { clock = b .clock; flight = flight-lost-bounds (m .flight) a (b .flight); temperature = b .temperature }))
     (λ l. rw l
     (record {
       clock = b .clock;
       flight =
-          flight-good-bounds (m .flight) (hitCount (m .setup)) (six u) (six d) (hits-below m u d e l .0) (b .flight);
+          flight-good-bounds (m .flight) (hitCount (m .setup)) (six u) (six d) (hits-below m u d e l .0) a (b .flight);
       temperature = b .temperature;
     }))
 
@@ -420,17 +833,19 @@ ports-good m w e o =
 
 temperature-bounds :
     (m : Model) (w : List ℕ) →
+    notAwaited m (temperature w) ≡ false →
     miscounted m (temperature w) ≡ false →
     Bounds m →
     Bounds (acceptedModel m (temperature w))
-unfolding acceptedModel temperatureFailed temperatureGood four
-temperature-bounds m w e b =
+unfolding acceptedModel temperatureFailed temperatureGood four notAwaited
+temperature-bounds m w n e b =
+    let a = left-some (m .temperature .schedule) n in
     by-test (portFault m w)
     (λ o. rw o
     (record {
       clock = b .clock;
       flight = b .flight;
-      temperature = temperature-lost-bounds (m .temperature) _ (b .temperature);
+      temperature = temperature-lost-bounds (m .temperature) _ a (b .temperature);
     }))
     (λ o. rw o
     (let g = ports-good m w e o in
@@ -438,18 +853,19 @@ temperature-bounds m w e b =
       clock = b .clock;
       flight = b .flight;
       temperature =
-          temperature-good-bounds (m .temperature) (four w) (four w) (g .first) (g .second) (g .third) (g .fourth)
+          temperature-good-bounds (m .temperature) (four w) (four w) (g .first) (g .second) (g .third) (g .fourth) a
           (b .temperature);
     }))
 
 transaction-bounds :
     (m : Model) (f o : List ℕ) →
+    whileBusy m (transaction f o) ≡ false →
     badCalendar m (transaction f o) ≡ false →
     Bounds m →
     Bounds (acceptedModel m (transaction f o))
-unfolding acceptedModel badCalendar
-transaction-bounds m f o e b =
-    by-test (isCommand (opcode f)) (λ c. rw c (run-bounds m (opcode f) b))
+unfolding acceptedModel whileBusy badCalendar
+transaction-bounds m f o i e b =
+    by-test (isCommand (opcode f)) (λ c. rw c (run-bounds m (opcode f) (rw c at i) b))
     (λ c. by-test (isWrite (opcode f))
     (λ w. rw (c, w) (write-bounds (drop 1 f) (opcode f) (words f) m (rw (c, w) at e) b))
     (λ w. rw (c, w) (read-bounds m (opcode f) (words f) b)))
@@ -460,10 +876,10 @@ ticked-bounds zero m b = b
 ticked-bounds (suc n) m b = tick-model-bounds (ticked n m) (ticked-bounds n m b)
 
 accepted-bounds : (m : Model) (c : Call) → NoneHolds m c → Bounds m → Bounds (acceptedModel m c)
-accepted-bounds m (transaction f o) n b = transaction-bounds m f o (n .row7) b
+accepted-bounds m (transaction f o) n b = transaction-bounds m f o (n .row6) (n .row7) b
 accepted-bounds m tick n b = unfold acceptedModel in tick-model-bounds m b
-accepted-bounds m (flight u d) n b = flight-bounds m u d (n .row11) b
-accepted-bounds m (temperature w) n b = temperature-bounds m w (n .row11) b
+accepted-bounds m (flight u d) n b = flight-bounds m u d (n .row10) (n .row11) b
+accepted-bounds m (temperature w) n b = temperature-bounds m w (n .row10) (n .row11) b
 accepted-bounds m (stretch k) n b = unfold acceptedModel in ticked-bounds k m b
 
 -- "a fresh model is sound and every call keeps it so"

@@ -2,7 +2,7 @@
 use Prim.Native.Nat.{ℕ, _+_, _*_, _/_, _%_, _<_, max}
 use native.Mathlib.Omega.{arith}
 use mathlib.Core.Bool.{Bool, true, false}
-use mathlib.Core.Logic.{_↔_}
+use mathlib.Core.Logic.{_↔_, _⊎_, inl, inr, ⊎-elim}
 use mathlib.Core.Path.{_≡_, refl}
 use lib.Dec.{ltb}
 use Rattle.unit.specs.Choice.{pick, either}
@@ -86,13 +86,16 @@ status-means s =
       bit-below (s .por),
     )
 
--- "The event ends when all are settled."
-pub event-runs-means : (k : Schedule) → (inEvent k ≡ true) ↔ (k .settled < k .planned)
+-- "The event ends when all are settled.", and a continuous one "only by HALT or Reset" (Note 5)
+pub event-runs-means : (k : Schedule) → (inEvent k ≡ true) ↔ ((k .continuous ≡ true) ⊎ (k .settled < k .planned))
 unfolding inEvent
 event-runs-means k =
-    by-ltb (k .settled) (k .planned)
-    (λ h e. rw e (holds h))
-    (λ h e. rw e (fails false (λ x. omega arith)))
+    by-test (k .continuous)
+    (λ c. rw c (holds (inl refl)))
+    (λ c. rw c
+    (by-ltb (k .settled) (k .planned)
+    (λ h e. rw e (holds (inr h)))
+    (λ h e. rw e (fails false (⊎-elim (λ x. let z : _≡_ {A = ℕ} 0 1 = cc in omega arith) (λ x. omega arith))))))
 
 -- "Settling the N-th sets TOF_EVTMG or TEMP_EVTMG."
 pub last-means : (k : Schedule) → (lastOne k ≡ true) ↔ (k .settled + 1 ≡ k .planned)
@@ -153,7 +156,9 @@ module _ (k : Schedule) (each opened : Bool) where
 pub single-not-last : (k : Schedule) → inEvent k ≡ false → lastOne k ≡ false
 unfolding inEvent lastOne
 single-not-last k =
-    by-test (ltb (k .settled) (k .planned)) (λ e. rw e (λ f. cc)) (λ e. rw e (λ f. refl))
+    by-test (ltb (k .settled) (k .planned))
+    (λ e. rw e (by-test (k .continuous) (λ c. rw c (λ f. cc)) (λ c. rw c (λ f. cc))))
+    (λ e. rw e (λ f. refl))
 
 pub kept : (b : Bool) → either b false ≡ b
 kept true = refl

@@ -16,12 +16,13 @@ use Rattle.register.specs.Setup.{clockStands}
 use Rattle.unit.specs.declared.Ticks.{Ticks}
 use Rattle.device.specs.declared.Schedule.{Schedule}
 use Rattle.device.specs.declared.Model.{Model}
-use Rattle.device.specs.Event.{begins, fails, leftAfter, waitAfter, startedAfter, tickSchedule}
-use Rattle.device.specs.Tick.{lostFlight, flightAfter, temperatureAfter, clockTicked, tickModel}
+use Rattle.device.specs.Event.{startsLeft, begins, fails, leftAfter, waitAfter, tickSchedule}
+use Rattle.device.specs.Tick.{lostFlight, flightTicked, flightAfter, temperatureAfter, clockTicked, tickModel}
 use Rattle.device.specs.Stretch.{ticked, scheduleTicked, lastTick}
-use Rattle.device.specs.Claim.{Kind, differences, temperatures, History}
+use Rattle.device.specs.Claim.{Kind, differences, temperatures, Plan, History}
 use Rattle.device.proofs.Table.{picked}
-use Rattle.device.proofs.Going.{Going, by-begins, none-awaited}
+use Rattle.device.proofs.TickCases.{by-begins, left-before}
+use Rattle.device.proofs.Going.{Going, none-awaited}
 
 -- The schedule of a kind.
 abbrev pub scheduleOf : Kind → Model → Schedule
@@ -29,7 +30,7 @@ scheduleOf differences m = m .flight .schedule
 scheduleOf temperatures m = m .temperature .schedule
 
 schedule-tick : (k : Kind) (m : Model) → scheduleOf k (tickModel m) ≡ tickSchedule (scheduleOf k m)
-unfolding tickModel flightAfter lostFlight temperatureAfter
+unfolding tickModel flightAfter flightTicked lostFlight temperatureAfter
 schedule-tick differences m = by-test (fails (m .flight .schedule)) (λ e. rw e) (λ e. rw e)
 schedule-tick temperatures m = by-test (fails (m .temperature .schedule)) (λ e. rw e) (λ e. rw e)
 
@@ -102,10 +103,10 @@ wait-counts k j (suc i) w a b =
     rw (lt-leb ((scheduleTicked i k) .wait .0) 1 v) (omega arith))
 
 begins-waits : (k : Schedule) → begins k ≡ true → k .wait .0 ≤ 1
-begins-waits k e = by-begins k (λ l w b s. w) (λ f b s. let z : _≡_ {A = ℕ} 0 1 = cc in absurd (omega arith))
+begins-waits k e = by-begins k (λ l w b. w) (λ f b. let z : _≡_ {A = ℕ} 0 1 = cc in absurd (omega arith))
 
 waits-rests : (k : Schedule) → 1 < k .wait .0 → begins k ≡ false
-waits-rests k v = by-begins k (λ l w b s. absurd (omega arith)) (λ f b s. b)
+waits-rests k v = by-begins k (λ l w b. absurd (omega arith)) (λ f b. b)
 
 pub starts-once :
     (k : Schedule) (j i : ℕ) →
@@ -121,37 +122,49 @@ starts-once k j i p a b e =
 -- After a failure in tick j + 1 nothing is awaited until the next start, and that one has its 8,192 ticks.
 abbrev Rests : ℕ → ℕ → Schedule → Type 0
 Rests j i k =
-    ((k .left .0 ≡ 0) × (k .started < k .planned → 8193 + j ≤ k .wait .0 + i)) ⊎
+    ((k .left .0 ≡ 0) × (startsLeft k ≡ true → 8193 + j ≤ k .wait .0 + i)) ⊎
     ((16385 + j ≤ k .left .0 + i) × (8192 + j ≤ i))
+
+-- what a tick without a start leaves
+left-gone : (k : Schedule) → begins k ≡ false → k .left .0 ≤ 1 → tickSchedule k .left .0 ≡ 0
+unfolding tickSchedule leftAfter
+left-gone k b l = rw b (by-ltb 0 (k .left .0) (λ a e. rw e (omega arith)) (λ a e. rw e))
+
+left-falls : (k : Schedule) → begins k ≡ false → k .left .0 ≤ tickSchedule k .left .0 + 1
+unfolding tickSchedule leftAfter
+left-falls k b = rw b (by-ltb 0 (k .left .0) (λ a e. rw e (omega arith)) (λ a e. rw e (omega arith)))
+
+wait-falls : (k : Schedule) → 2 ≤ k .wait .0 → tickSchedule k .wait .0 + 1 ≡ k .wait .0
+unfolding tickSchedule waitAfter
+wait-falls k l = rw (lt-leb (k .wait .0) 1 l) (omega arith)
 
 rests-starts :
     (j i : ℕ) (k : Schedule) →
     Rests j i k →
-    k .started < k .planned →
+    startsLeft k ≡ true →
     k .wait .0 ≤ 1 →
     begins k ≡ true →
-    startedAfter k ≡ k .started + 1 →
     Rests j (suc i) (tickSchedule k)
-unfolding tickSchedule leftAfter
-rests-starts j i k r l w b s =
+rests-starts j i k r l w b =
     let c : 8192 + j ≤ i = ⊎-elim (λ p. omega (arith, p .1 l)) (λ q. omega arith) r in
-    rw b (inr (omega arith))
+    let e : tickSchedule k .left .0 ≡ 8192 = unfold tickSchedule leftAfter in rw b in
+    inr (omega arith)
 
 rests-on :
     (j i : ℕ) (k : Schedule) →
     Rests j i k →
-    (k .started < k .planned → 2 ≤ k .wait .0) →
+    (startsLeft k ≡ true → 2 ≤ k .wait .0) →
     begins k ≡ false →
-    startedAfter k ≡ k .started →
     Rests j (suc i) (tickSchedule k)
-unfolding tickSchedule leftAfter waitAfter
-rests-on j i k r f b s =
-    rw (b, s)
-    (⊎-elim
-    (λ p. rw (p .0)
-    (inl (refl, λ l. rw (lt-leb (k .wait .0) 1 (f l)) (omega (arith, p .1 l, f l)))))
-    (λ (q : (16385 + j ≤ k .left .0 + i) × (8192 + j ≤ i)). by-ltb 0 (k .left .0) (λ l e. rw e (inr (omega arith))) (λ l e. rw e (inr (omega arith))))
-    r)
+rests-on j i k r f b =
+    ⊎-elim
+    (λ p.
+    inl (
+      left-gone k b (omega arith),
+      λ l. let u = left-before k l in omega (arith, p .1 u, wait-falls k (f u)),
+    ))
+    (λ (q : (16385 + j ≤ k .left .0 + i) × (8192 + j ≤ i)). inr (omega (arith, left-falls k b)))
+    r
 
 rests-tick : (j i : ℕ) (k : Schedule) → Rests j i k → Rests j (suc i) (tickSchedule k)
 rests-tick j i k r = by-begins k (rests-starts j i k r) (rests-on j i k r)
@@ -160,32 +173,29 @@ rests-tick j i k r = by-begins k (rests-starts j i k r) (rests-on j i k r)
 pub record Apart (k : Schedule) : Type 0 where
   pub long : 16384 ≤ k .period .0
   pub alone : k .left .0 ≡ 1 → begins k ≡ false
-  pub before : k .left .0 ≡ 1 → k .started < k .planned → 8193 ≤ k .wait .0
+  pub before : k .left .0 ≡ 1 → startsLeft k ≡ true → 8193 ≤ k .wait .0
 
-pub apart : (P N : ℕ) (h : History) (k : Schedule) → Going P N h k → Apart k
-apart P N h k g =
+pub apart : (p : Plan) (h : History) (k : Schedule) → Going p h k → Apart k
+apart p h k g =
     record {
       long = omega (arith, g .period, g .begun .long);
       alone =
           λ e.
           by-begins k
-          (λ l w b s. absurd (omega (arith, none-awaited P N h k g l w)))
-          (λ f b s. b);
-      before = λ e l. omega (arith, g .since (omega arith), g .begun .next (omega (arith, g .planned)), g .begun .long, g .begun .last);
+          (λ l w b. absurd (omega (arith, none-awaited p h k g l w)))
+          (λ f b. b);
+      before = λ e l. omega (arith, g .since (omega arith), g .begun .next l, g .begun .long, g .begun .last);
     }
 
 first-rest : (j : ℕ) (k : Schedule) → Apart k → k .left .0 ≡ 1 → Rests j (suc j) (tickSchedule k)
-unfolding tickSchedule leftAfter waitAfter startedAfter
 first-rest j k a e =
     by-begins k
-    (λ l w b s. let z : _≡_ {A = ℕ} 0 1 = cc (a .alone e) in absurd (omega arith))
-    (λ f b s. rw (b, e)
-    (inl (
-      refl,
-      λ l.
-          let l : k .started < k .planned = omega (arith, s) in
-          rw (lt-leb (k .wait .0) 1 (f l)) (omega (arith, a .before e l)),
-    )))
+    (λ l w b. let z : _≡_ {A = ℕ} 0 1 = cc (a .alone e) in absurd (omega arith))
+    (λ f b.
+    inl (
+      left-gone k b (omega arith),
+      λ l. let u = left-before k l in omega (arith, a .before e u, wait-falls k (f u)),
+    ))
 
 rests-all :
     (k : Schedule) (j i : ℕ) →

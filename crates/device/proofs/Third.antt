@@ -6,8 +6,9 @@ use native.Mathlib.Numerals.{add-one}
 use mathlib.Core.Path.{_≡_, refl, ap, sym, subst, _∙_}
 use mathlib.Core.Bool.{Bool, true, false}
 use mathlib.Core.List.{List, [], _∷_}
+use mathlib.Core.Logic.{_⊎_, inl, inr, ⊎-elim}
 use lib.Dec.{ltb, eqb}
-use borrow.Author.Tests.{ltb-false, le-ltb}
+use borrow.Author.Tests.{ltb-false, lt-ltb, le-ltb}
 use Rattle.unit.specs.Choice.{pick, both}
 use Rattle.unit.specs.Cases.{by-test, by-eqb}
 use Rattle.calendar.specs.declared.Clock.{Clock}
@@ -16,22 +17,24 @@ use Rattle.calendar.specs.Moment.{moment, afterTicks}
 use Rattle.calendar.specs.Words.{clockFrom}
 use Rattle.calendar.proofs.Laws.{passed, after-moment, after-weekday, after-form}
 use Rattle.calendar.proofs.RoundTrip.{round-trip}
-use Rattle.register.specs.Setup.{wordOf, clockStands, eventUnset, differencePeriod, differenceCount, temperaturePeriod, temperatureCount}
+use Rattle.register.specs.Setup.{wordOf, clockStands, eventContinuous, differencePeriod, differenceCount, temperaturePeriod, temperatureCount}
 use Rattle.register.proofs.Laws.{difference-period-bounds, difference-count-bounds, temperature-period-bounds, temperature-count-bounds}
-use Rattle.frame.specs.Frame.{isCommand}
+use Rattle.frame.specs.Frame.{isCommand, isWrite, notWhole, pastEnd}
 use Rattle.measurement.specs.Mean.{sum, biasedTotal}
 use Rattle.device.specs.declared.Model.{Model}
 use Rattle.device.specs.declared.Reply.{Reply}
 use Rattle.device.specs.declared.StretchReport.{StretchReport}
-use Rattle.device.specs.Model.{sound, freshModel}
+use Rattle.device.specs.Event.{awaits, inEvent}
+use Rattle.device.specs.Model.{sound, kindBusy, busy, freshModel}
 use Rattle.device.specs.Registers.{calendarWord, registerWord}
 use Rattle.device.specs.Bus.{startsFlight, startsTemperature, isEvent, eventSideUnset, commandUnset, flightEvent, temperatureEvent, eventFlight, eventTemperature, startedEvent, runModel}
-use Rattle.device.specs.Call.{Call, transaction, tick, flight, temperature, stretch, badSetup, accepted, verdict, acceptedAnswer, acceptedModel, accept, replyBy, reply}
-use Rattle.device.specs.Claim.{Kind, differences, temperatures, Entry, History, note, noteTick, noteGood, noteFailed, history, after, log, onlyReads, isTick, isDelivery, isGood, isFailed}
+use Rattle.device.specs.Call.{Call, transaction, tick, flight, temperature, stretch, noFrame, notCarried, wrongLength, pastRegisters, shortOutput}
+use Rattle.device.specs.Call.{whileBusy, badSetup, table, firstOf, accepted, verdict, acceptedAnswer, acceptedModel, accept, replyBy, reply}
+use Rattle.device.specs.Claim.{Kind, differences, temperatures, Plan, planOf, periodOf, countOf, Entry, History, note, noteTick, noteGood, noteFailed, history, after, log, onlyReads, isTick, isDelivery, isGood, isFailed}
 use Rattle.device.specs.Claim.{startReported, beginning, runs, isRefusal, spanOf, stretchIn, named, noteTicks, ticksIn, tickCount}
-use Rattle.device.specs.Claim.{command, ThirdDemand}
+use Rattle.device.specs.Claim.{command, toldOf, StillBusy, ThirdDemand}
 use Rattle.device.proofs.Table.{none-holds, picked}
-use Rattle.device.proofs.Sound.{bounds-of, fresh-sound, keeps-sound}
+use Rattle.device.proofs.Sound.{neither-picked, bounds-of, fresh-sound, keeps-sound}
 use Rattle.device.proofs.Going.{going-start}
 use Rattle.device.proofs.Calls.{stepped, setup-kept, clock-step}
 use Rattle.device.proofs.Held.{KindHeld, held-step, held-claim}
@@ -107,10 +110,6 @@ accepted-event m op o e =
     (λ op. verdict m (command op o) ≡ accepted → reply m (command op o) ≡ accept (startsFlight op) (startsTemperature op) (startedEvent m op))
     op e (λ v. rw v) (λ v. rw v) (λ v. rw v)
 
-neither-picked : (t : Bool) {r : Bool} → pick t true r ≡ false → (t ≡ false) × (r ≡ false)
-neither-picked true e = (e, cc)
-neither-picked false e = (refl, e)
-
 event-command : (op : ℕ) → isEvent op ≡ true → isCommand op ≡ true
 unfolding isCommand
 event-command op e = by-event (λ op. isCommand op ≡ true) op e refl refl refl
@@ -121,10 +120,10 @@ clock-runs :
     isEvent op ≡ true →
     verdict m (command op o) ≡ accepted →
     clockStands (m .setup) ≡ false
-unfolding badSetup commandUnset eventSideUnset eventUnset
+unfolding badSetup commandUnset eventSideUnset
 clock-runs m op o e v =
     let u = rw (event-command op e, e) at (none-holds m (command op o) v .row9) in
-    neither-picked (eqb (wordOf (m .setup) 0x42 / 256 % 2) 1) (neither-picked (eventUnset (m .setup)) u .0) .1
+    neither-picked (clockStands (m .setup)) u .0
 
 -- the kinds that 01 names are the kinds that the command starts
 runs-flight : (op : ℕ) → runs differences op ≡ true → startsFlight op ≡ true
@@ -143,12 +142,12 @@ held-start :
     (k : Kind) (m : Model) (op : ℕ) →
     runs k op ≡ true →
     KindHeld k (m .setup) (beginning k (accept (startsFlight op) (startsTemperature op) (startedEvent m op) .answer)) (startedEvent m op)
-unfolding beginning startReported startedEvent eventFlight eventTemperature flightEvent temperatureEvent biasedTotal sum
+unfolding beginning startReported periodOf countOf startedEvent eventFlight eventTemperature flightEvent temperatureEvent biasedTotal sum
 held-start differences m op r =
     rw (runs-flight op r)
     (record {
       going =
-          going-start (differencePeriod (m .setup)) (differenceCount (m .setup))
+          going-start (differencePeriod (m .setup)) (differenceCount (m .setup)) (eventContinuous (m .setup))
           (difference-period-bounds (m .setup) .0) (difference-count-bounds (m .setup) .0);
       sum = refl;
       range = tt;
@@ -160,7 +159,7 @@ held-start temperatures m op r =
     rw (runs-temperature op r)
     (record {
       going =
-          going-start (temperaturePeriod (m .setup)) (temperatureCount (m .setup))
+          going-start (temperaturePeriod (m .setup)) (temperatureCount (m .setup)) (eventContinuous (m .setup))
           (omega (arith, temperature-period-bounds (m .setup))) (temperature-count-bounds (m .setup) .0);
       sums = refl;
       below = λ i. tt;
@@ -168,10 +167,10 @@ held-start temperatures m op r =
     })
 
 -- each tick of the list counts, and each of an accepted stretch
-noted-ticks : (n : ℕ) (r : StretchReport) (h : History) → (noteTicks n r h) .ticks ≡ h .ticks + n
+noted-ticks : (p : Plan) (n : ℕ) (r : StretchReport) (h : History) → (noteTicks p n r h) .ticks ≡ h .ticks + n
 unfolding noteTicks noteTick
-noted-ticks zero r h = omega arith
-noted-ticks (suc n) r h = omega (arith, noted-ticks n r h)
+noted-ticks p zero r h = omega arith
+noted-ticks p (suc n) r h = omega (arith, noted-ticks p n r h)
 
 no-span : (k : Kind) (c : Call) → isDelivery k c ≡ true → spanOf c ≡ 0
 unfolding isDelivery spanOf
@@ -192,7 +191,7 @@ note-ticks k s e h =
     by-test (isTick (e .call)) (λ a. rw a)
     (λ a. by-test (both (isDelivery k (e .call)) (isGood (e .answer))) (λ b. rw (a, b, delivered-none k e (both-true _ _ b .0)) (omega arith))
     (λ b. by-test (both (isDelivery k (e .call)) (isFailed (e .answer))) (λ d. rw (a, b, d, delivered-none k e (both-true _ _ d .0)) (omega arith))
-    (λ d. rw (a, b, d) (noted-ticks (stretchIn e) (named k (e .answer)) h))))
+    (λ d. rw (a, b, d) (noted-ticks (planOf k s) (stretchIn e) (named k (e .answer)) h))))
 
 all-counted :
     (k : Kind) (s : List ℕ) (cs : List Call) (m : Model) (h : History) →
@@ -216,6 +215,32 @@ reads-clock :
 unfolding registerWord calendarWord
 reads-clock m s = round-trip (m .clock) (bounds-of m s .clock)
 
+-- a continuous event does not end
+some-kind : (op : ℕ) → isEvent op ≡ true → (runs differences op ≡ true) ⊎ (runs temperatures op ≡ true)
+unfolding runs
+some-kind op e =
+    by-event (λ op. (runs differences op ≡ true) ⊎ (runs temperatures op ≡ true)) op e (inl refl) (inl refl) (inr refl)
+
+held-busy : (k : Kind) (s : List ℕ) (h : History) (m : Model) → eventContinuous s ≡ true → KindHeld k s h m → busy m ≡ true
+unfolding busy kindBusy inEvent awaits
+held-busy differences s h m c i =
+    rw (i .going .continuous, c) (by-test (awaits (m .flight .schedule)) (λ e. rw e) (λ e. rw e))
+held-busy temperatures s h m c i =
+    rw (i .going .continuous, c)
+    (by-test (kindBusy (m .flight .schedule)) (λ f. rw f)
+    (λ f. rw f (by-test (awaits (m .temperature .schedule)) (λ e. rw e) (λ e. rw e))))
+
+write-busy : (m : Model) → sound m ≡ true → busy m ≡ true → StillBusy m
+unfolding verdict firstOf table noFrame notCarried wrongLength pastRegisters shortOutput whileBusy isCommand isWrite notWhole pastEnd
+write-busy m s b a high low o from to =
+    rw (
+      s,
+      b,
+      lt-ltb 0x0A a (omega arith),
+      le-ltb a 0x30 from,
+      le-ltb 0x43 a to,
+    )
+
 pub third-demand : ThirdDemand
 unfolding startedEvent beginning
 third-demand before op o later from to v p =
@@ -229,13 +254,13 @@ third-demand before op o later from to v p =
     let c : (after n later) .clock ≡ afterTicks t (m .clock) =
     all-ticks later n (ap (λ (r : Reply). clockStands (r .model .setup)) q ∙ clock-runs m op o e v) k p ∙
     ap (λ (r : Reply). afterTicks (t) (r .model .clock)) q in
+    let h : (j : Kind) → runs j op ≡ true → KindHeld j (m .setup) (toldOf j m op o later) (after n later) =
+    λ j r.
+    all-held j (m .setup) later n (beginning j (reply m (command op o) .answer))
+    (ap (λ (r : Reply). r .model .setup) q) k p
+    (subst (λ (r : Reply). KindHeld j (m .setup) (beginning j (r .answer)) (r .model)) (sym q) (held-start j m op r)) in
     record {
-      kinds =
-          λ j r.
-          held-claim j _ _ _
-          (all-held j (m .setup) later n (beginning j (reply m (command op o) .answer))
-          (ap (λ (r : Reply). r .model .setup) q) k p
-          (subst (λ (r : Reply). KindHeld j (m .setup) (beginning j (r .answer)) (r .model)) (sym q) (held-start j m op r)));
+      kinds = λ j r. held-claim j _ _ _ (h j r);
       ticks =
           λ j. all-counted j (m .setup) later n (beginning j (reply m (command op o) .answer)) ∙ zero-add (t);
       clock =
@@ -246,4 +271,9 @@ third-demand before op o later from to v p =
             form = ap (λ (c : Clock). c .twelve) c ∙ after-form (t) (m .clock) (bounds-of m s .clock);
             read = reads-clock (after n later) (sound-after later n k);
           };
+      unended =
+          λ d.
+          write-busy (after n later) (sound-after later n k)
+          (⊎-elim (λ r. held-busy differences _ _ _ d (h differences r)) (λ r. held-busy temperatures _ _ _ d (h temperatures r))
+          (some-kind op e));
     }

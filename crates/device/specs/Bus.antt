@@ -4,7 +4,7 @@ use mathlib.Core.Bool.{Bool, true, false}
 use mathlib.Core.List.{List, [], _∷_}
 use lib.Dec.{ltb, leb, eqb}
 use Rattle.unit.specs.Choice.{pick, negate}
-use Rattle.register.specs.Setup.{flightUnset, temperatureUnset, eventUnset, differencePeriod, differenceCount, temperaturePeriod, temperatureCount}
+use Rattle.register.specs.Setup.{flightUnset, temperatureUnset, clockStands, eventContinuous, differencePeriod, differenceCount, temperaturePeriod, temperatureCount}
 use Rattle.device.specs.declared.Flight.{Flight}
 use Rattle.device.specs.declared.Temperature.{Temperature}
 use Rattle.device.specs.declared.Model.{Model}
@@ -35,8 +35,8 @@ commandBusy m op = pick (mustBeIdle op) (busy m) false
 unfoldable pub notReady : Model → ℕ → Bool
 notReady m op = pick (m .ready) false (pick (startsFlight op) true (startsTemperature op))
 
--- "Number 9: for flight, PL .. or DPL .. zero; for temperature, TP .. not 11b." "Number 9 also: ET_CONT .. or EOSC is 1;
--- only the kinds run are judged for PL, DPL and TP."
+-- "Number 9: for flight, PL .. or DPL .. zero; for temperature, TP .. not 11b." "Number 9 also: .. EOSC is 1; only the kinds run are
+-- judged for PL, DPL and TP." "Number 9 no longer occurs for ET_CONT." (Note 5)
 unfoldable pub flightSideUnset : List ℕ → ℕ → Bool
 flightSideUnset setup op = pick (startsFlight op) (flightUnset setup) false
 
@@ -44,7 +44,7 @@ unfoldable pub temperatureSideUnset : List ℕ → ℕ → Bool
 temperatureSideUnset setup op = pick (startsTemperature op) (temperatureUnset setup) false
 
 unfoldable pub eventSideUnset : List ℕ → ℕ → Bool
-eventSideUnset setup op = pick (isEvent op) (eventUnset setup) false
+eventSideUnset setup op = pick (isEvent op) (clockStands setup) false
 
 unfoldable pub commandUnset : Model → ℕ → Bool
 commandUnset m op =
@@ -67,7 +67,7 @@ flightStarted f op =
 unfoldable pub flightEvent : Flight → List ℕ → Flight
 flightEvent f setup =
     record {
-      schedule = eventStart (differencePeriod setup) (differenceCount setup);
+      schedule = eventStart (differencePeriod setup) (differenceCount setup) (eventContinuous setup);
       up = true;
       down = true;
       sum = 0;
@@ -79,7 +79,7 @@ flightEvent f setup =
 unfoldable pub temperatureEvent : Temperature → List ℕ → Temperature
 temperatureEvent t setup =
     record {
-      schedule = eventStart (temperaturePeriod setup) (temperatureCount setup);
+      schedule = eventStart (temperaturePeriod setup) (temperatureCount setup) (eventContinuous setup);
       sums = 0 ∷ 0 ∷ 0 ∷ 0 ∷ [];
       ports = t .ports;
     }

@@ -1,5 +1,7 @@
 -- The third demand: what the calls after an accepted event command, and their answers, tell. Quotations are from 01, but for
--- those beside the claims at the end, which are the demand's own words.
+-- those beside the claims at the end, which are the demand's own words. One statement serves both sorts of event. What differs
+-- for a continuous one stands in two places: `opensGroup`, where the group begins that is told of "in place of since acceptance",
+-- and `plannedStarts`, which has "every j in place of j below N" (Note 5).
 use Prim.Native.Nat.{ℕ, zero, suc, _+_, _*_, _/_, _%_, _-_, _<_, _≤_}
 use mathlib.Core.Bool.{Bool, true, false}
 use mathlib.Core.List.{List, [], _∷_, _++_, map}
@@ -10,7 +12,7 @@ use Rattle.unit.specs.Choice.{pick, both, either, negate}
 use Rattle.calendar.specs.Calendar.{clockValid}
 use Rattle.calendar.specs.Moment.{moment, century, midnights}
 use Rattle.calendar.specs.Words.{clockFrom}
-use Rattle.register.specs.Setup.{hitCount, timeout, portCycle, differencePeriod, differenceCount, temperaturePeriod, temperatureCount}
+use Rattle.register.specs.Setup.{hitCount, timeout, portCycle, differencePeriod, differenceCount, temperaturePeriod, temperatureCount, eventContinuous}
 use Rattle.frame.specs.Frame.{isRead}
 use Rattle.measurement.specs.Limit.{lateFrom, openFrom, anyFrom, anyFault}
 use Rattle.measurement.specs.Mean.{All, sum, Averages, differenceBits, meanAverages, floorMeanWords}
@@ -23,7 +25,7 @@ use Rattle.device.specs.declared.Answer.{Answer}
 use Rattle.device.specs.declared.Answer.the-variants.{Refused, Accepted, Ticked, Stretched, Good, Failed}
 use Rattle.device.specs.Registers.{registerWord}
 use Rattle.device.specs.Model.{freshModel}
-use Rattle.device.specs.Call.{Call, transaction, tick, flight, temperature, stretch, opcode, reply, verdict, Verdict, accepted, notAwaited}
+use Rattle.device.specs.Call.{Call, transaction, tick, flight, temperature, stretch, opcode, reply, verdict, Verdict, accepted, refused, notAwaited}
 
 -- "Both its lists run on one model: each call is handed the model that the call before it returned or left".
 unfoldable pub after : Model → List Call → Model
@@ -59,7 +61,7 @@ unfoldable pub onlyReads : List Entry → Bool
 onlyReads [] = true
 onlyReads (e ∷ es) = both (either (isRefusal (e .answer)) (isReading (e .call))) (onlyReads es)
 
--- The two kinds, and P and N of each by the set-up.
+-- The two kinds.
 pub data Kind : Type 0 where
   differences : Kind
   temperatures : Kind
@@ -71,6 +73,15 @@ periodOf temperatures s = temperaturePeriod s .0
 unfoldable pub countOf : Kind → List ℕ → ℕ
 countOf differences s = differenceCount s
 countOf temperatures s = temperatureCount s
+
+-- P, N and the sort of the event, by the set-up at acceptance.
+pub record Plan : Type 0 where
+  pub period : ℕ
+  pub count : ℕ
+  pub continuous : Bool
+
+abbrev pub planOf : Kind → List ℕ → Plan
+planOf k s = record { period = periodOf k s; count = countOf k s; continuous = eventContinuous s }
 
 -- "07h runs both kinds, 08h differences, 09h temperatures."
 unfoldable pub runs : Kind → ℕ → Bool
@@ -186,13 +197,16 @@ pub record History : Type 0 where
   -- the elapsed ticks at which starts were reported, in order of time, and the last of them
   pub starts : List ℕ
   pub last : ℕ
-  -- "good, the deliveries answered good", in order of time
-  pub good : List Call
-  -- "failed, those answered failed and the failures that ticks report"
-  pub lost : ℕ
+  -- the failures that ticks reported
   pub expiries : List Expiry
   -- deliveries answered good with a word late, open or short, or failed with none
   pub misjudged : ℕ
+  -- Since acceptance, or in the current group of a continuous event: the starts;
+  pub started : ℕ
+  -- "good, the deliveries answered good", in order of time;
+  pub good : List Call
+  -- "failed, those answered failed and the failures that ticks report"
+  pub failed : ℕ
 
 -- At acceptance, by the command's answer.
 unfoldable pub beginning : Kind → Answer → History
@@ -201,29 +215,36 @@ beginning k a =
       ticks = 0;
       starts = pick (startReported k a) (0 ∷ []) [];
       last = 0;
-      good = [];
-      lost = 0;
       expiries = [];
       misjudged = 0;
+      started = pick (startReported k a) 1 0;
+      good = [];
+      failed = 0;
     }
 
--- One tick more, with its reports.
-unfoldable pub noteTick : Bool → Bool → History → History
-noteTick started failed h =
+-- Whether the next start opens a group: "Each N starts of a kind make a group" (Note 5). An event that is not continuous has one
+-- group, from acceptance on.
+unfoldable pub opensGroup : Plan → History → Bool
+opensGroup p h = both (p .continuous) (eqb (h .started) (p .count))
+
+-- One tick more, with its reports. A start that opens a group is the group's first, and nothing is good or failed in it yet.
+unfoldable pub noteTick : Plan → Bool → Bool → History → History
+noteTick p started failed h =
     record {
       ticks = h .ticks + 1;
       starts = pick started (h .starts ++ ((h .ticks + 1) ∷ [])) (h .starts);
       last = pick started (h .ticks + 1) (h .last);
-      good = h .good;
-      lost = h .lost;
       expiries = pick failed (h .expiries ++ (record { start = h .last; at = h .ticks + 1 } ∷ [])) (h .expiries);
       misjudged = h .misjudged;
+      started = pick started (pick (opensGroup p h) 1 (h .started + 1)) (h .started);
+      good = pick (both started (opensGroup p h)) [] (h .good);
+      failed = pick (both started (opensGroup p h)) 0 (pick failed (h .failed + 1) (h .failed));
     }
 
 -- "each accepted one counts as its n ticks, and a start or failure named in its answer as reported by that tick" (Note 1)
-unfoldable pub noteTicks : ℕ → StretchReport → History → History
-noteTicks zero r h = h
-noteTicks (suc n) r h = noteTick (eqb (r .started) (n + 1)) (eqb (r .failed) (n + 1)) (noteTicks n r h)
+unfoldable pub noteTicks : Plan → ℕ → StretchReport → History → History
+noteTicks p zero r h = h
+noteTicks p (suc n) r h = noteTick p (eqb (r .started) (n + 1)) (eqb (r .failed) (n + 1)) (noteTicks p n r h)
 
 -- The ticks of an accepted stretch.
 unfoldable pub stretchIn : Entry → ℕ
@@ -236,10 +257,11 @@ noteGood s c h =
       ticks = h .ticks;
       starts = h .starts;
       last = h .last;
-      good = h .good ++ (c ∷ []);
-      lost = h .lost;
       expiries = h .expiries;
       misjudged = pick (noneLost s c) (h .misjudged) (h .misjudged + 1);
+      started = h .started;
+      good = h .good ++ (c ∷ []);
+      failed = h .failed;
     }
 
 unfoldable pub noteFailed : List ℕ → Call → History → History
@@ -248,19 +270,20 @@ noteFailed s c h =
       ticks = h .ticks;
       starts = h .starts;
       last = h .last;
-      good = h .good;
-      lost = h .lost + 1;
       expiries = h .expiries;
       misjudged = pick (noneLost s c) (h .misjudged + 1) (h .misjudged);
+      started = h .started;
+      good = h .good;
+      failed = h .failed + 1;
     }
 
 -- One entry more. A model that the calls made refuses no tick, so each `tick` of the list counts.
 unfoldable pub note : Kind → List ℕ → Entry → History → History
 note k s e h =
-    pick (isTick (e .call)) (noteTick (startReported k (e .answer)) (failureReported k (e .answer)) h)
+    pick (isTick (e .call)) (noteTick (planOf k s) (startReported k (e .answer)) (failureReported k (e .answer)) h)
     (pick (both (isDelivery k (e .call)) (isGood (e .answer))) (noteGood s (e .call) h)
     (pick (both (isDelivery k (e .call)) (isFailed (e .answer))) (noteFailed s (e .call) h)
-    (noteTicks (stretchIn e) (named k (e .answer)) h)))
+    (noteTicks (planOf k s) (stretchIn e) (named k (e .answer)) h)))
 
 unfoldable pub history : Kind → List ℕ → List Entry → History → History
 history k s [] h = h
@@ -271,6 +294,10 @@ history k s (e ∷ es) h = history k s es (note k s e h)
 unfoldable pub reached : ℕ → ℕ → ℕ → List ℕ
 reached P zero t = []
 reached P (suc n) t = reached P n t ++ pick (leb (n * P) t) (n * P ∷ []) []
+
+-- The starts of a list of t ticks: j below N, or every j of a continuous event (Note 5), of which none above t is reached.
+unfoldable pub plannedStarts : Plan → ℕ → List ℕ
+plannedStarts p t = reached (p .period) (pick (p .continuous) (t + 1) (p .count)) t
 
 -- "Awaited is then 1, exactly when number 10 would not be given for it, else 0."
 unfoldable pub deliveryOf : Kind → Call
@@ -316,10 +343,12 @@ countRegister temperatures = 0xEF
 -- The claim for one kind: s is the set-up at acceptance, h what the list tells, m the model at its end.
 pub record KindClaim (k : Kind) (s : List ℕ) (h : History) (m : Model) : Type 0 where
   -- "Its starts were exactly at those elapsed ticks j × P, j below N, with its own P and N, that the list reaches."
-  pub starts : h .starts ≡ reached (periodOf k s) (countOf k s) (h .ticks)
-  -- "Since acceptance, started = good + failed + awaited, counted from the answers"
-  pub balance :
-      length (h .starts) ≡ length (h .good) + (h .lost + length (h .expiries)) + awaitedNow k m
+  pub starts : h .starts ≡ plannedStarts (planOf k s) (h .ticks)
+  -- The starts reported so far, cut by N: all of them where the event is not continuous.
+  pub group : h .started ≡ (length (h .starts) - 1) % countOf k s + 1
+  -- "Since acceptance, started = good + failed + awaited, counted from the answers", or "the current group in place of since
+  -- acceptance" (Note 5)
+  pub balance : h .started ≡ length (h .good) + h .failed + awaitedNow k m
   -- "the failures that ticks report, each in the 8,192nd tick after its start"
   pub timely : All (λ (e : Expiry). e .at ≡ e .start + 8192) (h .expiries)
   -- "A kind is awaited only while its last start lies fewer than 8,192 ticks back."
@@ -351,6 +380,14 @@ pub record ClockClaim (m : Model) (n : ℕ) (end : Model) : Type 0 where
       (end .clock .ticks)
       ≡ end .clock
 
+-- A continuous event "ends only by HALT or Reset" (Note 5): a write of one word to any register is number 6, busy.
+abbrev pub StillBusy : Model → Type 0
+StillBusy m =
+    (a high low : ℕ) (o : List ℕ) →
+    0x30 ≤ a →
+    a ≤ 0x43 →
+    verdict m (transaction (a ∷ high ∷ low ∷ []) o) ≡ refused 6
+
 -- The whole claim: `m` accepted event command `op` (with output buffer `o`), and then the calls `later` were made.
 abbrev pub command : ℕ → List ℕ → Call
 command op o = transaction (op ∷ []) o
@@ -370,6 +407,7 @@ pub record EventClaim (m : Model) (op : ℕ) (o : List ℕ) (later : List Call) 
   pub clock :
       ClockClaim m (tickCount (log (reply m (command op o) .model) later))
       (after (reply m (command op o) .model) later)
+  pub unended : eventContinuous (m .setup) ≡ true → StillBusy (after (reply m (command op o) .model) later)
 
 -- The third demand: "Let a model grow from a fresh one by any list of transactions, ticks and deliveries, refused ones among
 -- them, and then accept an event command. For every list of ticks, deliveries, register reads and refused calls that

@@ -1,4 +1,4 @@
--- The schedule of one kind of measurement: single ones and events.
+-- The schedule of one kind of measurement: single ones, events, and continuous events in their groups.
 use Prim.Native.Nat.{ℕ, _+_, _-_}
 use mathlib.Core.Bool.{Bool, true, false}
 use lib.Dec.{ltb, leb, eqb}
@@ -18,32 +18,36 @@ noSchedule =
       planned = 0;
       started = 0;
       settled = 0;
+      continuous = false;
       good = 0;
     }
-
--- Part of soundness: no more settled than planned, no more good than settled, and at most 32 planned, the largest N.
-unfoldable pub scheduleSound : Schedule → Bool
-scheduleSound k =
-    pick (ltb 32 (k .planned)) false
-    (pick (ltb (k .planned) (k .settled)) false (pick (ltb (k .settled) (k .good)) false true))
 
 -- "A kind is awaited from its start until an accepted delivery, the tick that fails it, HALT or Reset."
 unfoldable pub awaits : Schedule → Bool
 awaits k = pick (ltb 0 (k .left .0)) true false
 
--- "The event ends when all are settled."
+-- "The event ends when all are settled." A continuous one "ends only by HALT or Reset" (Note 5).
 unfoldable pub inEvent : Schedule → Bool
-inEvent k = pick (ltb (k .settled) (k .planned)) true false
+inEvent k = pick (k .continuous) true (pick (ltb (k .settled) (k .planned)) true false)
 
--- "Settling the N-th sets TOF_EVTMG or TEMP_EVTMG."
+-- "Settling the N-th sets TOF_EVTMG or TEMP_EVTMG.", of a continuous event the N-th of each group: "its N-th settling sets the
+-- EVTMG bit" (Note 5)
 unfoldable pub lastOne : Schedule → Bool
 lastOne k =
     pick (ltb (k .settled) (k .planned)) (pick (eqb (k .settled + 1) (k .planned)) true false) false
 
--- A tick starts a measurement where one is left to start and the wait for it ends.
+-- Whether a start is to come: of an event while fewer than N are started; of a continuous one always, "Starts go on at j × P for
+-- every j." (Note 5)
+unfoldable pub startsLeft : Schedule → Bool
+startsLeft k = pick (k .continuous) true (pick (ltb (k .started) (k .planned)) true false)
+
+-- A tick starts a measurement where a start is to come and the wait for it ends.
 unfoldable pub begins : Schedule → Bool
-begins k =
-    pick (ltb (k .started) (k .planned)) (pick (leb (k .wait .0) 1) true false) false
+begins k = pick (startsLeft k) (pick (leb (k .wait .0) 1) true false) false
+
+-- Whether the measurement that a tick starts is the first of a group: "Each N starts of a kind make a group" (Note 5).
+unfoldable pub beginsGroup : Schedule → Bool
+beginsGroup k = pick (begins k) (pick (ltb (k .started) (k .planned)) false true) false
 
 -- "A measurement undelivered 8,192 ticks after its start fails in that tick"
 unfoldable pub fails : Schedule → Bool
@@ -59,12 +63,13 @@ single k =
       planned = k .planned;
       started = k .started;
       settled = k .settled;
+      continuous = k .continuous;
       good = k .good;
     }
 
 -- "Elapsed ticks count from acceptance at 0." "The start at 0 is reported by the command's answer"
-unfoldable pub eventStart : Ticks → ℕ → Schedule
-eventStart period planned =
+unfoldable pub eventStart : Ticks → ℕ → Bool → Schedule
+eventStart period planned continuous =
     record {
       left = ticks 8192;
       wait = period;
@@ -72,6 +77,7 @@ eventStart period planned =
       planned = planned;
       started = 1;
       settled = 0;
+      continuous = continuous;
       good = 0;
     }
 
@@ -82,13 +88,18 @@ leftAfter k = pick (begins k) 8192 (pick (ltb 0 (k .left .0)) (k .left .0 - 1) 0
 unfoldable pub waitAfter : Schedule → ℕ
 waitAfter k = pick (leb (k .wait .0) 1) (k .period .0) (k .wait .0 - 1)
 
+-- A start is one more of the event or of the group, or the first of the next group.
 unfoldable pub startedAfter : Schedule → ℕ
-startedAfter k =
-    pick (ltb (k .started) (k .planned)) (pick (leb (k .wait .0) 1) (k .started + 1) (k .started)) (k .started)
+startedAfter k = pick (begins k) (pick (ltb (k .started) (k .planned)) (k .started + 1) 1) (k .started)
 
+-- "at the first start of a group that kind's sums, count and averages go to 0" (Note 5)
 unfoldable pub settledAfter : Schedule → ℕ
 settledAfter k =
-    pick (fails k) (pick (ltb (k .settled) (k .planned)) (k .settled + 1) (k .settled)) (k .settled)
+    pick (beginsGroup k) 0
+    (pick (fails k) (pick (ltb (k .settled) (k .planned)) (k .settled + 1) (k .settled)) (k .settled))
+
+unfoldable pub goodAfter : Schedule → ℕ
+goodAfter k = pick (beginsGroup k) 0 (k .good)
 
 unfoldable pub tickSchedule : Schedule → Schedule
 tickSchedule k =
@@ -99,7 +110,8 @@ tickSchedule k =
       planned = k .planned;
       started = startedAfter k;
       settled = settledAfter k;
-      good = k .good;
+      continuous = k .continuous;
+      good = goodAfter k;
     }
 
 -- "A good measurement of an event adds one to its count, a single one none"; "A measurement is settled when it is good or
@@ -114,6 +126,7 @@ settle k good =
       planned = k .planned;
       started = k .started;
       settled = k .settled + 1;
+      continuous = k .continuous;
       good = pick good (k .good + 1) (k .good);
     })
     (record {
@@ -123,10 +136,11 @@ settle k good =
       planned = k .planned;
       started = k .started;
       settled = k .settled;
+      continuous = k .continuous;
       good = k .good;
     })
 
--- "HALT drops awaited measurements, ends the event"
+-- "HALT drops awaited measurements, ends the event": what was to start or to settle no longer is.
 unfoldable pub halted : Schedule → Schedule
 halted k =
     record {
@@ -134,7 +148,38 @@ halted k =
       wait = k .wait;
       period = k .period;
       planned = k .settled;
-      started = k .started;
+      started = k .settled;
       settled = k .settled;
+      continuous = false;
       good = k .good;
     }
+
+-- Part of soundness: what the schedules are that the calls make. The counts are in order, and at most 32, the largest N.
+unfoldable pub countsSound : Schedule → Bool
+countsSound k =
+    pick (ltb 32 (k .planned)) false
+    (pick (ltb (k .planned) (k .started)) false
+    (pick (ltb (k .started) (k .settled)) false (pick (ltb (k .settled) (k .good)) false true)))
+
+-- The awaited one has at most 8,192 ticks left; a start to come is at most a period away, the period is one that the set-up can
+-- name, and the awaited one fails at least 8,192 ticks before that start.
+unfoldable pub waitSound : Schedule → Bool
+waitSound k =
+    pick (ltb 8192 (k .left .0)) false
+    (pick (startsLeft k)
+    (pick (ltb (k .period .0) 16384) false
+    (pick (ltb (k .period .0) (k .wait .0)) false
+    (pick (ltb 0 (k .left .0)) (pick (ltb (k .wait .0) (k .left .0 + 8192)) false true) (pick (ltb 0 (k .wait .0)) true false))))
+    true)
+
+-- While an event runs, one is started, and all that are started but the awaited one are settled.
+unfoldable pub balanceSound : Schedule → Bool
+balanceSound k =
+    pick (inEvent k)
+    (pick (ltb 0 (k .left .0))
+    (pick (eqb (k .settled + 1) (k .started)) true false)
+    (pick (ltb 0 (k .started)) (pick (eqb (k .settled) (k .started)) true false) false))
+    true
+
+unfoldable pub scheduleSound : Schedule → Bool
+scheduleSound k = pick (countsSound k) (pick (waitSound k) (balanceSound k) false) false

@@ -68,6 +68,7 @@ laterSchedule q k =
       planned = k .planned;
       started = k .started;
       settled = k .settled;
+      continuous = k .continuous;
       good = k .good;
     }
 

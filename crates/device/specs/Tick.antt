@@ -1,6 +1,7 @@
 -- One tick.
 use Prim.Native.Nat.{ℕ}
 use mathlib.Core.Bool.{Bool, true, false}
+use mathlib.Core.List.{List, [], _∷_}
 use Rattle.unit.specs.Choice.{pick}
 use Rattle.calendar.specs.declared.Clock.{Clock}
 use Rattle.calendar.specs.Calendar.{tickClock}
@@ -13,7 +14,7 @@ use Rattle.device.specs.declared.Flight.{Flight}
 use Rattle.device.specs.declared.Temperature.{Temperature}
 use Rattle.device.specs.declared.Model.{Model}
 use Rattle.device.specs.declared.Report.{Report}
-use Rattle.device.specs.Event.{begins, fails, tickSchedule}
+use Rattle.device.specs.Event.{begins, beginsGroup, fails, tickSchedule}
 use Rattle.device.specs.Status.{joined, flightBits, temperatureBits, alarmBit}
 
 -- "the measurement fails, every HIT and AVG of the measured directions and, for a difference, TOF_DIFF become FFFFh"
@@ -32,25 +33,35 @@ lostFlight f k =
       difference = lostDifference f;
     }
 
--- "A measurement undelivered 8,192 ticks after its start fails in that tick, as if all its words were late or open."
-unfoldable pub flightAfter : Flight → Flight
-flightAfter f =
-    pick (fails (f .schedule)) (lostFlight f (tickSchedule (f .schedule)))
-    (record {
+-- "at the first start of a group that kind's sums, count and averages go to 0" (Note 5)
+unfoldable pub sumAfter : Flight → ℕ
+sumAfter f = pick (beginsGroup (f .schedule)) 0 (f .sum)
+
+unfoldable pub sumsAfter : Temperature → List ℕ
+sumsAfter t = pick (beginsGroup (t .schedule)) (0 ∷ 0 ∷ 0 ∷ 0 ∷ []) (t .sums)
+
+unfoldable pub flightTicked : Flight → Flight
+flightTicked f =
+    record {
       schedule = tickSchedule (f .schedule);
       up = f .up;
       down = f .down;
-      sum = f .sum;
+      sum = sumAfter f;
       ups = f .ups;
       downs = f .downs;
       difference = f .difference;
-    })
+    }
+
+-- "A measurement undelivered 8,192 ticks after its start fails in that tick, as if all its words were late or open."
+unfoldable pub flightAfter : Flight → Flight
+flightAfter f =
+    pick (fails (f .schedule)) (lostFlight (flightTicked f) (tickSchedule (f .schedule))) (flightTicked f)
 
 unfoldable pub temperatureAfter : Temperature → Temperature
 temperatureAfter t =
     pick (fails (t .schedule))
-    (record { schedule = tickSchedule (t .schedule); sums = t .sums; ports = lostFour })
-    (record { schedule = tickSchedule (t .schedule); sums = t .sums; ports = t .ports })
+    (record { schedule = tickSchedule (t .schedule); sums = sumsAfter t; ports = lostFour })
+    (record { schedule = tickSchedule (t .schedule); sums = sumsAfter t; ports = t .ports })
 
 -- "The clock stands while EOSC .. is 1."
 unfoldable pub clockTicked : Model → Clock

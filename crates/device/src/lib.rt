@@ -10,11 +10,14 @@ pub struct Schedule {
     // Ticks until the event's next start.
     pub wait: Ticks,
     pub period: Ticks,
-    // How many measurements the event makes. It runs until as many are settled.
-    pub planned: u16,
-    pub started: u16,
-    pub settled: u16,
-    // Cycle count: good ones of the event.
+    // How many measurements the event makes, or a group of a continuous one.
+    pub planned: u8,
+    // How many of them, or of the current group, are started and settled.
+    pub started: u8,
+    pub settled: u8,
+    // Whether the event that runs is a continuous one: it ends by HALT or Reset alone.
+    pub continuous: bool,
+    // Cycle count: good ones of the event, or of the current group.
     pub good: u16,
 }
 
@@ -23,7 +26,7 @@ pub struct Flight {
     // The directions that the awaited or last measurement measures.
     pub up: bool,
     pub down: bool,
-    // Biased differences of the event's good measurements.
+    // Biased differences of the good measurements of the event, or of the current group.
     pub sum: u64,
     // HIT 1 to 6, then AVG, as words of 32 bits.
     pub ups: [u32; 7],
@@ -33,7 +36,7 @@ pub struct Flight {
 
 pub struct Temperature {
     pub schedule: Schedule,
-    // Words of the event's good measurements, port by port.
+    // Words of the good measurements of the event, or of the current group, port by port.
     pub sums: [u64; 4],
     pub ports: [u32; 4],
 }

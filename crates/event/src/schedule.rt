@@ -2,7 +2,7 @@
 ghost use mathlib.Core.Path.{_≡_};
 ghost use Prim.Native.Nat.{_<_, _≤_, _+_};
 ghost use Rattle.unit.specs.Choice.{pick};
-ghost use Rattle.device.specs.Event.{noSchedule, awaits, inEvent, lastOne, begins, fails, single, eventStart, leftAfter, waitAfter, startedAfter, settledAfter, tickSchedule, settle, halted, scheduleSound};
+ghost use Rattle.device.specs.Event.{noSchedule, awaits, inEvent, lastOne, startsLeft, begins, beginsGroup, fails, single, eventStart, leftAfter, waitAfter, startedAfter, settledAfter, goodAfter, tickSchedule, settle, halted, countsSound, waitSound, balanceSound, scheduleSound};
 use device::Schedule;
 use unit::Ticks;
 
@@ -16,20 +16,99 @@ pub fn no_schedule() -> Schedule
         planned: 0,
         started: 0,
         settled: 0,
+        continuous: false,
         good: 0,
     }
+}
+
+fn counts_sound(k: Schedule) -> bool
+    ensures { λ r. ⌜ r ≡ countsSound k ⌝ }
+{
+    if 32 < k.planned {
+        return false;
+    }
+    if k.planned < k.started {
+        return false;
+    }
+    if k.started < k.settled {
+        return false;
+    }
+    if wide(k.settled) < k.good {
+        false
+    } else {
+        true
+    }
+}
+
+fn wait_sound(k: Schedule) -> bool
+    ensures { λ r. ⌜ r ≡ waitSound k ⌝ }
+{
+    let left = k.left;
+    let wait = k.wait;
+    let period = k.period;
+    if 8192 < left.0 {
+        return false;
+    }
+    if starts_left(k) {
+        if period.0 < 16384 {
+            return false;
+        }
+        if period.0 < wait.0 {
+            return false;
+        }
+        if 0 < left.0 {
+            if wait.0 < left.0 + 8192 {
+                return false;
+            }
+            return true;
+        }
+        if 0 < wait.0 {
+            return true;
+        }
+        return false;
+    }
+    true
+}
+
+fn balance_sound(k: Schedule) -> bool
+    ensures { λ r. ⌜ r ≡ balanceSound k ⌝ }
+{
+    let left = k.left;
+    if in_event(k) {
+        if 0 < left.0 {
+            if wide(k.settled) + 1 == wide(k.started) {
+                return true;
+            }
+            return false;
+        }
+        if 0 < k.started {
+            if k.settled == k.started {
+                return true;
+            }
+            return false;
+        }
+        return false;
+    }
+    true
+}
+
+// A count as a wider number.
+fn wide(x: u8) -> u16
+    ensures { λ r. ⌜ (r ≡ x) × (r < 256) ⌝ }
+{
+    x as u16
 }
 
 pub fn schedule_sound(k: Schedule) -> bool
     ensures { λ r. ⌜ r ≡ scheduleSound k ⌝ }
 {
-    if 32 < k.planned {
+    if counts_sound(k) {
+        if wait_sound(k) {
+            return balance_sound(k);
+        }
         return false;
     }
-    if k.planned < k.settled {
-        return false;
-    }
-    if k.settled < k.good { false } else { true }
+    false
 }
 
 pub fn is_awaited(k: Schedule) -> bool
@@ -42,10 +121,13 @@ pub fn is_awaited(k: Schedule) -> bool
 pub fn in_event(k: Schedule) -> bool
     ensures { λ r. ⌜ r ≡ inEvent k ⌝ }
 {
+    if k.continuous {
+        return true;
+    }
     if k.settled < k.planned { true } else { false }
 }
 
-// Whether settling one more settles the event's last.
+// Whether settling one more settles the last of the event, or of the current group.
 pub fn is_last(k: Schedule) -> bool
     ensures { λ r. ⌜ r ≡ lastOne k ⌝ }
 {
@@ -58,16 +140,39 @@ pub fn is_last(k: Schedule) -> bool
     false
 }
 
+// Whether a start is to come.
+fn starts_left(k: Schedule) -> bool
+    ensures { λ r. ⌜ r ≡ startsLeft k ⌝ }
+{
+    if k.continuous {
+        return true;
+    }
+    if k.started < k.planned { true } else { false }
+}
+
 // Whether the next tick starts a measurement.
 pub fn is_due(k: Schedule) -> bool
     ensures { λ r. ⌜ r ≡ begins k ⌝ }
 {
     let wait = k.wait;
-    if k.started < k.planned {
+    if starts_left(k) {
         if wait.0 <= 1 {
             return true;
         }
         return false;
+    }
+    false
+}
+
+// Whether the next tick starts the first measurement of a group.
+pub fn begins_group(k: Schedule) -> bool
+    ensures { λ r. ⌜ r ≡ beginsGroup k ⌝ }
+{
+    if is_due(k) {
+        if k.started < k.planned {
+            return false;
+        }
+        return true;
     }
     false
 }
@@ -91,8 +196,8 @@ pub fn start_single(k: Schedule) -> Schedule
 }
 
 // An event is accepted, and its first measurement starts.
-pub fn start_event(period: Ticks, planned: u16) -> Schedule
-    ensures { λ r. ⌜ r ≡ eventStart period planned ⌝ }
+pub fn start_event(period: Ticks, planned: u8, continuous: bool) -> Schedule
+    ensures { λ r. ⌜ r ≡ eventStart period planned continuous ⌝ }
 {
     Schedule {
         left: Ticks(8192),
@@ -101,6 +206,7 @@ pub fn start_event(period: Ticks, planned: u16) -> Schedule
         planned,
         started: 1,
         settled: 0,
+        continuous,
         good: 0,
     }
 }
@@ -126,22 +232,24 @@ fn wait_after(k: Schedule) -> u32
     wait.0 - 1
 }
 
-fn started_after(k: Schedule) -> u16
+fn started_after(k: Schedule) -> u8
     ensures { λ r. ⌜ r ≡ startedAfter k ⌝ }
 {
-    let wait = k.wait;
-    if k.started < k.planned {
-        if wait.0 <= 1 {
+    if is_due(k) {
+        if k.started < k.planned {
             return k.started + 1;
         }
-        return k.started;
+        return 1;
     }
     k.started
 }
 
-fn settled_after(k: Schedule) -> u16
+fn settled_after(k: Schedule) -> u8
     ensures { λ r. ⌜ r ≡ settledAfter k ⌝ }
 {
+    if begins_group(k) {
+        return 0;
+    }
     if expires(k) {
         if k.settled < k.planned {
             return k.settled + 1;
@@ -151,6 +259,15 @@ fn settled_after(k: Schedule) -> u16
     k.settled
 }
 
+fn good_after(k: Schedule) -> u16
+    ensures { λ r. ⌜ r ≡ goodAfter k ⌝ }
+{
+    if begins_group(k) {
+        return 0;
+    }
+    k.good
+}
+
 pub fn tick_schedule(k: Schedule) -> Schedule
     ensures { λ r. ⌜ r ≡ tickSchedule k ⌝ }
 {
@@ -158,6 +275,7 @@ pub fn tick_schedule(k: Schedule) -> Schedule
     let wait = Ticks(wait_after(k));
     let started = started_after(k);
     let settled = settled_after(k);
+    let good = good_after(k);
     let period = k.period;
     Schedule {
         left,
@@ -166,7 +284,8 @@ pub fn tick_schedule(k: Schedule) -> Schedule
         planned: k.planned,
         started,
         settled,
-        good: k.good,
+        continuous: k.continuous,
+        good,
     }
 }
 
@@ -194,6 +313,7 @@ pub fn settle_one(k: Schedule, good: bool) -> Schedule
             planned: k.planned,
             started: k.started,
             settled: k.settled + 1,
+            continuous: k.continuous,
             good: count,
         };
     }
@@ -210,5 +330,7 @@ pub fn halt_schedule(k: Schedule) -> Schedule
     let none = Ticks(0);
     n.left = none;
     n.planned = k.settled;
+    n.started = k.settled;
+    n.continuous = false;
     n
 }

@@ -1,6 +1,6 @@
 // One tick of the clock, the awaited measurements and the events.
 ghost use mathlib.Core.Path.{_≡_};
-ghost use Rattle.device.specs.Tick.{lostFlight, flightAfter, temperatureAfter, clockTicked, alarmRaised, tickStatus, tickModel, reportOf, lostDifference};
+ghost use Rattle.device.specs.Tick.{lostFlight, sumAfter, sumsAfter, flightTicked, flightAfter, temperatureAfter, clockTicked, alarmRaised, tickStatus, tickModel, reportOf, lostDifference};
 use calendar::Clock;
 use device::Flight;
 use device::Model;
@@ -12,6 +12,7 @@ use event::interrupt::alarm_bit;
 use event::interrupt::flight_bits;
 use event::interrupt::join;
 use event::interrupt::temperature_bits;
+use event::schedule::begins_group;
 use event::schedule::expires;
 use event::schedule::is_due;
 use event::schedule::tick_schedule;
@@ -51,16 +52,49 @@ pub fn lose_flight(f: Flight, schedule: Schedule) -> Flight
     }
 }
 
+// The sums that the first start of a group sets to 0.
+fn sum_after(f: Flight) -> u64
+    ensures { λ r. ⌜ r ≡ sumAfter f ⌝ }
+{
+    let k = f.schedule;
+    if begins_group(k) {
+        return 0;
+    }
+    f.sum
+}
+
+fn sums_after(t: Temperature) -> [u64; 4]
+    ensures { λ r. ⌜ r ≡ sumsAfter t ⌝ }
+{
+    let k = t.schedule;
+    let sums = t.sums;
+    if begins_group(k) {
+        return [0, 0, 0, 0];
+    }
+    sums
+}
+
+fn flight_ticked(f: Flight) -> Flight
+    ensures { λ r. ⌜ r ≡ flightTicked f ⌝ }
+{
+    let k = f.schedule;
+    let next = tick_schedule(k);
+    let sum = sum_after(f);
+    let mut n = f;
+    n.schedule = next;
+    n.sum = sum;
+    n
+}
+
 fn flight_after(f: Flight) -> Flight
     ensures { λ r. ⌜ r ≡ flightAfter f ⌝ }
 {
     let k = f.schedule;
-    let next = tick_schedule(k);
+    let n = flight_ticked(f);
     if expires(k) {
-        return lose_flight(f, next);
+        let next = tick_schedule(k);
+        return lose_flight(n, next);
     }
-    let mut n = f;
-    n.schedule = next;
     n
 }
 
@@ -69,8 +103,10 @@ fn temperature_after(t: Temperature) -> Temperature
 {
     let k = t.schedule;
     let next = tick_schedule(k);
+    let sums = sums_after(t);
     let mut n = t;
     n.schedule = next;
+    n.sums = sums;
     if expires(k) {
         let ports = lost_four();
         n.ports = ports;

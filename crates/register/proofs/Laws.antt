@@ -7,7 +7,7 @@ use mathlib.Core.Path.{_≡_, refl}
 use mathlib.Core.List.{List}
 use Rattle.unit.specs.Cases.{by-ltb, by-eqb, holds, fails}
 use Rattle.register.specs.Setup.{wordOf, alarmWord, hitCount, timeout, portCycle, differencePeriod, differenceCount}
-use Rattle.register.specs.Setup.{temperaturePeriod, temperatureCount, flightUnset, temperatureUnset, eventUnset}
+use Rattle.register.specs.Setup.{temperaturePeriod, temperatureCount, flightUnset, temperatureUnset, eventContinuous}
 use Rattle.register.specs.Setup.{clockStands, interruptEnabled, eachInterrupt, alarmMode}
 
 -- "H = STOP + 1 and at most 6 (STOP is 15:13 of 39h)"
@@ -129,18 +129,12 @@ module _ (s : List ℕ) (high int cont each low : ℕ)
       (λ x e. rw e (holds (omega arith)))
       (λ x e. rw e (fails false (λ i. x (omega arith))))
 
-  module _ (above eosc am below : ℕ)
-      (v : wordOf s 0x43 ≡ above * 32 + eosc * 16 + am * 4 + below)
-      (i : (above < 2048) × (eosc < 2) × (am < 4) × (below < 4)) where
-    -- "ET_CONT (bit 8 of 42h) or EOSC is 1"
-    pub event-unset-means : (eventUnset s ≡ true) ↔ ((cont ≡ 1) ⊎ (eosc ≡ 1))
-    unfolding eventUnset clockStands
-    event-unset-means =
-        by-eqb (wordOf s 0x42 / 256 % 2) 1
-        (λ x e. rw e (holds (inl (omega arith))))
-        (λ x e. by-eqb (wordOf s 0x43 / 16 % 2) 1
-        (λ y f. rw (e, f) (holds (inr (omega arith))))
-        (λ y f. rw (e, f) (fails false (⊎-elim (λ c. x (omega arith)) (λ c. y (omega arith))))))
+  pub continuous-means : (eventContinuous s ≡ true) ↔ (cont ≡ 1)
+  unfolding eventContinuous
+  continuous-means =
+      by-eqb (wordOf s 0x42 / 256 % 2) 1
+      (λ x e. rw e (holds (omega arith)))
+      (λ x e. rw e (fails false (λ i. x (omega arith))))
 
 -- "EOSC (bit 4 of 43h)"; "AM (3:2 of 43h)"
 module _ (s : List ℕ) (above eosc am below : ℕ)

@@ -43,9 +43,9 @@ temperatureUnset s = pick (eqb (wordOf s 0x40 / 32 % 4) 3) false true
 unfoldable pub clockStands : List ℕ → Bool
 clockStands s = pick (eqb (wordOf s 0x43 / 16 % 2) 1) true false
 
--- "Number 9 also: ET_CONT (bit 8 of 42h) or EOSC is 1"
-unfoldable pub eventUnset : List ℕ → Bool
-eventUnset s = pick (eqb (wordOf s 0x42 / 256 % 2) 1) true (clockStands s)
+-- "Meters in the field run with ET_CONT set. Such an event is now accepted" (Note 5): ET_CONT is bit 8 of 42h
+unfoldable pub eventContinuous : List ℕ → Bool
+eventContinuous s = pick (eqb (wordOf s 0x42 / 256 % 2) 1) true false
 
 -- "Differences: P = 16,384 × (TDF + 1), N = TDM + 1 (TDF 15:12, TDM 11:7 of 3Fh)"
 unfoldable pub differencePeriod : List ℕ → Ticks

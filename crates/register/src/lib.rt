@@ -2,7 +2,7 @@
 ghost use mathlib.Core.Path.{_≡_};
 ghost use Prim.Native.Nat.{_<_};
 ghost use lib.ListN.{getD};
-ghost use Rattle.register.specs.Setup.{factory, alarmWord, hitCount, timeout, portCycle, flightUnset, temperatureUnset, eventUnset, differencePeriod, differenceCount, temperaturePeriod, temperatureCount, interruptEnabled, eachInterrupt, clockStands, alarmMode};
+ghost use Rattle.register.specs.Setup.{factory, alarmWord, hitCount, timeout, portCycle, flightUnset, temperatureUnset, eventContinuous, differencePeriod, differenceCount, temperaturePeriod, temperatureCount, interruptEnabled, eachInterrupt, clockStands, alarmMode};
 ghost use Rattle.register.specs.Stop.{stopRow};
 use unit::Ticks;
 
@@ -103,14 +103,15 @@ pub fn clock_stands(s: [u16; 16]) -> bool
     }
 }
 
-// ET_CONT or EOSC is one.
-pub fn event_unset(s: [u16; 16]) -> bool
-    ensures { λ r. ⌜ r ≡ eventUnset s ⌝ }
+// ET_CONT.
+pub fn event_continuous(s: [u16; 16]) -> bool
+    ensures { λ r. ⌜ r ≡ eventContinuous s ⌝ }
 {
     if word(s, 14) / 256 % 2 == 1 {
-        return true;
+        true
+    } else {
+        false
     }
-    clock_stands(s)
 }
 
 pub fn difference_period(s: [u16; 16]) -> Ticks
@@ -119,10 +120,10 @@ pub fn difference_period(s: [u16; 16]) -> Ticks
     Ticks(16384 * (word(s, 11) / 4096 % 16 + 1))
 }
 
-pub fn difference_count(s: [u16; 16]) -> u16
+pub fn difference_count(s: [u16; 16]) -> u8
     ensures { λ r. ⌜ r ≡ differenceCount s ⌝ }
 {
-    (word(s, 11) / 128 % 32 + 1) as u16
+    (word(s, 11) / 128 % 32 + 1) as u8
 }
 
 pub fn temperature_period(s: [u16; 16]) -> Ticks
@@ -131,10 +132,10 @@ pub fn temperature_period(s: [u16; 16]) -> Ticks
     Ticks(32768 * (word(s, 11) / 2 % 64 + 1))
 }
 
-pub fn temperature_count(s: [u16; 16]) -> u16
+pub fn temperature_count(s: [u16; 16]) -> u8
     ensures { λ r. ⌜ r ≡ temperatureCount s ⌝ }
 {
-    (word(s, 12) / 2048 % 32 + 1) as u16
+    (word(s, 12) / 2048 % 32 + 1) as u8
 }
 
 // INT_EN.

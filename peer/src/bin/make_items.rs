@@ -9,6 +9,8 @@ const TICKS_PER_SECOND: u64 = 32_768;
 const DELIVERY_LIMIT: u64 = 8_192;
 /// Temperature words below this are short.
 const SHORT_LIMIT: u64 = 32 << 16;
+/// Bit of 42h that makes an event continuous.
+const ET_CONT: u16 = 1 << 8;
 /// First writable register.
 const FIRST: u8 = 0x30;
 const RESET: u8 = 0x04;
@@ -89,6 +91,18 @@ enum Action {
     /// A call that a running event refuses or leaves room for.
     Disturb,
     Probe,
+    /// A look at the counts and averages of both kinds.
+    Averages,
+    Command(u8),
+}
+
+/// The measurements of one kind in an event.
+#[derive(Clone, Copy)]
+struct Course {
+    period: u64,
+    /// Measurements of one group; an event that is not continuous has one.
+    total: u64,
+    deliver: fn(Quality) -> Action,
 }
 
 struct Maker {
@@ -137,7 +151,8 @@ impl Maker {
             self.make_ready();
             match self.random.below(100) {
                 0..=4 => self.configure(),
-                5..=29 => self.calendar(),
+                5..=26 => self.calendar(),
+                27..=29 => self.continuous_event(),
                 30..=64 => self.single_measurement(),
                 65..=74 => self.event(),
                 75..=84 => self.frames(),
@@ -349,7 +364,7 @@ impl Maker {
     fn control(&mut self) -> u16 {
         let word = self.random.word();
         if self.random.percent(90) {
-            word & !0x0100
+            word & !ET_CONT
         } else {
             word
         }
@@ -625,36 +640,44 @@ impl Maker {
         }
         let opcode = self.random.between(7, 9) as u8;
         self.bus(&[opcode]);
-        let timing1 = self.stored(0x3F);
         let mut plan = Vec::new();
-        if opcode != 9 {
-            let period = 16_384 * ((timing1 >> 12) + 1);
-            self.plan(&mut plan, period, (timing1 >> 7 & 31) + 1, Action::Flight);
-        }
-        if opcode != 8 {
-            let period = 32_768 * ((timing1 >> 1 & 63) + 1);
-            let total = (self.stored(0x40) >> 11) + 1;
-            self.plan(&mut plan, period, total, Action::Temperature);
+        for course in self.courses(opcode) {
+            self.plan(&mut plan, course, course.total);
         }
         plan.sort_by_key(|&(moment, _)| moment);
         self.follow(&plan);
     }
 
-    /// Deliveries for the measurements of one kind, and looks at the moments that matter.
-    fn plan(
-        &mut self,
-        plan: &mut Vec<(u64, Action)>,
-        period: u64,
-        total: u64,
-        deliver: fn(Quality) -> Action,
-    ) {
-        for start in (0..total).map(|number| number * period) {
+    /// What an event command runs by the set-up.
+    fn courses(&self, opcode: u8) -> Vec<Course> {
+        let timing1 = self.stored(0x3F);
+        let differences = Course {
+            period: 16_384 * ((timing1 >> 12) + 1),
+            total: (timing1 >> 7 & 31) + 1,
+            deliver: Action::Flight,
+        };
+        let temperatures = Course {
+            period: 32_768 * ((timing1 >> 1 & 63) + 1),
+            total: (self.stored(0x40) >> 11) + 1,
+            deliver: Action::Temperature,
+        };
+        match opcode {
+            7 => vec![differences, temperatures],
+            8 => vec![differences],
+            _ => vec![temperatures],
+        }
+    }
+
+    /// Deliveries for the first measurements of one kind, and looks at the moments that matter.
+    fn plan(&mut self, plan: &mut Vec<(u64, Action)>, course: Course, starts: u64) {
+        let period = course.period;
+        for start in (0..starts).map(|number| number * period) {
             let soon = self.random.below(300);
             let within = self.random.below(DELIVERY_LIMIT);
             let delays = [0, soon, soon, within, DELIVERY_LIMIT - 1, DELIVERY_LIMIT];
             for _ in 0..self.random.one_of(&[0, 1, 1, 1, 2]) {
                 let moment = start + self.random.one_of(&delays);
-                plan.push((moment, deliver(self.quality())));
+                plan.push((moment, (course.deliver)(self.quality())));
             }
             for offset in [DELIVERY_LIMIT - 1, DELIVERY_LIMIT, period - 1, period] {
                 if self.random.percent(15) {
@@ -665,11 +688,13 @@ impl Maker {
                 plan.push((start + self.random.below(period), Action::Disturb));
             }
         }
-        let last = (total - 1) * period + DELIVERY_LIMIT;
+        let last = (starts - 1) * period + DELIVERY_LIMIT;
         plan.push((last + self.random.below(20), Action::Probe));
     }
 
     fn follow(&mut self, plan: &[(u64, Action)]) {
+        // Long plans are mostly followed to their end too.
+        let leaves = (4 * plan.len() as u64).max(100);
         let mut now = 0;
         for &(moment, action) in plan {
             self.wait(moment - now);
@@ -679,14 +704,114 @@ impl Maker {
                 Action::Temperature(quality) => self.deliver_temperature(quality),
                 Action::Disturb => self.disturb(),
                 Action::Probe => self.line(b"awaited"),
+                Action::Averages => self.read(0xE4, 20),
+                Action::Command(opcode) => self.bus(&[opcode]),
             }
-            if self.random.percent(1) {
+            if self.random.below(leaves) == 0 {
                 let opcode = self.random.one_of(&[HALT, HALT, RESET]);
                 self.bus(&[opcode]);
                 return;
             }
             if self.random.percent(20) {
                 self.probe();
+            }
+        }
+    }
+}
+
+/// Continuous events.
+impl Maker {
+    /// An event over one group or more, mostly ended by HALT, and sometimes left running.
+    fn continuous_event(&mut self) {
+        let opcode = self.begin_continuous();
+        let courses = self.courses(opcode);
+        let followed = self.random.one_of(&courses);
+        let end = self.last_moment(followed);
+        let mut plan = Vec::new();
+        for course in courses {
+            let starts = end / course.period + 1;
+            self.plan(&mut plan, course, starts);
+            self.plan_turns(&mut plan, course, starts);
+        }
+        // Few deliveries make long waits.
+        let kept = self.random.one_of(&[100, 100, 100, 40, 5]);
+        plan.retain(|_| self.random.percent(kept));
+        let command = self.random.one_of(&[HALT, HALT, HALT, HALT, HALT, RESET]);
+        if self.random.percent(85) {
+            // Before all that is done in the same tick, or after it.
+            let place = self.random.one_of(&[0, plan.len()]);
+            plan.insert(place, (end, Action::Command(command)));
+        }
+        let further = self.random.one_of(&[0, followed.period]);
+        plan.retain(|&(moment, _)| moment <= end + further);
+        plan.sort_by_key(|&(moment, _)| moment);
+        self.follow(&plan);
+    }
+
+    /// Sets a continuous event up and begins it; answers the opcode.
+    fn begin_continuous(&mut self) -> u8 {
+        if self.random.percent(80) {
+            self.bus(&[HALT]);
+        }
+        let timing = self.group_timing();
+        self.write(0x3F, &timing);
+        let control = self.random.word() | ET_CONT;
+        self.write(0x42, &[control]);
+        if self.random.percent(80) {
+            self.write(0x38, &[0x0110]);
+        }
+        let opcode = self.random.between(7, 9) as u8;
+        self.bus(&[opcode]);
+        opcode
+    }
+
+    /// Short periods mostly, and groups of every size: 1 and 32 among them.
+    fn group_timing(&mut self) -> [u16; 2] {
+        let mut total = || match self.random.below(16) {
+            0..=5 => 0,
+            6..=9 => 1,
+            10..=12 => 2,
+            13 | 14 => self.random.between(3, 7) as u16,
+            _ => 31,
+        };
+        let (tdm, tmm) = (total(), total());
+        let tdf = self.random.one_of(&[0, 0, 0, 1, 2]);
+        let tmf = self.random.one_of(&[0, 0, 0, 1, 2]);
+        [
+            tdf << 12 | tdm << 7 | tmf << 1,
+            tmm << 11 | 3 << 5 | self.random.word() & 3,
+        ]
+    }
+
+    /// Where a continuous event is left: at each place of a measurement, often about the turn of
+    /// a group.
+    fn last_moment(&mut self, course: Course) -> u64 {
+        let Course { period, total, .. } = course;
+        let most = (1_500_000 / (total * period)).clamp(2, 6);
+        let turn = self.random.between(1, most) * total;
+        let before = self.random.below(total + 1);
+        let start = turn - self.random.one_of(&[0, 0, 1, before]);
+        let soon = self.random.below(300);
+        let offsets = [
+            0,
+            1,
+            soon,
+            DELIVERY_LIMIT - 1,
+            DELIVERY_LIMIT,
+            DELIVERY_LIMIT + 1,
+            period - 1,
+        ];
+        start * period + self.random.one_of(&offsets)
+    }
+
+    /// Looks at the counts and averages about the first start of each group.
+    fn plan_turns(&mut self, plan: &mut Vec<(u64, Action)>, course: Course, starts: u64) {
+        for group in 1..=starts / course.total {
+            let turn = group * course.total * course.period;
+            for moment in [turn - 1, turn, turn + 1] {
+                if self.random.percent(30) {
+                    plan.push((moment, Action::Averages));
+                }
             }
         }
     }

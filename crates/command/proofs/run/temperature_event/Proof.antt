@@ -10,14 +10,22 @@ temperature-period-requires c κs = search needs
 temperature-count-requires : tie.Need-temperature-count-requires
 temperature-count-requires c κs = search needs
 
+event-continuous-requires : tie.Need-event-continuous-requires
+event-continuous-requires c κs = search needs
+
 start-event-requires : tie.Need-start-event-requires
 start-event-requires c κs = search needs
 
 returns : tie.Need-returns
 unfolding temperatureEvent
-returns c = simp (← c .before .start-event .ensures, ← c .before .before .temperature-count .ensures, ← c .before .before .before .temperature-period .ensures)
+returns c = simp (← c .before .start-event .ensures, ← c .before .before .event-continuous .ensures, ← c .before .before .before .temperature-count .ensures, ← c .before .before .before .before .temperature-period .ensures)
 
 pub temperature-event-spec : {M : Type 1} → statement M
 temperature-event-spec =
     tie.close
-    (tie.spec temperature-period-requires temperature-count-requires start-event-requires returns)
+    (tie.spec
+    temperature-period-requires
+    temperature-count-requires
+    event-continuous-requires
+    start-event-requires
+    returns)

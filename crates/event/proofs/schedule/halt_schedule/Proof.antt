@@ -1,9 +1,11 @@
 -- `event::schedule::halt_schedule` meets its contract.
-use borrow.Author.Needs.{needs}
-use Rattle.unit.specs.Tests.{tests}
 use Rattle.device.specs.Event.{halted}
+use Rattle.unit.specs.Tests.{tests}
+use borrow.Author.Needs.{needs}
 use Rattle.event.proofs.schedule.halt_schedule.Statement.{statement}
 use Rattle.event.proofs.schedule.halt_schedule.Tie as tie
+use Rattle.event.proofs.schedule.halt_schedule.Reads as reads
+use Rattle.event.proofs.schedule.halt_schedule.Lts as lts
 
 returns : tie.Need-returns
 unfolding halted

@@ -1,21 +1,27 @@
 -- `event::schedule::is_due` meets its contract.
-use borrow.Author.Needs.{needs}
-use Rattle.unit.specs.Tests.{tests}
 use Rattle.device.specs.Event.{begins}
+use Rattle.unit.specs.Tests.{tests}
+use borrow.Author.Needs.{needs}
 use Rattle.event.proofs.schedule.is_due.Statement.{statement}
 use Rattle.event.proofs.schedule.is_due.Tie as tie
+use Rattle.event.proofs.schedule.is_due.Reads as reads
+use Rattle.event.proofs.schedule.is_due.Lts as lts
+use Rattle.event.proofs.schedule.starts_left.Reads as starts-left-reads
+
+starts-left-requires : tie.Need-starts-left-requires
+starts-left-requires c κs = search needs
 
 returns : tie.Need-returns
 unfolding begins
-returns c = search (needs, tests)
+returns c = search (needs, tests, c .if2 .taken, c .before .before .if1 .taken, ← c .before .before .before .starts-left .ensures)
 
 returns-2 : tie.Need-returns-2
 unfolding begins
-returns-2 c = search (needs, tests)
+returns-2 c = search (needs, tests, c .if2 .left, c .before .before .if1 .taken, ← c .before .before .before .starts-left .ensures)
 
 returns-3 : tie.Need-returns-3
 unfolding begins
-returns-3 c = search (needs, tests)
+returns-3 c = search (needs, tests, c .if1 .left, ← c .before .starts-left .ensures)
 
 pub is-due-spec : {M : Type 1} → statement M
-is-due-spec = tie.close (tie.spec returns returns-2 returns-3)
+is-due-spec = tie.close (tie.spec starts-left-requires returns returns-2 returns-3)

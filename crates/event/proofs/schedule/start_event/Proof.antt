@@ -1,9 +1,11 @@
 -- `event::schedule::start_event` meets its contract.
-use borrow.Author.Needs.{needs}
-use Rattle.unit.specs.Tests.{tests}
 use Rattle.device.specs.Event.{eventStart}
+use Rattle.unit.specs.Tests.{tests}
+use borrow.Author.Needs.{needs}
 use Rattle.event.proofs.schedule.start_event.Statement.{statement}
 use Rattle.event.proofs.schedule.start_event.Tie as tie
+use Rattle.event.proofs.schedule.start_event.Reads as reads
+use Rattle.event.proofs.schedule.start_event.Lts as lts
 
 returns : tie.Need-returns
 unfolding eventStart

@@ -1,9 +1,16 @@
 -- `event::schedule::tick_schedule` meets its contract.
-use Rattle.unit.specs.Tests.{tests}
 use Rattle.device.specs.Event.{tickSchedule}
+use Rattle.unit.specs.Tests.{tests}
 use borrow.Author.Needs.{needs}
 use Rattle.event.proofs.schedule.tick_schedule.Statement.{statement}
 use Rattle.event.proofs.schedule.tick_schedule.Tie as tie
+use Rattle.event.proofs.schedule.tick_schedule.Reads as reads
+use Rattle.event.proofs.schedule.tick_schedule.Lts as lts
+use Rattle.event.proofs.schedule.good_after.Reads as good-after-reads
+use Rattle.event.proofs.schedule.left_after.Reads as left-after-reads
+use Rattle.event.proofs.schedule.settled_after.Reads as settled-after-reads
+use Rattle.event.proofs.schedule.started_after.Reads as started-after-reads
+use Rattle.event.proofs.schedule.wait_after.Reads as wait-after-reads
 
 left-after-requires : tie.Need-left-after-requires
 left-after-requires c κs = search needs
@@ -17,9 +24,12 @@ started-after-requires c κs = search needs
 settled-after-requires : tie.Need-settled-after-requires
 settled-after-requires c κs = search needs
 
+good-after-requires : tie.Need-good-after-requires
+good-after-requires c κs = search needs
+
 returns : tie.Need-returns
 unfolding tickSchedule
-returns c = search (needs, tests, ← c .before .settled-after .ensures, ← c .before .before .started-after .ensures, ← c .before .before .before .wait-after .ensures, ← c .before .before .before .before .left-after .ensures)
+returns c = search (needs, tests, ← c .before .good-after .ensures, ← c .before .before .settled-after .ensures, ← c .before .before .before .started-after .ensures, ← c .before .before .before .before .wait-after .ensures, ← c .before .before .before .before .before .left-after .ensures)
 
 pub tick-schedule-spec : {M : Type 1} → statement M
 tick-schedule-spec =
@@ -29,4 +39,5 @@ tick-schedule-spec =
     wait-after-requires
     started-after-requires
     settled-after-requires
+    good-after-requires
     returns)

@@ -1,0 +1,44 @@
+-- What the third demand says of the continuous event of `Witness`.
+use Prim.Native.Nat.{ℕ, _≤_}
+use native.Mathlib.Omega.{arith}
+use mathlib.Core.Bool.{true}
+use mathlib.Core.List.{List, [], _∷_}
+use mathlib.Core.Path.{_≡_, refl, ap, sym, _∙_}
+use lib.ListN.{length, getD}
+use Rattle.device.specs.Model.{freshModel}
+use Rattle.device.specs.Call.{reply}
+use Rattle.device.specs.Claim.{Plan, History, KindClaim, differences, runs, countRegister, reached, plannedStarts}
+use Rattle.device.specs.Claim.{after, command, toldOf, EventClaim}
+use Rattle.device.proofs.Witness.{setUp, overGroups, continuous-accepted, plan-is, groups-read, groups-held}
+use Rattle.device.proofs.Third.{third-demand}
+
+runs-differences : runs differences 8 ≡ true
+unfolding runs
+runs-differences = refl
+
+claim : EventClaim (after freshModel setUp) 8 [] overGroups
+claim =
+    third-demand setUp 8 [] overGroups (omega arith) (omega arith) continuous-accepted (groups-read .0)
+
+abbrev told : History
+told = toldOf differences (after freshModel setUp) 8 [] overGroups
+
+abbrev kind :
+    KindClaim differences ((after freshModel setUp) .setup) told
+    (after (reply (after freshModel setUp) (command 8 []) .model) overGroups)
+kind = claim .kinds differences runs-differences
+
+planned : plannedStarts (record { period = 16384; count = 1; continuous = true }) 16384 ≡ 0 ∷ 16384 ∷ []
+unfolding plannedStarts reached
+planned = refl
+
+-- The starts are those of two groups, and the good delivery of the second group alone is counted.
+pub two-groups : told .starts ≡ 0 ∷ 16384 ∷ []
+two-groups =
+    kind .starts ∙ ap (λ (p : Plan). plannedStarts p (told .ticks)) plan-is ∙
+    ap (plannedStarts (record { period = 16384; count = 1; continuous = true })) (claim .ticks differences ∙ groups-read .1) ∙
+    planned
+
+pub second-alone : length (told .good) ≡ 1
+unfolding countRegister
+second-alone = sym (kind .count) ∙ ap (λ l. getD l 0 0) groups-held

@@ -125,10 +125,10 @@ hour-read a false h b =
     record { form = f; hour = omega arith; fits = full-fits w s (omega arith); ones = omega arith })
 
 -- What fits, as plain bounds.
-by-form : {G : Type 0} (w : ℕ) → (w / 64 % 2 ≡ 1 → G) → (w / 64 % 2 ≡ 0 → G) → G
+pub by-form : {G : Type 0} (w : ℕ) → (w / 64 % 2 ≡ 1 → G) → (w / 64 % 2 ≡ 0 → G) → G
 by-form w f g = by-eqb (w / 64 % 2) 1 (λ e _. f e) (λ n _. g (omega arith))
 
-half-bounds : (w : ℕ) → w / 64 % 2 ≡ 1 → hourFits w ≡ true → (1 ≤ halfNamed w) × (halfNamed w ≤ 12)
+pub half-bounds : (w : ℕ) → w / 64 % 2 ≡ 1 → hourFits w ≡ true → (1 ≤ halfNamed w) × (halfNamed w ≤ 12)
 unfolding hourFits
 half-bounds w e f =
     let (t, n, _) = half-form w e in
@@ -136,7 +136,7 @@ half-bounds w e f =
     let (h, _) = passed (ltb 12 (halfNamed w)) r in
     omega (arith, ltb-false)
 
-full-bounds : (w : ℕ) → w / 64 % 2 ≡ 0 → hourFits w ≡ true → fullNamed w ≤ 23
+pub full-bounds : (w : ℕ) → w / 64 % 2 ≡ 0 → hourFits w ≡ true → fullNamed w ≤ 23
 unfolding hourFits
 full-bounds w e f =
     let (t, n, _) = full-form w e in

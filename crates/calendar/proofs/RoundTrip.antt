@@ -3,15 +3,14 @@ use Prim.Native.Nat.{ℕ, _+_, _*_, _/_, _%_, _≤_, _<_}
 use mathlib.Core.Bool.{true}
 use mathlib.Core.Path.{_≡_}
 use native.Mathlib.Omega.{arith}
-use lib.Dec.{ltb}
-use borrow.Author.Tests.{le-ltb, ltb-false}
 use Rattle.unit.specs.declared.Ticks.{Ticks}
 use Rattle.calendar.specs.declared.Clock.{Clock}
 use Rattle.calendar.specs.Calendar.{clockValid}
-use Rattle.calendar.specs.Words.{bcd, hundredthsOf, word30, word31, word32, word33, hourDigits, minuteIn, twelveIn, clockFrom, timeDigits, hourFits, digitsFit, wordsValid}
+use Rattle.calendar.specs.Words.{bcd, hundredthsOf, word30, word31, word32, word33, hourDigits, minuteIn, twelveIn, clockFrom, digitsFit, wordsValid}
 use Rattle.calendar.specs.Moment.{Bounds}
-use Rattle.calendar.proofs.Laws.{passed, held, bounds, month-length}
+use Rattle.calendar.proofs.Laws.{bounds, month-length}
 use Rattle.calendar.proofs.Hours.{bcd-digits, bcd-byte, hour-byte, Hour, hour-read, hour-back}
+use Rattle.calendar.proofs.Validity.{hour-means, digits-mean, words-mean}
 
 -- Two digits in a word's low byte, and in its high byte.
 record Low (w x : ℕ) : Type 0 where
@@ -124,22 +123,11 @@ reads-form c v = digits c (bounds c v) .hour .form
 pub digits-fit : (c : Clock) →
     clockValid c ≡ true →
     digitsFit (word30 c) (word31 c) (word32 c) (word33 c) ≡ true
-unfolding digitsFit timeDigits
 digits-fit c v =
     let b = bounds c v in
     let d = digits c b in
     let h = hundredths-below c b in
-    simp (
-      le-ltb 9 (word30 c / 4096 % 16) (omega (arith, d .hundredths)),
-      le-ltb 9 (word30 c / 256 % 16) (omega (arith, d .hundredths)),
-      le-ltb 9 (word30 c % 16) (omega (arith, d .second)),
-      le-ltb 9 (word32 c % 16) (omega (arith, d .date)),
-      le-ltb 9 (word33 c / 256 % 16) (omega (arith, d .month)),
-      le-ltb 9 (word33 c / 16 % 16) (omega (arith, d .year)),
-      le-ltb 9 (word33 c % 16) (omega (arith, d .year)),
-      le-ltb 9 (word31 c / 256 % 16) (omega (arith, d .minute)),
-      le-ltb 9 (word31 c % 16) (d .hour .ones),
-    )
+    digits-mean (word30 c) (word31 c) (word32 c) (word33 c) .1 (omega arith)
 
 pub words-valid : (c : Clock) →
     clockValid c ≡ true →
@@ -159,30 +147,10 @@ minute-back w h =
     let b : w / 256 % 128 ≡ w / 256 / 16 % 8 * 16 + w / 256 % 16 = omega arith in
     rw (q, b, bcd-digits (w / 256 / 16 % 8 * 10 + w / 256 % 16) (omega arith)) (omega arith)
 
-time-ones : (w : ℕ) → timeDigits w ≡ true → (w / 256 % 16 ≤ 9) × (w % 16 ≤ 9)
-unfolding timeDigits
-time-ones w e =
-    let (m, r) = passed (ltb 9 (w / 256 % 16)) e in
-    let (h, _) = passed (ltb 9 (w % 16)) r in
-    omega (arith, ltb-false)
-
-time-digits : (w30 w31 w32 w33 : ℕ) → digitsFit w30 w31 w32 w33 ≡ true → timeDigits w31 ≡ true
-unfolding digitsFit
-time-digits w30 w31 w32 w33 e =
-    let e1 = passed (ltb 9 (w30 / 4096 % 16)) e .1 in
-    let e2 = passed (ltb 9 (w30 / 256 % 16)) e1 .1 in
-    let e3 = passed (ltb 9 (w30 % 16)) e2 .1 in
-    let e4 = passed (ltb 9 (w32 % 16)) e3 .1 in
-    let e5 = passed (ltb 9 (w33 / 256 % 16)) e4 .1 in
-    let e6 = passed (ltb 9 (w33 / 16 % 16)) e5 .1 in
-    passed (ltb 9 (w33 % 16)) e6 .1
-
 pub time-back : (w30 w31 w32 w33 : ℕ) (t : Ticks) →
     wordsValid w30 w31 w32 w33 t ≡ true →
     word31 (clockFrom w30 w31 w32 w33 t) ≡ w31 / 256 % 128 * 256 + w31 % 128
 unfolding wordsValid word31 clockFrom
 time-back w30 w31 w32 w33 t e =
-    let (d, r) = held (digitsFit w30 w31 w32 w33) e in
-    let (f, _) = held (hourFits w31) r in
-    let (m, o) = time-ones w31 (time-digits w30 w31 w32 w33 d) in
-    rw (minute-back w31 m, hour-back w31 f o)
+    let (v, _) = words-mean w30 w31 w32 w33 t .0 e in
+    rw (minute-back w31 (v .digits .minutes), hour-back w31 (hour-means w31 .1 (v .hour)) (v .digits .hours))

@@ -7,6 +7,7 @@ pub mod Facts
 pub mod Meaning
 pub mod StatusMeaning
 pub mod RegisterMeaning
+pub mod WriteMeaning
 pub mod DeliveryMeaning
 pub mod CommandMeaning
 pub mod CallMeaning
@@ -16,6 +17,7 @@ pub mod Going
 pub mod Stretch
 pub mod Quiet
 pub mod StretchMeaning
+pub mod ClockMeaning
 pub mod Calls
 pub mod Held
 pub mod Third

@@ -5,15 +5,13 @@ use native.Mathlib.Numerals.{add-one}
 use mathlib.Core.Path.{_≡_, refl, ap, sym, _∙_}
 use mathlib.Core.Bool.{Bool, true, false}
 use mathlib.Core.Logic.{_⊎_, inl, inr, ⊎-elim}
-use lib.Dec.{ltb, leb, eqb}
-use borrow.Author.Tests.{le-leb, lt-leb, lt-ltb, le-ltb, eq-eqb, ne-eqb}
+use lib.Dec.{ltb, leb}
+use borrow.Author.Tests.{le-leb, lt-leb, lt-ltb, le-ltb, ne-eqb}
 use Rattle.unit.specs.Choice.{pick}
 use Rattle.unit.specs.Cases.{by-test, by-ltb, by-eqb}
 use Rattle.unit.specs.declared.Ticks.{Ticks}
-use Rattle.calendar.specs.declared.Clock.{Clock}
 use Rattle.calendar.specs.Calendar.{withTime, tickClock}
-use Rattle.calendar.specs.Words.{hourIn}
-use Rattle.calendar.specs.Alarm.{reaches, alarmRings}
+use Rattle.calendar.proofs.AlarmModes.{same-time}
 use Rattle.register.specs.Setup.{clockStands, alarmWord, alarmMode}
 use Rattle.device.specs.declared.Schedule.{Schedule}
 use Rattle.device.specs.declared.Model.{Model}
@@ -115,16 +113,6 @@ module _ (k : Schedule) (q : ℕ) (l : q < quietSchedule k) where
   schedule-later = rw (left-less, wait-less, started-same, group-none, fails-none)
 
 -- the clock, and that it raises no alarm
-same-time : (c d : Clock) (w mode : ℕ) → c .minute ≡ d .minute → c .hour ≡ d .hour → alarmRings c d w mode ≡ false
-unfolding alarmRings reaches
-same-time c d w mode e f =
-    rw (eq-eqb (c .minute) (d .minute) e, eq-eqb (c .hour) (d .hour) f)
-    (by-test (eqb mode 1) (λ a. rw a)
-    (λ a. by-test (eqb mode 2) (λ b. rw (a, b))
-    (λ b. by-test (eqb mode 3)
-    (λ g. rw (a, b, g) (by-test (eqb (d .hour) (hourIn w)) (λ h. rw h) (λ h. rw h)))
-    (λ g. rw (a, b, g)))))
-
 module _ (m : Model) (q : ℕ) (l : q < quietClock m) where
   clock-later : clockTicked (laterModel q m) ≡ laterClock (q + 1) m
   unfolding clockTicked laterModel laterClock quietClock tickClock

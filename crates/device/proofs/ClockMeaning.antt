@@ -1,0 +1,106 @@
+-- The clock and AF over ticks, in register words: EOSC, and the alarm's four modes.
+use Prim.Native.Nat.{ℕ, zero, suc, _+_, _*_, _/_, _%_}
+use native.Mathlib.Omega.{arith}
+use mathlib.Core.Bool.{true, false}
+use mathlib.Core.List.{List, [], _∷_, map}
+use mathlib.Core.Logic.{_↔_}
+use mathlib.Core.Path.{_≡_, refl, ap, _∙_}
+use borrow.Author.Tests.{ne-eqb}
+use Rattle.unit.specs.Choice.{either}
+use Rattle.calendar.specs.Calendar.{clockValid}
+use Rattle.calendar.specs.Moment.{moment}
+use Rattle.calendar.specs.Alarm.{alarmRings}
+use Rattle.calendar.proofs.Laws.{after-moment}
+use Rattle.calendar.proofs.AlarmModes.{AlarmTime, mode-00, mode-01, mode-10, mode-11, same-time}
+use Rattle.register.specs.Setup.{wordOf, clockStands, alarmWord, alarmMode}
+use Rattle.device.specs.declared.Model.{Model}
+use Rattle.device.specs.Registers.{calendarWord, registerWord}
+use Rattle.device.specs.Tick.{clockTicked, alarmRaised, tickModel}
+use Rattle.device.specs.Stretch.{ticked}
+use Rattle.device.proofs.StatusMeaning.{kept, alarm-set}
+use Rattle.device.proofs.Stretch.{setup-ticked, clock-ticked}
+
+-- AM, "(3:2 of 43h)"
+abbrev pub modeOf : Model → ℕ
+modeOf m = wordOf (m .setup) 0x43 / 4 % 4
+
+-- EOSC, "(bit 4 of 43h)"
+abbrev pub eoscOf : Model → ℕ
+eoscOf m = wordOf (m .setup) 0x43 / 16 % 2
+
+-- AF stays set until the status is read.
+pub alarm-stays : (m : Model) → m .status .alarm ≡ true → (tickModel m) .status .alarm ≡ true
+alarm-stays m e = alarm-set m ∙ rw e
+
+-- A tick that finds AF clear sets it exactly so.
+module _ (m : Model) (clear : m .status .alarm ≡ false) where
+  by-rings :
+      (tickModel m) .status .alarm
+      ≡ alarmRings (m .clock) ((tickModel m) .clock) (wordOf (m .setup) 0x35) (modeOf m)
+  unfolding alarmRaised alarmWord alarmMode
+  by-rings = alarm-set m ∙ ap (λ b. either b (alarmRaised m ((tickModel m) .clock))) clear
+
+  -- 00b is none of "01b .., 10b .., 11b": no tick sets AF
+  pub alarm-00 : modeOf m ≡ 0 → (tickModel m) .status .alarm ≡ false
+  alarm-00 e = rw (by-rings, e) (mode-00 (m .clock) ((tickModel m) .clock) (wordOf (m .setup) 0x35))
+
+  module _ (minute hour : ℕ) (t : AlarmTime (wordOf (m .setup) 0x35) minute hour) where
+    -- "01b sets AF in a tick where minutes change to the alarm's"
+    pub alarm-01 :
+        modeOf m ≡ 1 →
+        (tickModel m) .status .alarm ≡ true
+        ↔ (¬ (m .clock .minute ≡ (tickModel m) .clock .minute)) × ((tickModel m) .clock .minute ≡ minute)
+    alarm-01 e = rw (by-rings, e) (mode-01 (m .clock) ((tickModel m) .clock) _ minute hour t)
+
+    -- "10b where hours change to the alarm's"
+    pub alarm-10 :
+        modeOf m ≡ 2 →
+        (tickModel m) .status .alarm ≡ true
+        ↔ (¬ (m .clock .hour ≡ (tickModel m) .clock .hour)) × ((tickModel m) .clock .hour ≡ hour)
+    alarm-10 e = rw (by-rings, e) (mode-10 (m .clock) ((tickModel m) .clock) _ minute hour t)
+
+    -- "11b where minutes change and both match"
+    pub alarm-11 :
+        modeOf m ≡ 3 →
+        (tickModel m) .status .alarm ≡ true
+        ↔ (¬ (m .clock .minute ≡ (tickModel m) .clock .minute))
+        × ((tickModel m) .clock .minute ≡ minute)
+        × ((tickModel m) .clock .hour ≡ hour)
+    alarm-11 e = rw (by-rings, e) (mode-11 (m .clock) ((tickModel m) .clock) _ minute hour t)
+
+-- "The clock stands while EOSC (bit 4 of 43h) is 1": over any number of ticks the clock stays, AF too, and B0h to B3h read the same
+module _ (m : Model) (e : eoscOf m ≡ 1) where
+  pub clock-stands : (n : ℕ) → (ticked n m) .clock ≡ m .clock
+  unfolding ticked tickModel clockTicked clockStands
+  clock-stands zero = refl
+  clock-stands (suc n) = rw (setup-ticked n m, e) (clock-stands n)
+
+  pub reads-stand :
+      (n : ℕ) →
+      map (registerWord (ticked n m)) (0xB0 ∷ 0xB1 ∷ 0xB2 ∷ 0xB3 ∷ [])
+      ≡ map (registerWord m) (0xB0 ∷ 0xB1 ∷ 0xB2 ∷ 0xB3 ∷ [])
+  unfolding registerWord calendarWord
+  reads-stand n = rw (clock-stands n)
+
+  tick-stands : (n : ℕ) → (tickModel (ticked n m)) .clock ≡ (ticked n m) .clock
+  unfolding tickModel clockTicked clockStands
+  tick-stands n = rw (setup-ticked n m, e)
+
+  pub alarm-stands : (n : ℕ) → (ticked n m) .status .alarm ≡ m .status .alarm
+  unfolding ticked alarmRaised
+  alarm-stands zero = refl
+  alarm-stands (suc n) =
+      alarm-set (ticked n m)
+      ∙ rw (tick-stands n, same-time ((ticked n m) .clock) ((ticked n m) .clock) _ _ refl refl)
+      (kept ((ticked n m) .status .alarm) ∙ alarm-stands n)
+
+-- and while it is 0 each tick moves the moment by one, "compared modulo 36,525 days"
+pub clock-moves :
+    (m : Model) →
+    clockValid (m .clock) ≡ true →
+    eoscOf m ≡ 0 →
+    (n : ℕ) →
+    moment ((ticked n m) .clock) ≡ (moment (m .clock) + n) % (36525 * 86400 * 32768)
+unfolding clockStands
+clock-moves m v e n =
+    rw (clock-ticked n m (rw (ne-eqb (eoscOf m) 1 (omega arith)))) (after-moment n (m .clock) v)

@@ -3,6 +3,7 @@
 
 mod calendar;
 mod event;
+mod flash;
 mod flight;
 mod item;
 mod model;

@@ -35,6 +35,8 @@ pub struct Model {
     pub registers: Registers,
     pub clock: Clock,
     pub initialised: bool,
+    /// The flash has its supply.
+    pub regulator_on: bool,
     /// Ticks since the model was fresh, those with a standing clock included.
     pub now: i64,
     /// The next tick that starts or fails a measurement.
@@ -57,6 +59,7 @@ impl Model {
             registers: Registers::factory(),
             clock: Clock::fresh(),
             initialised: false,
+            regulator_on: false,
             now: 0,
             next_due: NEVER,
             flight: Kind::idle(),

@@ -1,6 +1,6 @@
 //! The numbered refusals of a call.
 
-/// Why a call was refused, by the number of the document's table.
+/// Why a call was refused, by the numbers of the documents.
 #[derive(Clone, Copy, Debug, PartialEq, Eq)]
 pub enum Refusal {
     NoFrame = 1,
@@ -14,6 +14,9 @@ pub enum Refusal {
     SetUp,
     NotAwaited,
     WordCount,
+    SupplyOff = 15,
+    FlashAddress,
+    NotErased,
 }
 
 impl Refusal {
@@ -30,6 +33,9 @@ impl Refusal {
             Refusal::SetUp => "set-up",
             Refusal::NotAwaited => "not awaited",
             Refusal::WordCount => "word count",
+            Refusal::SupplyOff => "supply off",
+            Refusal::FlashAddress => "flash address",
+            Refusal::NotErased => "not erased",
         }
     }
 }

@@ -29,8 +29,10 @@ pub mod status {
     pub const AF: u16 = 1 << 14;
     pub const TOF: u16 = 1 << 12;
     pub const TE: u16 = 1 << 11;
+    pub const LDO: u16 = 1 << 10;
     pub const TOF_EVTMG: u16 = 1 << 9;
     pub const TEMP_EVTMG: u16 = 1 << 8;
+    pub const FLASH: u16 = 1 << 7;
     pub const HALT: u16 = 1 << 5;
     pub const INIT: u16 = 1 << 3;
     pub const POR: u16 = 1 << 2;
@@ -85,6 +87,10 @@ impl Registers {
 
     pub fn raise(&mut self, status_bits: u16) {
         self.set(STATUS, self.get(STATUS) | status_bits);
+    }
+
+    pub fn lower(&mut self, status_bits: u16) {
+        self.set(STATUS, self.get(STATUS) & !status_bits);
     }
 
     fn field(&self, address: u8, high: u32, low: u32) -> i64 {

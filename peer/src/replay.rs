@@ -2,6 +2,7 @@
 
 use std::io::{self, Write};
 
+use crate::flash;
 use crate::item::{self, Fault, Line, Words, LONGEST_FRAME};
 use crate::model::{Model, Outcome, TickReport};
 use crate::refusal::Refusal;
@@ -22,6 +23,8 @@ struct Counts {
 
 struct Replay<W: Write> {
     model: Model,
+    /// The item's user flash.
+    memory: Vec<u8>,
     counts: Counts,
     text: Vec<u8>,
     sink: W,
@@ -31,6 +34,7 @@ struct Replay<W: Write> {
 pub fn replay<W: Write>(text: &[u8], sink: W) -> io::Result<()> {
     let mut replay = Replay {
         model: Model::fresh(),
+        memory: vec![flash::ERASED; flash::MEMORY],
         counts: Counts::default(),
         text: Vec::with_capacity(2 * BLOCK),
         sink,
@@ -83,6 +87,7 @@ impl<W: Write> Replay<W> {
 
     fn item(&mut self, words: Words) -> io::Result<()> {
         self.model = Model::fresh();
+        self.memory.fill(flash::ERASED);
         self.text.extend_from_slice(b"item");
         for word in words {
             self.text.push(b' ');
@@ -95,14 +100,13 @@ impl<W: Write> Replay<W> {
     fn bus(&mut self, output_size: Option<usize>, frame: &[u8]) -> io::Result<()> {
         let size = output_size.unwrap_or(match frame {
             [0xB0..=0xFF, further @ ..] => further.len() & !1,
-            // The flash read, which is not carried: the stored answers give it one word of room.
             [0x90, ..] => 2,
             _ => 0,
         });
         let mut output = [UNTOUCHED; LONGEST_FRAME];
         let output = &mut output[..size];
         self.counts.calls += 1;
-        match self.model.transaction(frame, output) {
+        match self.model.transaction(frame, output, &mut self.memory) {
             Ok(started) => {
                 self.text.extend_from_slice(b"bus ok ");
                 self.text.extend_from_slice(started_text(started));

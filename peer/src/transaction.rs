@@ -15,19 +15,28 @@ pub struct Started {
 }
 
 impl Model {
-    /// One chip-enable window; a refusal leaves the model and `output` as they were.
-    pub fn transaction(&mut self, frame: &[u8], output: &mut [u8]) -> Result<Started, Refusal> {
+    /// One chip-enable window; `memory` is the user flash. A refusal leaves all of them as they
+    /// were.
+    pub fn transaction(
+        &mut self,
+        frame: &[u8],
+        output: &mut [u8],
+        memory: &mut [u8],
+    ) -> Result<Started, Refusal> {
         let (&opcode, further) = frame.split_first().ok_or(Refusal::NoFrame)?;
         match opcode {
-            0x00..=0x05 | 0x07..=0x0A if !further.is_empty() => Err(Refusal::FrameLength),
-            0x00..=0x05 | 0x07..=0x0A => self.command(opcode),
-            0x30..=0x43 => self.write(opcode, further),
-            0xB0..=0xFF => self.read(opcode, further.len(), output),
-            _ => Err(Refusal::Opcode),
+            0x00..=0x05 | 0x07..=0x0A | 0x0C | 0x0D => return self.command(opcode, further),
+            0x10 => self.write_flash(further, memory)?,
+            0x13 => self.erase_flash(further, memory)?,
+            0x30..=0x43 => self.write(opcode, further)?,
+            0x90 => self.read_flash(further, output, memory)?,
+            0xB0..=0xFF => self.read(opcode, further.len(), output)?,
+            _ => return Err(Refusal::Opcode),
         }
+        Ok(Started::default())
     }
 
-    fn read(&mut self, first: u8, fillers: usize, output: &mut [u8]) -> Result<Started, Refusal> {
+    fn read(&mut self, first: u8, fillers: usize, output: &mut [u8]) -> Result<(), Refusal> {
         let count = whole_words(fillers)?;
         if usize::from(first) + count > 0x100 {
             return Err(Refusal::Address);
@@ -41,10 +50,10 @@ impl Model {
                 self.registers.set(address, 0);
             }
         }
-        Ok(Started::default())
+        Ok(())
     }
 
-    fn write(&mut self, opcode: u8, bytes: &[u8]) -> Result<Started, Refusal> {
+    fn write(&mut self, opcode: u8, bytes: &[u8]) -> Result<(), Refusal> {
         let count = whole_words(bytes.len())?;
         let first = opcode + 0x80;
         if usize::from(first) + count > usize::from(registers::LAST_WRITABLE) + 1 {
@@ -71,15 +80,18 @@ impl Model {
         for (address, &word) in addresses.zip(words) {
             self.registers.set(address, word);
         }
-        Ok(Started::default())
+        Ok(())
     }
 
-    fn command(&mut self, opcode: u8) -> Result<Started, Refusal> {
+    fn command(&mut self, opcode: u8, further: &[u8]) -> Result<Started, Refusal> {
         match opcode {
+            _ if !further.is_empty() => return Err(Refusal::FrameLength),
             0x04 => *self = Model::after_reset(),
             0x0A => self.halt(),
             _ if self.is_busy() => return Err(Refusal::Busy),
             0x05 => self.initialise(),
+            0x0C => self.switch_regulator(true),
+            0x0D => self.switch_regulator(false),
             _ if !self.initialised => return Err(Refusal::NotInitialised),
             _ => return self.measure(opcode),
         }

@@ -3,7 +3,7 @@ ghost use mathlib.Core.Path.{_≡_};
 ghost use Prim.Native.Nat.{_≤_, _+_};
 ghost use lib.Dec.{eqb};
 ghost use Rattle.unit.specs.Choice.{negate};
-ghost use Rattle.device.specs.Bus.{mustBeIdle, startsFlight, startsTemperature, isEvent, commandBusy, notReady, commandUnset, flightStarted, flightEvent, temperatureEvent, startedEvent, initialised, haltedModel, runModel, readModel, eventFlight, eventSideUnset, eventTemperature, flightSideUnset, singleStarted, temperatureSideUnset};
+ghost use Rattle.device.specs.Bus.{mustBeIdle, startsFlight, startsTemperature, isEvent, commandBusy, notReady, commandUnset, flightStarted, flightEvent, temperatureEvent, startedEvent, initialised, haltedModel, runModel, readModel, eventFlight, eventSideUnset, eventTemperature, flightSideUnset, singleStarted, supplied, unsupplied, temperatureSideUnset};
 use crate::state::fresh_with;
 use crate::state::is_busy;
 use device::Flight;
@@ -12,7 +12,9 @@ use device::Temperature;
 use event::interrupt::halt_bit;
 use event::interrupt::init_bit;
 use event::interrupt::join;
+use event::interrupt::ldo_bit;
 use event::interrupt::no_bits;
+use event::interrupt::without_ldo;
 use event::schedule::halt_schedule;
 use event::schedule::start_event;
 use event::schedule::start_single;
@@ -244,6 +246,29 @@ fn single_started(m: Model, op: u32) -> Model
     next
 }
 
+// The regulator of the user flash is switched on, and off.
+fn supplied(m: Model) -> Model
+    ensures { λ r. ⌜ r ≡ supplied m ⌝ }
+{
+    let old = m.status;
+    let status = join(old, ldo_bit());
+    let mut next = m;
+    next.status = status;
+    next.regulator = true;
+    next
+}
+
+fn unsupplied(m: Model) -> Model
+    ensures { λ r. ⌜ r ≡ unsupplied m ⌝ }
+{
+    let old = m.status;
+    let status = without_ldo(old);
+    let mut next = m;
+    next.status = status;
+    next.regulator = false;
+    next
+}
+
 // The model after an accepted command.
 pub fn run(m: Model, op: u32) -> Model
     ensures { λ r. ⌜ r ≡ runModel m op ⌝ }
@@ -256,6 +281,12 @@ pub fn run(m: Model, op: u32) -> Model
     }
     if op == 10 {
         return halted(m);
+    }
+    if op == 12 {
+        return supplied(m);
+    }
+    if op == 13 {
+        return unsupplied(m);
     }
     if is_event(op) {
         return started_event(m, op);

@@ -50,6 +50,7 @@ pub fn fresh_with(status: Status) -> Model
         setup,
         status,
         ready: false,
+        regulator: false,
         flight,
         temperature,
     }

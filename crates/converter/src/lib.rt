@@ -6,10 +6,12 @@ ghost use lib.ListN.{length};
 ghost use Rattle.frame.specs.declared.Decoded.{Decoded};
 ghost use Rattle.device.specs.Model.{freshModel, sound};
 ghost use Rattle.device.specs.Stretch.{quietFor};
-ghost use Rattle.device.specs.Call.{Call, reply, output, refuse, accept, commandReply, writeReply, readReply, readOutput, refusalNumber, readFits};
+ghost use Rattle.device.specs.Call.{Call, reply, output, memory, commandReply, writeReply, readReply, readOutput, refusalNumber, readFits, frameFits, flashFrameReply, flashFrameOutput, flashFrameMemory, wordsReply};
 use access::read::fill_words;
 use access::write::write_invalid;
 use access::write::write_model;
+use command::answer::accepted;
+use command::answer::refused;
 use command::run::after_read;
 use command::run::command_busy;
 use command::run::command_unset;
@@ -26,6 +28,7 @@ use device::Reply;
 use device::Report;
 use event::interrupt::por_bit;
 use event::schedule::is_awaited;
+use flash_access::flash_frame;
 use frame::Decoded;
 use measuring::delivery::flight_miscounted;
 use measuring::delivery::flight_words;
@@ -37,30 +40,13 @@ use measuring::tick::tick_model;
 pub use question::flight_awaited;
 pub use question::interrupt_pending;
 pub use question::peek;
+pub use question::regulator_on;
 pub use question::temperature_awaited;
 
 pub fn fresh() -> Model
     ensures { λ r. ⌜ r ≡ freshModel ⌝ }
 {
     fresh_with(por_bit())
-}
-
-fn refused(m: Model, number: u32) -> Reply
-    ensures { λ r. ⌜ r ≡ refuse number m ⌝ }
-{
-    Reply {
-        answer: Answer::Refused(number),
-        model: m,
-    }
-}
-
-fn accepted(m: Model, flight: bool, temperature: bool) -> Reply
-    ensures { λ r. ⌜ r ≡ accept flight temperature m ⌝ }
-{
-    Reply {
-        answer: Answer::Accepted(flight, temperature),
-        model: m,
-    }
 }
 
 fn command(m: Model, op: u32) -> Reply
@@ -96,9 +82,7 @@ fn refusal_number(d: Decoded) -> u32
 {
     match d {
         Decoded::Refusal(number) => number,
-        Decoded::Command(_) => 2,
-        Decoded::Read(_, _) => 2,
-        Decoded::Write(_, _) => 2,
+        _ => 2,
     }
 }
 
@@ -114,26 +98,41 @@ fn read(m: Model, d: Decoded, out: &mut [u8]) -> Reply
     accepted(after_read(m, op, n), false, false)
 }
 
-// One bus transaction: the bytes of a chip-enable window, and the output buffer.
-pub fn transaction(m: Model, frame: &[u8], out: &mut [u8]) -> Reply
-    ensures { λ r. ⌜ (r ≡ reply m (Call.transaction (now (frame .entry)) (now (out .entry)))) × (now (out .exit) ≡ output m (Call.transaction (now (frame .entry)) (now (out .entry)))) ⌝ }
+// A flash frame, else a read or a refusal. `b` is the frame from its second byte.
+fn flash(m: Model, d: Decoded, b: &[u8], out: &mut [u8], mem: &mut [u8]) -> Reply
+    requires { ⌜ (readFits d (length (now out)) ≡ true) × (frameFits d (length (now b)) (length (now out)) ≡ true) ⌝ }
+    ensures { λ r. ⌜ (r ≡ flashFrameReply m (now (b .entry)) (now (mem .entry)) d) × (now (out .exit) ≡ flashFrameOutput m (now (b .entry)) (now (out .entry)) (now (mem .entry)) d) × (now (mem .exit) ≡ flashFrameMemory m (now (b .entry)) (now (mem .entry)) d) ⌝ }
+{
+    let Decoded::Flash(op) = d else {
+        return read(m, d, out);
+    };
+    flash_frame(m, op, b, out, mem)
+}
+
+// A write, else a flash frame, a read or a refusal.
+fn words(m: Model, d: Decoded, b: &[u8], out: &mut [u8], mem: &mut [u8]) -> Reply
+    requires { ⌜ (sound m ≡ true) × (readFits d (length (now out)) ≡ true) × (frameFits d (length (now b)) (length (now out)) ≡ true) ⌝ }
+    ensures { λ r. ⌜ (r ≡ wordsReply m (now (b .entry)) (now (mem .entry)) d) × (now (out .exit) ≡ flashFrameOutput m (now (b .entry)) (now (out .entry)) (now (mem .entry)) d) × (now (mem .exit) ≡ flashFrameMemory m (now (b .entry)) (now (mem .entry)) d) ⌝ }
+{
+    let Decoded::Write(op, n) = d else {
+        return flash(m, d, b, out, mem);
+    };
+    write(m, b, op, n)
+}
+
+// One bus transaction: the bytes of a chip-enable window, the output buffer, and the user flash.
+pub fn transaction(m: Model, frame: &[u8], out: &mut [u8], mem: &mut [u8]) -> Reply
+    ensures { λ r. ⌜ (r ≡ reply m (Call.transaction (now (frame .entry)) (now (out .entry)) (now (mem .entry)))) × (now (out .exit) ≡ output m (Call.transaction (now (frame .entry)) (now (out .entry)) (now (mem .entry)))) × (now (mem .exit) ≡ memory m (Call.transaction (now (frame .entry)) (now (out .entry)) (now (mem .entry)))) ⌝ }
 {
     if is_sound(m) {
-        let d = frame::decode(frame, out.len());
-        match d {
-            Decoded::Command(op) => {
-                return command(m, op);
-            }
-            Decoded::Write(op, n) => {
-                return write(m, &frame[1..], op, n);
-            }
-            Decoded::Read(_, _) => {
-                return read(m, d, out);
-            }
-            Decoded::Refusal(_) => {
-                return read(m, d, out);
-            }
+        if frame.len() == 0 {
+            return refused(m, 1);
         }
+        let d = frame::decode(frame, out.len());
+        let Decoded::Command(op) = d else {
+            return words(m, d, &frame[1..], out, mem);
+        };
+        return command(m, op);
     }
     refused(m, 0)
 }

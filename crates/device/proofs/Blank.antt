@@ -9,7 +9,7 @@ use lib.Dec.{ltb, leb, eqb}
 use Rattle.unit.specs.Choice.{pick}
 use Rattle.unit.specs.Cases.{by-test}
 use Rattle.unit.specs.declared.Quanta.{Quanta}
-use Rattle.frame.specs.Frame.{isCommand, isWrite}
+use Rattle.frame.specs.Frame.{isCommand, isWrite, isFlash}
 use Rattle.device.specs.declared.Schedule.{Schedule}
 use Rattle.device.specs.declared.Temperature.{Temperature}
 use Rattle.device.specs.declared.Model.{Model}
@@ -24,9 +24,10 @@ use Rattle.device.specs.Tick.{sumsAfter, temperatureAfter, clockTicked, 
 use Rattle.device.specs.Stretch.{ticked}
 use Rattle.device.specs.Delivery.{flightGood, flightFailed, temperatureGood, temperatureFailed}
 use Rattle.device.specs.Bus.{startsTemperature, isEvent, commandBusy, notReady, commandUnset, temperatureEvent, eventFlight, eventTemperature}
-use Rattle.device.specs.Bus.{startedEvent, initialised, haltedModel, singleStarted, runModel, readModel}
+use Rattle.device.specs.Bus.{startedEvent, initialised, haltedModel, singleStarted, supplied, unsupplied, runModel, readModel}
+use Rattle.device.specs.FlashFrame.{flashModel}
 use Rattle.device.specs.Call.{Call, transaction, tick, flight, temperature, stretch, opcode, words, Row, table}
-use Rattle.device.specs.Call.{noFrame, notCarried, wrongLength, pastRegisters, shortOutput, whileBusy}
+use Rattle.device.specs.Call.{noFrame, notCarried, wrongLength, pastRegisters, shortOutput, whileBusy, supplyOff, unreachable, unerased}
 use Rattle.device.specs.Call.{badCalendar, notInitialised, badSetup, notAwaited, miscounted, tooLong}
 use Rattle.device.specs.Call.{anyLate, portFault, acceptedAnswer, acceptedModel}
 use Rattle.device.specs.Claim.{differences, startReported, named}
@@ -56,6 +57,7 @@ blank m =
       setup = m .setup;
       status = noBits;
       ready = m .ready;
+      regulator = m .regulator;
       flight = m .flight;
       temperature = unmeasured (m .temperature);
     }
@@ -89,7 +91,11 @@ command-same m op =
     (λ f. rw f
     (by-test (eqb op 10) (λ g. rw g (unfold blank unmeasured uncounted haltedModel halted in refl))
     (λ g. rw g
-    (by-test (isEvent op) (λ h. rw h (event-same m op)) (λ h. rw h (single-same m op))))))))
+    (by-test (eqb op 12) (λ i. rw i (unfold blank unmeasured uncounted supplied in refl))
+    (λ i. rw i
+    (by-test (eqb op 13) (λ j. rw j (unfold blank unmeasured uncounted unsupplied in refl))
+    (λ j. rw j
+    (by-test (isEvent op) (λ h. rw h (event-same m op)) (λ h. rw h (single-same m op))))))))))))
 
 write-same :
     (bytes : List ℕ) (op n : ℕ) (m : Model) →
@@ -102,15 +108,21 @@ unfolding blank unmeasured uncounted readModel
 read-same m a n =
     by-test (ltb 0xFE a) (λ e. rw e) (λ e. rw e (by-test (leb (a + n) 0xFE) (λ f. rw f) (λ f. rw f)))
 
+flash-same : (m : Model) (op : ℕ) → blank (flashModel m op) ≡ blank (flashModel (blank m) op)
+unfolding blank unmeasured uncounted flashModel
+flash-same m op = by-test (eqb op 0x90) (λ e. rw e) (λ e. rw e)
+
 transaction-same :
-    (m : Model) (f o : List ℕ) →
-    blank (acceptedModel m (transaction f o)) ≡ blank (acceptedModel (blank m) (transaction f o))
+    (m : Model) (f o x : List ℕ) →
+    blank (acceptedModel m (transaction f o x)) ≡ blank (acceptedModel (blank m) (transaction f o x))
 unfolding acceptedModel
-transaction-same m f o =
+transaction-same m f o x =
     by-test (isCommand (opcode f)) (λ c. rw c (command-same m (opcode f)))
     (λ c. by-test (isWrite (opcode f))
     (λ w. rw (c, w) (write-same (drop 1 f) (opcode f) (words f) m))
-    (λ w. rw (c, w) (read-same m (opcode f) (words f))))
+    (λ w. by-test (isFlash (opcode f))
+    (λ u. rw (c, w, u) (flash-same m (opcode f)))
+    (λ u. rw (c, w, u) (read-same m (opcode f) (words f)))))
 
 flight-same :
     (m : Model) (u d : List ℕ) →
@@ -161,7 +173,7 @@ alike f blanks m n {c} {d} e o = blanks m c ∙ ap (λ (p : Model). f p c) e ∙
 
 -- The model that an accepted call leaves.
 model-same : (m : Model) (c : Call) → blank (acceptedModel m c) ≡ blank (acceptedModel (blank m) c)
-model-same m (transaction f o) = transaction-same m f o
+model-same m (transaction f o x) = transaction-same m f o x
 model-same m tick = unfold acceptedModel in tick-same m
 model-same m (flight u d) = flight-same m u d
 model-same m (temperature w) = temperature-same m w
@@ -170,7 +182,7 @@ model-same m (stretch n) = unfold acceptedModel in stretch-same _ m
 model-other : (m : Model) {c d : Call} → OtherProbes c d → blank (acceptedModel m c) ≡ blank (acceptedModel m d)
 model-other m (same c) = refl
 model-other m (values v w l) = settles m v ∙ sym (settles m w)
-model-other m (buffer f o p l) = unfold acceptedModel in refl
+model-other m (buffer f o p x l) = unfold acceptedModel in refl
 
 pub model-alike :
     (m n : Model) {c d : Call} →
@@ -198,7 +210,7 @@ temperature-reports m w = delivery-reports (portFault m w)
 
 report-same : (m : Model) (c : Call) → reported (acceptedAnswer m c) ≡ reported (acceptedAnswer (blank m) c)
 unfolding reported startReported named acceptedAnswer blank
-report-same m (transaction f o) = refl
+report-same m (transaction f o x) = refl
 report-same m tick = refl
 report-same m (flight u d) = flight-reports m u d ∙ sym (flight-reports (blank m) u d)
 report-same m (temperature w) = temperature-reports m w ∙ sym (temperature-reports (blank m) w)
@@ -207,7 +219,7 @@ report-same m (stretch n) = refl
 report-other : (m : Model) {c d : Call} → OtherProbes c d → reported (acceptedAnswer m c) ≡ reported (acceptedAnswer m d)
 report-other m (same c) = refl
 report-other m (values v w l) = temperature-reports m v ∙ sym (temperature-reports m w)
-report-other m (buffer f o p l) = unfold acceptedAnswer in refl
+report-other m (buffer f o p x l) = unfold acceptedAnswer in refl
 
 pub report-alike :
     (m n : Model) {c d : Call} →
@@ -222,18 +234,18 @@ abbrev pub otherRows : Model → Call → List Row
 otherRows m c = drop 1 (table m c)
 
 rows-same : (m : Model) (c : Call) → otherRows m c ≡ otherRows (blank m) c
-unfolding table whileBusy badCalendar notInitialised badSetup notAwaited miscounted blank unmeasured uncounted commandBusy busy kindBusy awaits inEvent notReady commandUnset writeInvalid ticksAfter calendarWord
-rows-same m (transaction f o) = refl
+unfolding table whileBusy supplyOff unreachable unerased badCalendar notInitialised badSetup notAwaited miscounted blank unmeasured uncounted commandBusy busy kindBusy awaits inEvent notReady commandUnset writeInvalid ticksAfter calendarWord
+rows-same m (transaction f o x) = refl
 rows-same m tick = refl
 rows-same m (flight u d) = refl
 rows-same m (temperature w) = refl
 rows-same m (stretch n) = refl
 
 rows-other : (m : Model) {c d : Call} → OtherProbes c d → otherRows m c ≡ otherRows m d
-unfolding table noFrame notCarried wrongLength pastRegisters shortOutput whileBusy badCalendar notInitialised badSetup notAwaited miscounted tooLong
+unfolding table noFrame notCarried wrongLength pastRegisters shortOutput whileBusy supplyOff unreachable unerased badCalendar notInitialised badSetup notAwaited miscounted tooLong
 rows-other m (same c) = refl
 rows-other m (values v w l) = rw l
-rows-other m (buffer f o p l) = rw l
+rows-other m (buffer f o p x l) = rw l
 
 pub rows-alike : (m n : Model) {c d : Call} → blank m ≡ blank n → OtherProbes c d → otherRows m c ≡ otherRows n d
 rows-alike m n e o = alike otherRows rows-same m n e (rows-other n o)

@@ -27,7 +27,7 @@ use Rattle.device.specs.Bus.{flightStarted, flightEvent}
 use Rattle.device.proofs.Sound.{bounds-of, fails-alone}
 use Rattle.device.proofs.StatusMeaning.{kept}
 use Rattle.device.specs.Call.{flight, temperature, refused, verdict, table, firstOf, awaitedTold}
-use Rattle.device.specs.Call.{noFrame, notCarried, wrongLength, pastRegisters, shortOutput, whileBusy, badCalendar}
+use Rattle.device.specs.Call.{noFrame, notCarried, wrongLength, pastRegisters, shortOutput, whileBusy, supplyOff, unreachable, unerased, badCalendar}
 use Rattle.device.specs.Call.{notInitialised, badSetup, notAwaited, miscounted, tooLong}
 
 -- "an up list and a down list, each of H words ..; the unmeasured direction's list is empty"
@@ -70,7 +70,7 @@ pub awaited-flight :
     sound m ≡ true →
     (u d : List ℕ) →
     (awaitedTold m (m .flight .schedule) ≡ Value 0) ↔ (verdict m (flight u d) ≡ refused 10)
-unfolding awaitedTold verdict table firstOf noFrame notCarried wrongLength pastRegisters shortOutput whileBusy badCalendar notInitialised badSetup notAwaited miscounted tooLong
+unfolding awaitedTold verdict table firstOf noFrame notCarried wrongLength pastRegisters shortOutput whileBusy supplyOff unreachable unerased badCalendar notInitialised badSetup notAwaited miscounted tooLong
 awaited-flight m s u d =
     rw s
     (by-test (awaits (m .flight .schedule))
@@ -84,7 +84,7 @@ pub awaited-temperature :
     sound m ≡ true →
     (w : List ℕ) →
     (awaitedTold m (m .temperature .schedule) ≡ Value 0) ↔ (verdict m (temperature w) ≡ refused 10)
-unfolding awaitedTold verdict table firstOf noFrame notCarried wrongLength pastRegisters shortOutput whileBusy badCalendar notInitialised badSetup notAwaited miscounted tooLong
+unfolding awaitedTold verdict table firstOf noFrame notCarried wrongLength pastRegisters shortOutput whileBusy supplyOff unreachable unerased badCalendar notInitialised badSetup notAwaited miscounted tooLong
 awaited-temperature m s w =
     rw s
     (by-test (awaits (m .temperature .schedule))

@@ -9,9 +9,9 @@ use borrow.Author.Tests.{ltb-false, lt-ltb, le-ltb}
 use Rattle.unit.specs.Choice.{pick, either}
 use Rattle.unit.specs.Cases.{by-test}
 use Rattle.calendar.specs.Moment.{afterTicks}
-use Rattle.calendar.proofs.Laws.{passed}
 use Rattle.register.specs.Setup.{clockStands, hitCount, portCycle}
-use Rattle.frame.specs.Frame.{isCommand, isWrite, isRead}
+use Rattle.frame.specs.Frame.{isCommand, isWrite, isRead, isFlash}
+use Rattle.frame.proofs.Laws.{read-alone}
 use Rattle.measurement.specs.Limit.{openFrom}
 use Rattle.measurement.specs.Words.{six, four}
 use Rattle.device.specs.declared.Status.{Status}
@@ -25,7 +25,7 @@ use Rattle.device.specs.Stretch.{ticked, stretchReport}
 use Rattle.device.specs.Delivery.{flightGood, flightFailed, temperatureGood, temperatureFailed}
 use Rattle.device.specs.Bus.{readModel}
 use Rattle.device.specs.Call.{Call, transaction, tick, flight, temperature, stretch, opcode, words}
-use Rattle.device.specs.Call.{noFrame, notCarried, wrongLength, pastRegisters, shortOutput, whileBusy}
+use Rattle.device.specs.Call.{noFrame, notCarried, wrongLength, pastRegisters, shortOutput, whileBusy, supplyOff, unreachable, unerased}
 use Rattle.device.specs.Call.{badCalendar, notInitialised, badSetup, notAwaited, miscounted, tooLong}
 use Rattle.device.specs.Call.{table, Verdict, accepted, refused, firstOf, verdict, anyLate, anyOpen, portFault}
 use Rattle.device.specs.Call.{acceptedAnswer, acceptedModel, refuse, accept, replyBy, reply}
@@ -36,7 +36,7 @@ use Rattle.device.proofs.Stretch.{setup-ticked, clock-ticked}
 pub data Step (m : Model) : Call → Reply → Type 0 where
   refusal : (c : Call) (n : ℕ) → isTick c ≡ false → Step m c (refuse n m)
   -- a read leaves all but the status
-  reading : (f o : List ℕ) (s : Status) → Step m (transaction f o) (accept false false (withStatus m s))
+  reading : (f o x : List ℕ) (s : Status) → Step m (transaction f o x) (accept false false (withStatus m s))
   ticking :
       Step m tick
       (record {
@@ -73,24 +73,21 @@ pub data Step (m : Model) : Call → Reply → Type 0 where
         model = ticked n m;
       })
 
-read-alone : (op : ℕ) → isRead op ≡ true → (isCommand op ≡ false) × (isWrite op ≡ false)
-unfolding isRead isCommand isWrite
-read-alone op r =
-    let l : 0xB0 ≤ op = ltb-false op 0xB0 (passed (ltb op 0xB0) r .0) in
-    (rw (lt-ltb 0x0A op (omega arith)), rw (le-ltb op 0x30 (omega arith), lt-ltb 0x43 op (omega arith)))
-
 -- an accepted transaction is no refusal
-no-refusal : (m : Model) (f o : List ℕ) → isRefusal (acceptedAnswer m (transaction f o)) ≡ false
+pub no-refusal : (m : Model) (f o x : List ℕ) → isRefusal (acceptedAnswer m (transaction f o x)) ≡ false
 unfolding isRefusal acceptedAnswer
-no-refusal m f o =
-    by-test (isCommand (opcode f)) (λ c. rw c) (λ c. rw c (by-test (isWrite (opcode f)) (λ w. rw w) (λ w. rw w)))
+no-refusal m f o x =
+    by-test (isCommand (opcode f)) (λ c. rw c)
+    (λ c. rw c
+    (by-test (isWrite (opcode f)) (λ w. rw w)
+    (λ w. rw w (by-test (isFlash (opcode f)) (λ u. rw u) (λ u. rw u)))))
 
-read-step : (m : Model) (f o : List ℕ) → Step m (transaction f o) (accept false false (readModel m (opcode f) (words f)))
+read-step : (m : Model) (f o x : List ℕ) → Step m (transaction f o x) (accept false false (readModel m (opcode f) (words f)))
 unfolding readModel
-read-step m f o =
-    by-test (ltb 0xFE (opcode f)) (λ e. rw e (reading f o (m .status)))
+read-step m f o x =
+    by-test (ltb 0xFE (opcode f)) (λ e. rw e (reading f o x (m .status)))
     (λ e. rw e
-    (by-test (leb (opcode f + words f) 0xFE) (λ l. rw l (reading f o (m .status))) (λ l. rw l (reading f o noBits))))
+    (by-test (leb (opcode f + words f) 0xFE) (λ l. rw l (reading f o x (m .status))) (λ l. rw l (reading f o x noBits))))
 
 accepted-step :
     (m : Model) (c : Call) →
@@ -98,8 +95,8 @@ accepted-step :
     either (isRefusal (acceptedAnswer m c)) (isReading c) ≡ true →
     Step m c (record { answer = acceptedAnswer m c; model = acceptedModel m c })
 unfolding acceptedAnswer acceptedModel isReading tooLong
-accepted-step m (transaction f o) n p =
-    let (c, w) = read-alone (opcode f) (rw (no-refusal m f o) at p) in rw (c, w) (read-step m f o)
+accepted-step m (transaction f o x) n p =
+    let (c, w, u) = read-alone (opcode f) (rw (no-refusal m f o x) at p) in rw (c, w, u) (read-step m f o x)
 accepted-step m tick n p = ticking
 accepted-step m (flight u d) n p =
     by-test (anyLate m u d) (λ l. rw l (flight-failed u d n l)) (λ l. rw l (flight-good u d n l))
@@ -109,12 +106,12 @@ accepted-step m (stretch k) n p = stretching k (ltb-false 16384 k (n .row12))
 
 -- a sound model refuses no tick
 tick-accepted : (m : Model) → sound m ≡ true → verdict m tick ≡ accepted
-unfolding verdict firstOf table noFrame notCarried wrongLength pastRegisters shortOutput whileBusy badCalendar notInitialised badSetup notAwaited miscounted tooLong
+unfolding verdict firstOf table noFrame notCarried wrongLength pastRegisters shortOutput whileBusy supplyOff unreachable unerased badCalendar notInitialised badSetup notAwaited miscounted tooLong
 tick-accepted m v = rw v
 
 refused-other : (m : Model) (c : Call) (n : ℕ) → sound m ≡ true → verdict m c ≡ refused n → isTick c ≡ false
 unfolding isTick
-refused-other m (transaction f o) n v e = refl
+refused-other m (transaction f o x) n v e = refl
 refused-other m tick n v e = cc (tick-accepted m v)
 refused-other m (flight u d) n v e = refl
 refused-other m (temperature w) n v e = refl
@@ -140,7 +137,7 @@ stepped m c v = go (verdict m c) refl
 pub setup-kept : (m : Model) {c : Call} {r : Reply} → Step m c r → r .model .setup ≡ m .setup
 unfolding tickModel flightFailed flightGood temperatureFailed temperatureGood
 setup-kept m (refusal c n t) = refl
-setup-kept m (reading f o s) = refl
+setup-kept m (reading f o x s) = refl
 setup-kept m ticking = refl
 setup-kept m (flight-failed u d n l) = refl
 setup-kept m (flight-good u d n l) = refl
@@ -155,7 +152,7 @@ pub clock-step :
     r .model .clock ≡ afterTicks (ticksIn (record { call = c; answer = r .answer })) (m .clock)
 unfolding tickModel clockTicked flightFailed flightGood temperatureFailed temperatureGood isTick ticksIn stretchIn spanOf isRefusal afterTicks
 clock-step m (refusal c n t) e = rw t
-clock-step m (reading f o s) e = refl
+clock-step m (reading f o x s) e = refl
 clock-step m ticking e = rw e
 clock-step m (flight-failed u d n l) e = refl
 clock-step m (flight-good u d n l) e = refl

@@ -37,9 +37,10 @@ module _ (m : Model) where
       (runModel m 3 .clock ≡ m .clock) ×
       (runModel m 3 .setup ≡ m .setup) ×
       (runModel m 3 .status ≡ m .status) ×
-      (runModel m 3 .ready ≡ m .ready)
+      (runModel m 3 .ready ≡ m .ready) ×
+      (runModel m 3 .regulator ≡ m .regulator)
   unfolding runModel isEvent singleStarted
-  run-temperature = (refl, refl, refl, refl, refl, refl, refl, refl)
+  run-temperature = (refl, refl, refl, refl, refl, refl, refl, refl, refl)
 
   -- "07h runs both kinds, 08h differences, 09h temperatures.", with P and N of the set-up
   pub runs-differences :

@@ -32,7 +32,7 @@ use Rattle.device.specs.Bus.{flightStarted, flightEvent, haltedModel, re
 use Rattle.device.proofs.Sound.{bounds-of}
 use Rattle.device.specs.Stretch.{progress}
 use Rattle.device.specs.Call.{tick, flight, temperature, stretch, refuse, flightReply, temperatureReply, reply, replyBy, verdict, table, firstOf}
-use Rattle.device.specs.Call.{noFrame, notCarried, wrongLength, pastRegisters, shortOutput, whileBusy, badCalendar}
+use Rattle.device.specs.Call.{noFrame, notCarried, wrongLength, pastRegisters, shortOutput, whileBusy, supplyOff, unreachable, unerased, badCalendar}
 use Rattle.device.specs.Call.{notInitialised, badSetup, notAwaited, miscounted, tooLong, acceptedAnswer, acceptedModel}
 
 -- "A kind is awaited from its start"
@@ -325,7 +325,7 @@ module _ (m : Model) (s : sound m ≡ true) where
         answer = Ticked (reportOf (m .flight .schedule)) (reportOf (m .temperature .schedule));
         model = tickModel m;
       }
-  unfolding reply replyBy verdict table firstOf noFrame notCarried wrongLength pastRegisters shortOutput whileBusy badCalendar notInitialised badSetup notAwaited miscounted tooLong acceptedAnswer acceptedModel
+  unfolding reply replyBy verdict table firstOf noFrame notCarried wrongLength pastRegisters shortOutput whileBusy supplyOff unreachable unerased badCalendar notInitialised badSetup notAwaited miscounted tooLong acceptedAnswer acceptedModel
   reply-tick = rw s
 
   pub reply-stretch :
@@ -336,7 +336,7 @@ module _ (m : Model) (s : sound m ≡ true) where
         answer = Stretched (progress m n .flight) (progress m n .temperature);
         model = progress m n .model;
       })
-  unfolding reply replyBy verdict table firstOf noFrame notCarried wrongLength pastRegisters shortOutput whileBusy badCalendar notInitialised badSetup notAwaited miscounted tooLong acceptedAnswer acceptedModel progress
+  unfolding reply replyBy verdict table firstOf noFrame notCarried wrongLength pastRegisters shortOutput whileBusy supplyOff unreachable unerased badCalendar notInitialised badSetup notAwaited miscounted tooLong acceptedAnswer acceptedModel progress
   reply-stretch n = by-test (ltb 16384 n) (λ e. rw (s, e)) (λ e. rw (s, e))
 
   pub reply-flight :
@@ -345,7 +345,7 @@ module _ (m : Model) (s : sound m ≡ true) where
       ≡ pick (awaits (m .flight .schedule))
       (pick (flightMiscounted (m .flight) (hitCount (m .setup)) (length u) (length d)) (refuse 11 m) (flightReply m u d))
       (refuse 10 m)
-  unfolding reply replyBy verdict table firstOf noFrame notCarried wrongLength pastRegisters shortOutput whileBusy badCalendar notInitialised badSetup notAwaited miscounted tooLong flightReply
+  unfolding reply replyBy verdict table firstOf noFrame notCarried wrongLength pastRegisters shortOutput whileBusy supplyOff unreachable unerased badCalendar notInitialised badSetup notAwaited miscounted tooLong flightReply
   reply-flight u d =
       by-test (awaits (m .flight .schedule))
       (λ a. by-test (flightMiscounted (m .flight) (hitCount (m .setup)) (length u) (length d))
@@ -359,7 +359,7 @@ module _ (m : Model) (s : sound m ≡ true) where
       ≡ pick (awaits (m .temperature .schedule))
       (pick (eqb (length w) 4) (temperatureReply m w) (refuse 11 m))
       (refuse 10 m)
-  unfolding reply replyBy verdict table firstOf noFrame notCarried wrongLength pastRegisters shortOutput whileBusy badCalendar notInitialised badSetup notAwaited miscounted tooLong temperatureReply
+  unfolding reply replyBy verdict table firstOf noFrame notCarried wrongLength pastRegisters shortOutput whileBusy supplyOff unreachable unerased badCalendar notInitialised badSetup notAwaited miscounted tooLong temperatureReply
   reply-temperature w =
       by-test (awaits (m .temperature .schedule))
       (λ a. by-test (eqb (length w) 4) (λ c. rw (s, a, c)) (λ c. rw (s, a, c)))

@@ -12,7 +12,7 @@ use Rattle.calendar.specs.Words.{twelveIn, clockFrom}
 use Rattle.calendar.proofs.Laws.{tick-form}
 use Rattle.calendar.proofs.RoundTrip.{reads-form}
 use Rattle.register.specs.Setup.{clockStands}
-use Rattle.frame.specs.Frame.{isCommand, isWrite, wordAt}
+use Rattle.frame.specs.Frame.{isCommand, isWrite, wordAt, isFlash}
 use Rattle.device.specs.declared.Model.{Model}
 use Rattle.device.specs.Model.{sound, freshModel, freshWith, resetModel}
 use Rattle.device.specs.Registers.{calendarWord}
@@ -20,7 +20,8 @@ use Rattle.device.specs.Write.{covers, written, clockAfter, writeModel}
 use Rattle.device.specs.Tick.{clockTicked, tickModel}
 use Rattle.device.specs.Stretch.{ticked}
 use Rattle.device.specs.Delivery.{flightGood, flightFailed, temperatureGood, temperatureFailed}
-use Rattle.device.specs.Bus.{isEvent, startedEvent, initialised, haltedModel, singleStarted, runModel, readModel}
+use Rattle.device.specs.FlashFrame.{flashModel}
+use Rattle.device.specs.Bus.{supplied, unsupplied, isEvent, startedEvent, initialised, haltedModel, singleStarted, runModel, readModel}
 use Rattle.device.specs.Call.{Call, transaction, tick, flight, temperature, stretch, opcode, words}
 use Rattle.device.specs.Call.{Verdict, accepted, refused, verdict, anyLate, portFault, acceptedAnswer, acceptedModel, replyBy, reply}
 use Rattle.device.specs.Claim.{isRefusal, after, log}
@@ -31,7 +32,7 @@ abbrev formOf : Model → Bool
 formOf m = m .clock .twelve
 
 run-form : (m : Model) (op : ℕ) → formOf (runModel m op) ≡ pick (eqb op 4) false (formOf m)
-unfolding runModel resetModel freshWith start initialised haltedModel startedEvent singleStarted
+unfolding runModel resetModel freshWith start initialised haltedModel supplied unsupplied startedEvent singleStarted
 run-form m op =
     by-test (eqb op 4) (λ e. rw e)
     (λ e. rw e
@@ -39,7 +40,11 @@ run-form m op =
     (λ f. rw f
     (by-test (eqb op 10) (λ g. rw g)
     (λ g. rw g
-    (by-test (isEvent op) (λ h. rw h) (λ h. rw h (by-test (eqb op 3) (λ i. rw i) (λ i. rw i)))))))))
+    (by-test (eqb op 12) (λ j. rw j)
+    (λ j. rw j
+    (by-test (eqb op 13) (λ k. rw k)
+    (λ k. rw k
+    (by-test (isEvent op) (λ h. rw h) (λ h. rw h (by-test (eqb op 3) (λ i. rw i) (λ i. rw i)))))))))))))
 
 write-form : (m : Model) (bytes : List ℕ) (op n : ℕ) →
     sound m ≡ true →
@@ -62,6 +67,10 @@ unfolding ticked
 ticked-form zero m b = refl
 ticked-form (suc n) m b = tick-model-form (ticked n m) (ticked-bounds n m b) ∙ ticked-form n m b
 
+flash-form : (m : Model) (op : ℕ) → formOf (flashModel m op) ≡ formOf m
+unfolding flashModel
+flash-form m op = by-test (eqb op 0x90) (λ e. rw e) (λ e. rw e)
+
 -- What one accepted call does to the form, and that its answer is no refusal.
 abbrev Given : Model → Call → Type 0
 Given m c =
@@ -69,11 +78,13 @@ Given m c =
 
 given : (m : Model) (c : Call) → sound m ≡ true → Given m c
 unfolding acceptedModel acceptedAnswer formGiven isRefusal flightFailed flightGood temperatureFailed temperatureGood
-given m (transaction f o) s =
+given m (transaction f o x) s =
     by-test (isCommand (opcode f)) (λ c. rw c (run-form m (opcode f), refl))
     (λ c. by-test (isWrite (opcode f))
     (λ w. rw (c, w) (write-form m (drop 1 f) (opcode f) (words f) s, refl))
-    (λ w. rw (c, w) (read-form m (opcode f) (words f), refl)))
+    (λ w. by-test (isFlash (opcode f))
+    (λ u. rw (c, w, u) (flash-form m (opcode f), refl))
+    (λ u. rw (c, w, u) (read-form m (opcode f) (words f), refl))))
 given m tick s = (tick-model-form m (bounds-of m s), refl)
 given m (flight u d) s = by-test (anyLate m u d) (λ e. rw e (refl, refl)) (λ e. rw e (refl, refl))
 given m (temperature w) s = by-test (portFault m w) (λ e. rw e (refl, refl)) (λ e. rw e (refl, refl))

@@ -16,16 +16,16 @@ runs-differences : runs differences 8 ≡ true
 unfolding runs
 runs-differences = refl
 
-claim : EventClaim (after freshModel setUp) 8 [] overGroups
+claim : EventClaim (after freshModel setUp) 8 [] [] overGroups
 claim =
-    third-demand setUp 8 [] overGroups (omega arith) (omega arith) continuous-accepted (groups-read .0)
+    third-demand setUp 8 [] [] overGroups (omega arith) (omega arith) continuous-accepted (groups-read .0)
 
 abbrev told : History
-told = toldOf differences (after freshModel setUp) 8 [] overGroups
+told = toldOf differences (after freshModel setUp) 8 [] [] overGroups
 
 abbrev kind :
     KindClaim differences ((after freshModel setUp) .setup) told
-    (after (reply (after freshModel setUp) (command 8 []) .model) overGroups)
+    (after (reply (after freshModel setUp) (command 8 [] []) .model) overGroups)
 kind = claim .kinds differences runs-differences
 
 planned : plannedStarts (record { period = 16384; count = 1; continuous = true }) 16384 ≡ 0 ∷ 16384 ∷ []

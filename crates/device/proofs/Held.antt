@@ -334,7 +334,7 @@ pub held-step :
     KindHeld k (m .setup) (note k (m .setup) (record { call = c; answer = r .answer }) h) (r .model)
 unfolding note noteTicks stretchIn spanOf isRefusal named isTick isDelivery isGood isFailed startReported failureReported reportOf tickModel flightFailed flightGood temperatureFailed temperatureGood
 held-step differences m h (refusal c n t) i = rw (note-refused differences (m .setup) c n h t) i
-held-step differences m h (reading f o s) i = i
+held-step differences m h (reading f o x s) i = i
 held-step differences m h ticking i = flight-ticks m h i
 held-step differences m h (flight-failed u d n l) i = flight-fails m h i u d n l
 held-step differences m h (flight-good u d n l) i = flight-adds m h i u d n l
@@ -342,7 +342,7 @@ held-step differences m h (ports-failed w n l) i = i
 held-step differences m h (ports-good w n l) i = i
 held-step differences m h (stretching n l) i = stretch-held differences m h n n l (omega arith) i
 held-step temperatures m h (refusal c n t) i = rw (note-refused temperatures (m .setup) c n h t) i
-held-step temperatures m h (reading f o s) i = i
+held-step temperatures m h (reading f o x s) i = i
 held-step temperatures m h ticking i = ports-tick m h i
 held-step temperatures m h (flight-failed u d n l) i = i
 held-step temperatures m h (flight-good u d n l) i = i

@@ -22,6 +22,9 @@ pub mod Calls
 pub mod Held
 pub mod Third
 pub mod Groups
+pub mod FlashRun
+pub mod Supply
+pub mod FlashMeaning
 pub mod Form
 pub mod Blank
 pub mod Probes

@@ -58,16 +58,16 @@ idle-means op =
     (λ h f. rw (e, f) (holds (inr h)))
     (λ o f. rw (e, f) (fails true (⊎-elim n o))))
 
--- "commands 00h to 05h and 07h to 0Ah"
+-- "commands 00h to 05h and 07h to 0Ah", and 0Ch and 0Dh (Note 8)
 abbrev pub commands : List ℕ
-commands = 0 ∷ 1 ∷ 2 ∷ 3 ∷ 4 ∷ 5 ∷ 7 ∷ 8 ∷ 9 ∷ 10 ∷ []
+commands = 0 ∷ 1 ∷ 2 ∷ 3 ∷ 4 ∷ 5 ∷ 7 ∷ 8 ∷ 9 ∷ 10 ∷ 12 ∷ 13 ∷ []
 
 -- "00h to 03h, 07h to 09h before Initialize"
 pub before-initialize :
     (m : Model) →
     m .ready ≡ false →
     map (notReady m) commands
-    ≡ true ∷ true ∷ true ∷ true ∷ false ∷ false ∷ true ∷ true ∷ true ∷ false ∷ []
+    ≡ true ∷ true ∷ true ∷ true ∷ false ∷ false ∷ true ∷ true ∷ true ∷ false ∷ false ∷ false ∷ []
 unfolding notReady startsFlight startsTemperature
 before-initialize m e = rw e
 
@@ -79,13 +79,13 @@ after-initialize m op e = rw e
 -- runs both kinds, 08h differences, 09h temperatures."
 pub starts-flight :
     map startsFlight commands
-    ≡ true ∷ true ∷ true ∷ false ∷ false ∷ false ∷ true ∷ true ∷ false ∷ false ∷ []
+    ≡ true ∷ true ∷ true ∷ false ∷ false ∷ false ∷ true ∷ true ∷ false ∷ false ∷ false ∷ false ∷ []
 unfolding startsFlight
 starts-flight = refl
 
 pub starts-temperature :
     map startsTemperature commands
-    ≡ false ∷ false ∷ false ∷ true ∷ false ∷ false ∷ true ∷ false ∷ true ∷ false ∷ []
+    ≡ false ∷ false ∷ false ∷ true ∷ false ∷ false ∷ true ∷ false ∷ true ∷ false ∷ false ∷ false ∷ []
 unfolding startsTemperature
 starts-temperature = refl
 
@@ -117,7 +117,7 @@ pub unset-means :
     temperatureUnset (m .setup) ≡ t →
     clockStands (m .setup) ≡ e →
     map (commandUnset m) commands
-    ≡ f ∷ f ∷ f ∷ t ∷ false ∷ false ∷ either e (either f t) ∷ either e f ∷ either e t ∷ false ∷ []
+    ≡ f ∷ f ∷ f ∷ t ∷ false ∷ false ∷ either e (either f t) ∷ either e f ∷ either e t ∷ false ∷ false ∷ false ∷ []
 unfolding commandUnset eventSideUnset flightSideUnset temperatureSideUnset startsFlight startsTemperature isEvent
 unset-means m f t e x y z = rw (x, y, z) (computed f t e)
   where
@@ -133,8 +133,10 @@ unset-means m f t e x y z = rw (x, y, z) (computed f t e)
         pick e true (pick f true false) ∷
         pick e true t ∷
         false ∷
+        false ∷
+        false ∷
         []
-        ≡ f ∷ f ∷ f ∷ t ∷ false ∷ false ∷ either e (either f t) ∷ either e f ∷ either e t ∷ false ∷ []
+        ≡ f ∷ f ∷ f ∷ t ∷ false ∷ false ∷ either e (either f t) ∷ either e f ∷ either e t ∷ false ∷ false ∷ false ∷ []
     computed true t true = refl
     computed true t false = refl
     computed false t true = refl

@@ -17,7 +17,7 @@ use Rattle.calendar.proofs.Facts.{start-valid}
 use Rattle.register.specs.Setup.{hitCount, timeout, portCycle, clockStands, eventContinuous, differencePeriod, differenceCount, temperaturePeriod, temperatureCount}
 use Rattle.register.proofs.Laws.{hits-bounds, cycle-below, difference-period-bounds, difference-count-bounds}
 use Rattle.register.proofs.Laws.{temperature-period-bounds, temperature-count-bounds}
-use Rattle.frame.specs.Frame.{isCommand, isWrite}
+use Rattle.frame.specs.Frame.{isCommand, isWrite, isFlash}
 use Rattle.measurement.specs.Limit.{lateFrom, openFrom, anyFrom}
 use Rattle.measurement.specs.Words.{six, four, average, sixTotal, plusEach}
 use Rattle.measurement.specs.Difference.{biased}
@@ -36,9 +36,10 @@ use Rattle.device.specs.Tick.{sumAfter, sumsAfter, lostFlight, flightTic
 use Rattle.device.specs.Stretch.{ticked}
 use Rattle.device.specs.Delivery.{sameCount, flightMiscounted, goodSum, goodSums, goodFlight, flightGood, flightFailed, temperatureGood, temperatureFailed}
 use Rattle.device.specs.Bus.{mustBeIdle, commandBusy, startsFlight, startsTemperature, isEvent, flightStarted, flightEvent, temperatureEvent}
-use Rattle.device.specs.Bus.{eventFlight, eventTemperature, startedEvent, initialised, haltedModel, singleStarted, runModel, readModel}
+use Rattle.device.specs.Bus.{eventFlight, eventTemperature, startedEvent, initialised, haltedModel, singleStarted, supplied, unsupplied, runModel, readModel}
+use Rattle.device.specs.FlashFrame.{flashModel}
 use Rattle.device.specs.Call.{Call, transaction, tick, flight, temperature, stretch, Verdict, accepted, refused, opcode, words}
-use Rattle.device.specs.Call.{flightFits, anyLate, portFault, acceptedModel, miscounted, whileBusy, notAwaited, badCalendar, verdict, reply, replyBy}
+use Rattle.device.specs.Call.{flightFits, anyLate, portFault, acceptedModel, miscounted, whileBusy, supplyOff, unreachable, unerased, notAwaited, badCalendar, verdict, reply, replyBy}
 use Rattle.device.proofs.Table.{NoneHolds, none-holds, negated, picked}
 use Rattle.device.specs.Event.{countsSound, waitSound, balanceSound, scheduleSound, noSchedule, awaits, inEvent, startsLeft, begins}
 use Rattle.device.specs.Event.{beginsGroup, leftAfter, waitAfter, startedAfter, settledAfter, goodAfter, fails, single, eventStart}
@@ -750,12 +751,14 @@ unfolding commandBusy mustBeIdle
 must-idle m op i e f = rw (e, f) at i
 
 run-bounds : (m : Model) (op : ℕ) → commandBusy m op ≡ false → Bounds m → Bounds (runModel m op)
-unfolding runModel resetModel initialised
+unfolding runModel resetModel initialised supplied unsupplied
 run-bounds m op i b =
     picked Bounds (eqb op 4) (λ _. fresh-bounds noBits)
     (λ e. chosen Bounds (eqb op 5) (record { clock = b .clock; flight = b .flight; temperature = b .temperature })
     (picked Bounds (eqb op 10) (λ _. halted-model-bounds m b)
-    (λ f. chosen Bounds (isEvent op) (started-event-bounds m op b) (single-started-bounds m op (must-idle m op i e f) b))))
+    (λ f. chosen Bounds (eqb op 12) (record { clock = b .clock; flight = b .flight; temperature = b .temperature })
+    (chosen Bounds (eqb op 13) (record { clock = b .clock; flight = b .flight; temperature = b .temperature })
+    (chosen Bounds (isEvent op) (started-event-bounds m op b) (single-started-bounds m op (must-idle m op i e f) b))))))
 
 read-bounds : (m : Model) (a n : ℕ) → Bounds m → Bounds (readModel m a n)
 unfolding readModel
@@ -763,6 +766,11 @@ read-bounds m a n b =
     chosen Bounds (ltb 0xFE a) b
     (chosen Bounds (leb (a + n) 0xFE) b
     (record { clock = b .clock; flight = b .flight; temperature = b .temperature }))
+
+flash-bounds : (m : Model) (op : ℕ) → Bounds m → Bounds (flashModel m op)
+unfolding flashModel
+flash-bounds m op b =
+    chosen Bounds (eqb op 0x90) b (record { clock = b .clock; flight = b .flight; temperature = b .temperature })
 
 -- A delivered list that row 11 lets pass has at most H words.
 same-count : (measured : Bool) (hits given : ℕ) → sameCount measured hits given ≡ true → given ≤ hits
@@ -858,17 +866,19 @@ temperature-bounds m w n e b =
     }))
 
 transaction-bounds :
-    (m : Model) (f o : List ℕ) →
-    whileBusy m (transaction f o) ≡ false →
-    badCalendar m (transaction f o) ≡ false →
+    (m : Model) (f o x : List ℕ) →
+    whileBusy m (transaction f o x) ≡ false →
+    badCalendar m (transaction f o x) ≡ false →
     Bounds m →
-    Bounds (acceptedModel m (transaction f o))
-unfolding acceptedModel whileBusy badCalendar
-transaction-bounds m f o i e b =
+    Bounds (acceptedModel m (transaction f o x))
+unfolding acceptedModel whileBusy supplyOff unreachable unerased badCalendar
+transaction-bounds m f o x i e b =
     by-test (isCommand (opcode f)) (λ c. rw c (run-bounds m (opcode f) (rw c at i) b))
     (λ c. by-test (isWrite (opcode f))
     (λ w. rw (c, w) (write-bounds (drop 1 f) (opcode f) (words f) m (rw (c, w) at e) b))
-    (λ w. rw (c, w) (read-bounds m (opcode f) (words f) b)))
+    (λ w. by-test (isFlash (opcode f))
+    (λ u. rw (c, w, u) (flash-bounds m (opcode f) b))
+    (λ u. rw (c, w, u) (read-bounds m (opcode f) (words f) b))))
 
 pub ticked-bounds : (n : ℕ) (m : Model) → Bounds m → Bounds (ticked n m)
 unfolding ticked
@@ -876,7 +886,7 @@ ticked-bounds zero m b = b
 ticked-bounds (suc n) m b = tick-model-bounds (ticked n m) (ticked-bounds n m b)
 
 accepted-bounds : (m : Model) (c : Call) → NoneHolds m c → Bounds m → Bounds (acceptedModel m c)
-accepted-bounds m (transaction f o) n b = transaction-bounds m f o (n .row6) (n .row7) b
+accepted-bounds m (transaction f o x) n b = transaction-bounds m f o x (n .row6) (n .row7) b
 accepted-bounds m tick n b = unfold acceptedModel in tick-model-bounds m b
 accepted-bounds m (flight u d) n b = flight-bounds m u d (n .row10) (n .row11) b
 accepted-bounds m (temperature w) n b = temperature-bounds m w (n .row10) (n .row11) b

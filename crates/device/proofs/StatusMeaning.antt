@@ -37,20 +37,24 @@ pub record Places (s : Status) (w : ℕ) : Type 0 where
   pub alarm : w / 16384 % 2 ≡ bit (s .alarm)
   pub tof : w / 4096 % 2 ≡ bit (s .tof)
   pub te : w / 2048 % 2 ≡ bit (s .te)
+  pub ldo : w / 1024 % 2 ≡ bit (s .ldo)
   pub tofevtmg : w / 512 % 2 ≡ bit (s .tofevtmg)
   pub tempevtmg : w / 256 % 2 ≡ bit (s .tempevtmg)
+  pub flash : w / 128 % 2 ≡ bit (s .flash)
   pub halt : w / 32 % 2 ≡ bit (s .halt)
   pub init : w / 8 % 2 ≡ bit (s .init)
   pub por : w / 4 % 2 ≡ bit (s .por)
   pub others :
-      (w / 8192 % 2 ≡ 0) × (w / 1024 % 2 ≡ 0) × (w / 64 % 4 ≡ 0) × (w / 16 % 2 ≡ 0) × (w % 4 ≡ 0) × (w < 65536)
+      (w / 8192 % 2 ≡ 0) × (w / 64 % 2 ≡ 0) × (w / 16 % 2 ≡ 0) × (w % 4 ≡ 0) × (w < 65536)
 
 status-sum :
     (s : Status) →
     statusWord s
     ≡ 32768 * bit (s .timeout) + 16384 * bit (s .alarm) + 4096 * bit (s .tof) + 2048 * bit (s .te) +
+    1024 * bit (s .ldo) +
     512 * bit (s .tofevtmg) +
     256 * bit (s .tempevtmg) +
+    128 * bit (s .flash) +
     32 * bit (s .halt) +
     8 * bit (s .init) +
     4 * bit (s .por)
@@ -62,14 +66,16 @@ status-sum s =
       weighed (s .alarm) 0x4000,
       weighed (s .tof) 0x1000,
       weighed (s .te) 0x0800,
+      weighed (s .ldo) 0x0400,
       weighed (s .tofevtmg) 0x0200,
       weighed (s .tempevtmg) 0x0100,
+      weighed (s .flash) 0x0080,
       weighed (s .halt) 0x0020,
       weighed (s .init) 0x0008,
       weighed (s .por) 0x0004,
     )
 
--- "Status bits: TO 15, AF 14, TOF 12, TE 11, TOF_EVTMG 9, TEMP_EVTMG 8, HALT 5, INIT 3, POR 2."
+-- "Status bits: TO 15, AF 14, TOF 12, TE 11, TOF_EVTMG 9, TEMP_EVTMG 8, HALT 5, INIT 3, POR 2."; LDO 10 and FLASH 7 (Note 8)
 pub status-means : (s : Status) → Places s (statusWord s)
 status-means s =
     omega (
@@ -79,8 +85,10 @@ status-means s =
       bit-below (s .alarm),
       bit-below (s .tof),
       bit-below (s .te),
+      bit-below (s .ldo),
       bit-below (s .tofevtmg),
       bit-below (s .tempevtmg),
+      bit-below (s .flash),
       bit-below (s .halt),
       bit-below (s .init),
       bit-below (s .por),
@@ -116,8 +124,10 @@ onlyBits timeout tof te tofevtmg tempevtmg =
       alarm = false;
       tof = tof;
       te = te;
+      ldo = false;
       tofevtmg = tofevtmg;
       tempevtmg = tempevtmg;
+      flash = false;
       halt = false;
       init = false;
       por = false;
@@ -180,8 +190,10 @@ pub record Joined (s t u : Status) : Type 0 where
   pub alarm : bit (u .alarm) ≡ max (bit (s .alarm)) (bit (t .alarm))
   pub tof : bit (u .tof) ≡ max (bit (s .tof)) (bit (t .tof))
   pub te : bit (u .te) ≡ max (bit (s .te)) (bit (t .te))
+  pub ldo : bit (u .ldo) ≡ max (bit (s .ldo)) (bit (t .ldo))
   pub tofevtmg : bit (u .tofevtmg) ≡ max (bit (s .tofevtmg)) (bit (t .tofevtmg))
   pub tempevtmg : bit (u .tempevtmg) ≡ max (bit (s .tempevtmg)) (bit (t .tempevtmg))
+  pub flash : bit (u .flash) ≡ max (bit (s .flash)) (bit (t .flash))
   pub halt : bit (u .halt) ≡ max (bit (s .halt)) (bit (t .halt))
   pub init : bit (u .init) ≡ max (bit (s .init)) (bit (t .init))
   pub por : bit (u .por) ≡ max (bit (s .por)) (bit (t .por))
@@ -194,8 +206,10 @@ joined-means s t =
       alarm = both-bits (s .alarm) (t .alarm);
       tof = both-bits (s .tof) (t .tof);
       te = both-bits (s .te) (t .te);
+      ldo = both-bits (s .ldo) (t .ldo);
       tofevtmg = both-bits (s .tofevtmg) (t .tofevtmg);
       tempevtmg = both-bits (s .tempevtmg) (t .tempevtmg);
+      flash = both-bits (s .flash) (t .flash);
       halt = both-bits (s .halt) (t .halt);
       init = both-bits (s .init) (t .init);
       por = both-bits (s .por) (t .por);
@@ -214,13 +228,16 @@ pub initialised-means :
             alarm = m .status .alarm;
             tof = m .status .tof;
             te = m .status .te;
+            ldo = m .status .ldo;
             tofevtmg = m .status .tofevtmg;
             tempevtmg = m .status .tempevtmg;
+            flash = m .status .flash;
             halt = m .status .halt;
             init = true;
             por = m .status .por;
           };
       ready = true;
+      regulator = m .regulator;
       flight = m .flight;
       temperature = m .temperature;
     }
@@ -236,8 +253,10 @@ pub halted-status :
       alarm = m .status .alarm;
       tof = m .status .tof;
       te = m .status .te;
+      ldo = m .status .ldo;
       tofevtmg = m .status .tofevtmg;
       tempevtmg = m .status .tempevtmg;
+      flash = m .status .flash;
       halt = true;
       init = m .status .init;
       por = m .status .por;
@@ -249,6 +268,7 @@ pub record HaltKeeps (m n : Model) : Type 0 where
   pub clock : n .clock ≡ m .clock
   pub setup : n .setup ≡ m .setup
   pub ready : n .ready ≡ m .ready
+  pub regulator : n .regulator ≡ m .regulator
   pub ups : n .flight .ups ≡ m .flight .ups
   pub downs : n .flight .downs ≡ m .flight .downs
   pub difference : n .flight .difference ≡ m .flight .difference
@@ -265,6 +285,7 @@ halt-keeps m =
       clock = refl;
       setup = refl;
       ready = refl;
+      regulator = refl;
       ups = refl;
       downs = refl;
       difference = refl;

@@ -10,11 +10,11 @@ use Rattle.unit.specs.Cases.{by-test}
 use Rattle.measurement.specs.Mean.{All}
 use Rattle.device.specs.declared.Model.{Model}
 use Rattle.device.specs.Model.{sound}
-use Rattle.device.specs.Call.{Call, Row, accepted, refused, verdict, firstOf, table, reply, replyBy, output, outputBy, bufferOf}
-use Rattle.device.specs.Call.{noFrame, notCarried, wrongLength, pastRegisters, shortOutput, whileBusy, badCalendar}
+use Rattle.device.specs.Call.{Call, Row, accepted, refused, verdict, firstOf, table, reply, replyBy, output, outputBy, bufferOf, memory, memoryBy, memoryOf}
+use Rattle.device.specs.Call.{noFrame, notCarried, wrongLength, pastRegisters, shortOutput, whileBusy, supplyOff, unreachable, unerased, badCalendar}
 use Rattle.device.specs.Call.{notInitialised, badSetup, notAwaited, miscounted, tooLong}
 use Rattle.device.specs.Call.{transaction, tick, flight, temperature, stretch, anyLate, portFault, acceptedAnswer, numberIn}
-use Rattle.frame.specs.Frame.{isCommand, isWrite}
+use Rattle.frame.specs.Frame.{isCommand, isWrite, isFlash}
 use lib.ListN.{getD}
 
 -- Whichever is picked, with what the test showed.
@@ -29,7 +29,7 @@ negated false e = sym e
 -- "Checked in this order"
 pub numbers :
     (m : Model) (c : Call) →
-    map (λ (r : Row). r .number) (table m c) ≡ 0 ∷ 1 ∷ 2 ∷ 3 ∷ 4 ∷ 5 ∷ 6 ∷ 7 ∷ 8 ∷ 9 ∷ 10 ∷ 11 ∷ 12 ∷ []
+    map (λ (r : Row). r .number) (table m c) ≡ 0 ∷ 1 ∷ 2 ∷ 3 ∷ 4 ∷ 5 ∷ 6 ∷ 15 ∷ 16 ∷ 17 ∷ 7 ∷ 8 ∷ 9 ∷ 10 ∷ 11 ∷ 12 ∷ []
 unfolding table
 numbers m c = refl
 
@@ -67,6 +67,9 @@ pub record NoneHolds (m : Model) (c : Call) : Type 0 where
   pub row4 : pastRegisters c ≡ false
   pub row5 : shortOutput c ≡ false
   pub row6 : whileBusy m c ≡ false
+  pub row15 : supplyOff m c ≡ false
+  pub row16 : unreachable c ≡ false
+  pub row17 : unerased c ≡ false
   pub row7 : badCalendar m c ≡ false
   pub row8 : notInitialised m c ≡ false
   pub row9 : badSetup m c ≡ false
@@ -86,6 +89,9 @@ none-holds m c e =
       row4 = search;
       row5 = search;
       row6 = search;
+      row15 = search;
+      row16 = search;
+      row17 = search;
       row7 = search;
       row8 = search;
       row9 = search;
@@ -103,12 +109,18 @@ pub refused-buffer : (m : Model) (c : Call) (n : ℕ) → verdict m c ≡ refuse
 unfolding output outputBy
 refused-buffer m c n e = rw e
 
+-- "a refusal or any other frame leaves the whole memory as it was" (Note 8)
+pub refused-memory : (m : Model) (c : Call) (n : ℕ) → verdict m c ≡ refused n → memory m c ≡ memoryOf c
+unfolding memory memoryBy
+refused-memory m c n e = rw e
+
 -- "A refusal answers its number": the number in the answer is the verdict's.
 accepted-number : (m : Model) (c : Call) → numberIn (acceptedAnswer m c) ≡ []
 unfolding numberIn acceptedAnswer
-accepted-number m (transaction f o) =
+accepted-number m (transaction f o x) =
     picked (λ a. numberIn a ≡ []) (isCommand (getD f 0 0)) (λ _. refl)
-    (λ _. picked (λ a. numberIn a ≡ []) (isWrite (getD f 0 0)) (λ _. refl) (λ _. refl))
+    (λ _. picked (λ a. numberIn a ≡ []) (isWrite (getD f 0 0)) (λ _. refl)
+    (λ _. picked (λ a. numberIn a ≡ []) (isFlash (getD f 0 0)) (λ _. refl) (λ _. refl)))
 accepted-number m tick = refl
 accepted-number m (flight u d) = picked (λ a. numberIn a ≡ []) (anyLate m u d) (λ _. refl) (λ _. refl)
 accepted-number m (temperature w) = picked (λ a. numberIn a ≡ []) (portFault m w) (λ _. refl) (λ _. refl)

@@ -29,7 +29,7 @@ use Rattle.device.specs.Model.{sound, kindBusy, busy, freshModel}
 use Rattle.device.specs.Registers.{calendarWord, registerWord}
 use Rattle.device.specs.Bus.{startsFlight, startsTemperature, isEvent, eventSideUnset, commandUnset, flightEvent, temperatureEvent, eventFlight, eventTemperature, startedEvent, runModel}
 use Rattle.device.specs.Call.{Call, transaction, tick, flight, temperature, stretch, noFrame, notCarried, wrongLength, pastRegisters, shortOutput}
-use Rattle.device.specs.Call.{whileBusy, badSetup, table, firstOf, accepted, verdict, acceptedAnswer, acceptedModel, accept, replyBy, reply}
+use Rattle.device.specs.Call.{whileBusy, supplyOff, unreachable, unerased, badSetup, table, firstOf, accepted, verdict, acceptedAnswer, acceptedModel, accept, replyBy, reply}
 use Rattle.device.specs.Claim.{Kind, differences, temperatures, Plan, planOf, periodOf, countOf, Entry, History, note, noteTick, noteGood, noteFailed, history, after, log, onlyReads, isTick, isDelivery, isGood, isFailed}
 use Rattle.device.specs.Claim.{startReported, beginning, runs, isRefusal, spanOf, stretchIn, named, noteTicks, ticksIn, tickCount}
 use Rattle.device.specs.Claim.{command, toldOf, StillBusy, ThirdDemand}
@@ -100,14 +100,14 @@ by-event G op e x y z =
     (λ k _. let q : op ≡ 9 = omega (arith, ltb-false) in rw q z))
 
 accepted-event :
-    (m : Model) (op : ℕ) (o : List ℕ) →
+    (m : Model) (op : ℕ) (o x : List ℕ) →
     isEvent op ≡ true →
-    verdict m (command op o) ≡ accepted →
-    reply m (command op o) ≡ accept (startsFlight op) (startsTemperature op) (startedEvent m op)
+    verdict m (command op o x) ≡ accepted →
+    reply m (command op o x) ≡ accept (startsFlight op) (startsTemperature op) (startedEvent m op)
 unfolding reply replyBy acceptedAnswer acceptedModel isCommand runModel isEvent
-accepted-event m op o e =
+accepted-event m op o x e =
     by-event
-    (λ op. verdict m (command op o) ≡ accepted → reply m (command op o) ≡ accept (startsFlight op) (startsTemperature op) (startedEvent m op))
+    (λ op. verdict m (command op o x) ≡ accepted → reply m (command op o x) ≡ accept (startsFlight op) (startsTemperature op) (startedEvent m op))
     op e (λ v. rw v) (λ v. rw v) (λ v. rw v)
 
 event-command : (op : ℕ) → isEvent op ≡ true → isCommand op ≡ true
@@ -116,13 +116,13 @@ event-command op e = by-event (λ op. isCommand op ≡ true) op e refl refl refl
 
 -- an event command is refused while the clock stands
 clock-runs :
-    (m : Model) (op : ℕ) (o : List ℕ) →
+    (m : Model) (op : ℕ) (o x : List ℕ) →
     isEvent op ≡ true →
-    verdict m (command op o) ≡ accepted →
+    verdict m (command op o x) ≡ accepted →
     clockStands (m .setup) ≡ false
 unfolding badSetup commandUnset eventSideUnset
-clock-runs m op o e v =
-    let u = rw (event-command op e, e) at (none-holds m (command op o) v .row9) in
+clock-runs m op o x e v =
+    let u = rw (event-command op e, e) at (none-holds m (command op o x) v .row9) in
     neither-picked (clockStands (m .setup)) u .0
 
 -- the kinds that 01 names are the kinds that the command starts
@@ -174,7 +174,7 @@ noted-ticks p (suc n) r h = omega (arith, noted-ticks p n r h)
 
 no-span : (k : Kind) (c : Call) → isDelivery k c ≡ true → spanOf c ≡ 0
 unfolding isDelivery spanOf
-no-span k (transaction f o) d = refl
+no-span k (transaction f o x) d = refl
 no-span k tick d = refl
 no-span k (flight u d) e = refl
 no-span k (temperature w) d = refl
@@ -231,38 +231,38 @@ held-busy temperatures s h m c i =
     (λ f. rw f (by-test (awaits (m .temperature .schedule)) (λ e. rw e) (λ e. rw e))))
 
 write-busy : (m : Model) → sound m ≡ true → busy m ≡ true → StillBusy m
-unfolding verdict firstOf table noFrame notCarried wrongLength pastRegisters shortOutput whileBusy isCommand isWrite notWhole pastEnd
-write-busy m s b a high low o from to =
+unfolding verdict firstOf table noFrame notCarried wrongLength pastRegisters shortOutput whileBusy supplyOff unreachable unerased isCommand isWrite notWhole pastEnd
+write-busy m s b a high low o x from to =
     rw (
       s,
       b,
-      lt-ltb 0x0A a (omega arith),
+      lt-ltb 0x0D a (omega arith),
       le-ltb a 0x30 from,
       le-ltb 0x43 a to,
     )
 
 pub third-demand : ThirdDemand
 unfolding startedEvent beginning
-third-demand before op o later from to v p =
+third-demand before op o x later from to v p =
     let e : isEvent op ≡ true = event-codes op from to in
     let m : Model = after freshModel before in
-    let n : Model = reply m (command op o) .model in
+    let n : Model = reply m (command op o x) .model in
     let s : sound m ≡ true = sound-after before freshModel fresh-sound in
-    let k : sound n ≡ true = keeps-sound m (command op o) s in
-    let q = accepted-event m op o e v in
+    let k : sound n ≡ true = keeps-sound m (command op o x) s in
+    let q = accepted-event m op o x e v in
     let t : ℕ = tickCount (log n later) in
     let c : (after n later) .clock ≡ afterTicks t (m .clock) =
-    all-ticks later n (ap (λ (r : Reply). clockStands (r .model .setup)) q ∙ clock-runs m op o e v) k p ∙
+    all-ticks later n (ap (λ (r : Reply). clockStands (r .model .setup)) q ∙ clock-runs m op o x e v) k p ∙
     ap (λ (r : Reply). afterTicks (t) (r .model .clock)) q in
-    let h : (j : Kind) → runs j op ≡ true → KindHeld j (m .setup) (toldOf j m op o later) (after n later) =
+    let h : (j : Kind) → runs j op ≡ true → KindHeld j (m .setup) (toldOf j m op o x later) (after n later) =
     λ j r.
-    all-held j (m .setup) later n (beginning j (reply m (command op o) .answer))
+    all-held j (m .setup) later n (beginning j (reply m (command op o x) .answer))
     (ap (λ (r : Reply). r .model .setup) q) k p
     (subst (λ (r : Reply). KindHeld j (m .setup) (beginning j (r .answer)) (r .model)) (sym q) (held-start j m op r)) in
     record {
       kinds = λ j r. held-claim j _ _ _ (h j r);
       ticks =
-          λ j. all-counted j (m .setup) later n (beginning j (reply m (command op o) .answer)) ∙ zero-add (t);
+          λ j. all-counted j (m .setup) later n (beginning j (reply m (command op o x) .answer)) ∙ zero-add (t);
       clock =
           record {
             valid = bounds-of (after n later) (sound-after later n k) .clock;

@@ -11,7 +11,7 @@ use Rattle.calendar.specs.Words.{bcd, hundredthsOf, word30, word31, hourDigits,
 use Rattle.calendar.specs.Words.{timeDigits, hourFits, digitsFit, wordsValid, alarmValid}
 use Rattle.register.specs.Setup.{factory, alarmWord, flightUnset, temperatureUnset, clockStands, eventContinuous}
 use Rattle.register.specs.Setup.{differenceCount, temperatureCount, differencePeriod, temperaturePeriod, hitCount, timeout, portCycle}
-use Rattle.frame.specs.Frame.{isCommand, isWrite, isRead, notWhole, pastEnd, wordAt}
+use Rattle.frame.specs.Frame.{isCommand, isWrite, isFlash, isRead, notWhole, pastEnd, wordAt}
 use Rattle.measurement.specs.Limit.{lateFrom, openFrom, shortBelow, anyWord, anyFrom, anyBelow, anyFault}
 use Rattle.measurement.specs.Words.{wordOrZero, six, four, sixTotal, average, filled, portPair, portPairs, plusEach}
 use Rattle.measurement.specs.Difference.{differenceWord, biased, differenceMean, portMean}
@@ -28,7 +28,7 @@ use Rattle.device.specs.Bus.{temperatureSideUnset, eventSideUnset, comma
 use Rattle.device.specs.Bus.{eventTemperature, startedEvent, initialised, runModel}
 use Rattle.device.specs.Stretch.{ticked, scheduleTicked, lastTick, stretchReport}
 use Rattle.device.specs.Call.{Call, transaction, tick, flight, temperature, stretch, anyLate, anyOpen, portFault, accepted, verdict, firstOf, table, reply, replyBy}
-use Rattle.device.specs.Call.{noFrame, notCarried, wrongLength, pastRegisters, shortOutput, whileBusy, badCalendar}
+use Rattle.device.specs.Call.{noFrame, notCarried, wrongLength, pastRegisters, shortOutput, whileBusy, supplyOff, unreachable, unerased, badCalendar}
 use Rattle.device.specs.Call.{notInitialised, badSetup, notAwaited, miscounted, tooLong, acceptedAnswer, acceptedModel}
 use Rattle.device.specs.Claim.{differences, periodOf, countOf, planOf, isTick, stretchIn, spanOf, tickCount, ticksIn as ticksCounted}
 use Rattle.device.specs.Claim.{Entry, after, log, isRefusal, isReading, onlyReads, command, startReported, named}
@@ -37,35 +37,35 @@ use Rattle.device.specs.Probes.{OtherProbesIn, same, values, none, next,
 -- PL and DPL, TP, Initialize
 abbrev pub before : List Call
 before =
-    transaction (0x38 ∷ 0x01 ∷ 0x10 ∷ []) [] ∷
-    transaction (0x40 ∷ 0x00 ∷ 0x60 ∷ []) [] ∷
-    transaction (0x05 ∷ []) [] ∷
+    transaction (0x38 ∷ 0x01 ∷ 0x10 ∷ []) [] [] ∷
+    transaction (0x40 ∷ 0x00 ∷ 0x60 ∷ []) [] [] ∷
+    transaction (0x05 ∷ []) [] [] ∷
     []
 
 -- a tick, a stretch and a read of the status
 abbrev pub later : List Call
-later = tick ∷ stretch 2 ∷ transaction (0xFE ∷ 0 ∷ 0 ∷ []) (0 ∷ 0 ∷ []) ∷ []
+later = tick ∷ stretch 2 ∷ transaction (0xFE ∷ 0 ∷ 0 ∷ []) (0 ∷ 0 ∷ []) [] ∷ []
 
 pub events-accepted :
-    map (λ (op : ℕ). verdict (after freshModel before) (command op [])) (7 ∷ 8 ∷ 9 ∷ [])
+    map (λ (op : ℕ). verdict (after freshModel before) (command op [] [])) (7 ∷ 8 ∷ 9 ∷ [])
     ≡ accepted ∷ accepted ∷ accepted ∷ []
-unfolding after reply replyBy verdict firstOf table noFrame notCarried wrongLength pastRegisters shortOutput whileBusy badCalendar notInitialised badSetup notAwaited miscounted tooLong acceptedModel freshModel freshWith porBit noFlight noTemperature noSchedule start factory sound sumFits flightSound temperatureSound scheduleSound clockValid dateFits timeFits leap monthLength kindBusy busy awaits inEvent isCommand isWrite isRead notWhole pastEnd wordAt calendarWord word30 word31 hourDigits word32 word33 bcd hundredthsOf minuteIn twelveIn hourNamed hourIn ticksIn clockFrom timeDigits hourFits digitsFit wordsValid alarmValid alarmWord covers written withWord setupAfter ticksAfter clockAfter writeInvalid writeModel mustBeIdle startsFlight startsTemperature isEvent commandBusy notReady flightSideUnset temperatureSideUnset eventSideUnset commandUnset flightUnset temperatureUnset eventContinuous startsLeft beginsGroup goodAfter countsSound waitSound balanceSound sumAfter sumsAfter flightTicked clockStands runModel initialised joined
+unfolding after reply replyBy verdict firstOf table noFrame notCarried wrongLength pastRegisters shortOutput whileBusy supplyOff unreachable unerased badCalendar notInitialised badSetup notAwaited miscounted tooLong acceptedModel freshModel freshWith porBit noFlight noTemperature noSchedule start factory sound sumFits flightSound temperatureSound scheduleSound clockValid dateFits timeFits leap monthLength kindBusy busy awaits inEvent isCommand isWrite isFlash isRead notWhole pastEnd wordAt calendarWord word30 word31 hourDigits word32 word33 bcd hundredthsOf minuteIn twelveIn hourNamed hourIn ticksIn clockFrom timeDigits hourFits digitsFit wordsValid alarmValid alarmWord covers written withWord setupAfter ticksAfter clockAfter writeInvalid writeModel mustBeIdle startsFlight startsTemperature isEvent commandBusy notReady flightSideUnset temperatureSideUnset eventSideUnset commandUnset flightUnset temperatureUnset eventContinuous startsLeft beginsGroup goodAfter countsSound waitSound balanceSound sumAfter sumsAfter flightTicked clockStands runModel initialised joined
 events-accepted = refl
 
 -- such a list, and none of its calls is refused
 pub later-read :
-    (map (λ (op : ℕ). onlyReads (log (reply (after freshModel before) (command op []) .model) later)) (7 ∷ 8 ∷ 9 ∷ [])
+    (map (λ (op : ℕ). onlyReads (log (reply (after freshModel before) (command op [] []) .model) later)) (7 ∷ 8 ∷ 9 ∷ [])
     ≡ true ∷ true ∷ true ∷ []) ×
-    (map (λ (e : Entry). isRefusal (e .answer)) (log (reply (after freshModel before) (command 7 []) .model) later)
+    (map (λ (e : Entry). isRefusal (e .answer)) (log (reply (after freshModel before) (command 7 [] []) .model) later)
     ≡ false ∷ false ∷ false ∷ [])
-unfolding ticked begins leftAfter waitAfter startedAfter log onlyReads isRefusal isReading acceptedAnswer startedEvent eventFlight flightEvent eventStart differenceCount eventTemperature temperatureEvent temperatureCount tickModel clockTicked tickClock flightAfter fails tickSchedule settledAfter temperatureAfter after reply replyBy verdict firstOf table noFrame notCarried wrongLength pastRegisters shortOutput whileBusy badCalendar notInitialised badSetup notAwaited miscounted tooLong acceptedModel freshModel freshWith porBit noFlight noTemperature noSchedule start factory sound sumFits flightSound temperatureSound scheduleSound clockValid dateFits timeFits leap monthLength kindBusy busy awaits inEvent isCommand isWrite isRead notWhole pastEnd wordAt calendarWord word30 word31 hourDigits word32 word33 bcd hundredthsOf minuteIn twelveIn hourNamed hourIn ticksIn clockFrom timeDigits hourFits digitsFit wordsValid alarmValid alarmWord covers written withWord setupAfter ticksAfter clockAfter writeInvalid writeModel mustBeIdle startsFlight startsTemperature isEvent commandBusy notReady flightSideUnset temperatureSideUnset eventSideUnset commandUnset flightUnset temperatureUnset eventContinuous startsLeft beginsGroup goodAfter countsSound waitSound balanceSound sumAfter sumsAfter flightTicked clockStands runModel initialised joined
+unfolding ticked begins leftAfter waitAfter startedAfter log onlyReads isRefusal isReading acceptedAnswer startedEvent eventFlight flightEvent eventStart differenceCount eventTemperature temperatureEvent temperatureCount tickModel clockTicked tickClock flightAfter fails tickSchedule settledAfter temperatureAfter after reply replyBy verdict firstOf table noFrame notCarried wrongLength pastRegisters shortOutput whileBusy supplyOff unreachable unerased badCalendar notInitialised badSetup notAwaited miscounted tooLong acceptedModel freshModel freshWith porBit noFlight noTemperature noSchedule start factory sound sumFits flightSound temperatureSound scheduleSound clockValid dateFits timeFits leap monthLength kindBusy busy awaits inEvent isCommand isWrite isFlash isRead notWhole pastEnd wordAt calendarWord word30 word31 hourDigits word32 word33 bcd hundredthsOf minuteIn twelveIn hourNamed hourIn ticksIn clockFrom timeDigits hourFits digitsFit wordsValid alarmValid alarmWord covers written withWord setupAfter ticksAfter clockAfter writeInvalid writeModel mustBeIdle startsFlight startsTemperature isEvent commandBusy notReady flightSideUnset temperatureSideUnset eventSideUnset commandUnset flightUnset temperatureUnset eventContinuous startsLeft beginsGroup goodAfter countsSound waitSound balanceSound sumAfter sumsAfter flightTicked clockStands runModel initialised joined
 later-read = (refl, refl)
 
 -- An event of both kinds, with a delivery of each.
 abbrev pub withProbes : List ℕ → List Call
 withProbes w =
     before ++
-    (command 7 [] ∷ temperature w ∷ flight (20000000 ∷ []) (19000000 ∷ []) ∷ tick ∷ stretch 2 ∷ [])
+    (command 7 [] [] ∷ temperature w ∷ flight (20000000 ∷ []) (19000000 ∷ []) ∷ tick ∷ stretch 2 ∷ [])
 
 -- four whole ports, and four open ones
 abbrev pub whole : List ℕ
@@ -88,44 +88,44 @@ pub probes-seen :
     map (λ (w : List ℕ). map (registerWord (after freshModel (withProbes w))) (0xC5 ∷ 0xD4 ∷ 0xE2 ∷ 0xE4 ∷ 0xE5 ∷ 0xE7 ∷ 0xEF ∷ []))
     (whole ∷ cut ∷ [])
     ≡ (305 ∷ 289 ∷ 15 ∷ 1 ∷ 15 ∷ 61 ∷ 1 ∷ []) ∷ (305 ∷ 289 ∷ 15 ∷ 1 ∷ 15 ∷ 0xFFFF ∷ 0 ∷ []) ∷ []
-unfolding startReported named stretchReport lastTick scheduleTicked reportOf registerWord flightWord temperatureWord half settle goodFlight goodSum goodDifference flightGood temperatureGood temperatureFailed goodSums six four average sixTotal filled portPairs portPair plusEach wordOrZero biased differenceWord differenceMean portMean anyLate anyOpen portFault anyFault anyFrom anyBelow anyWord shortBelow lateFrom openFrom hitCount timeout portCycle flightMiscounted sameCount differencePeriod temperaturePeriod ticked begins leftAfter waitAfter startedAfter log onlyReads isRefusal isReading acceptedAnswer startedEvent eventFlight flightEvent eventStart differenceCount eventTemperature temperatureEvent temperatureCount tickModel clockTicked tickClock flightAfter fails tickSchedule settledAfter temperatureAfter after reply replyBy verdict firstOf table noFrame notCarried wrongLength pastRegisters shortOutput whileBusy badCalendar notInitialised badSetup notAwaited miscounted tooLong acceptedModel freshModel freshWith porBit noFlight noTemperature noSchedule start factory sound sumFits flightSound temperatureSound scheduleSound clockValid dateFits timeFits leap monthLength kindBusy busy awaits inEvent isCommand isWrite isRead notWhole pastEnd wordAt calendarWord word30 word31 hourDigits word32 word33 bcd hundredthsOf minuteIn twelveIn hourNamed hourIn ticksIn clockFrom timeDigits hourFits digitsFit wordsValid alarmValid alarmWord covers written withWord setupAfter ticksAfter clockAfter writeInvalid writeModel mustBeIdle startsFlight startsTemperature isEvent commandBusy notReady flightSideUnset temperatureSideUnset eventSideUnset commandUnset flightUnset temperatureUnset eventContinuous startsLeft beginsGroup goodAfter countsSound waitSound balanceSound sumAfter sumsAfter flightTicked clockStands runModel initialised joined
+unfolding startReported named stretchReport lastTick scheduleTicked reportOf registerWord flightWord temperatureWord half settle goodFlight goodSum goodDifference flightGood temperatureGood temperatureFailed goodSums six four average sixTotal filled portPairs portPair plusEach wordOrZero biased differenceWord differenceMean portMean anyLate anyOpen portFault anyFault anyFrom anyBelow anyWord shortBelow lateFrom openFrom hitCount timeout portCycle flightMiscounted sameCount differencePeriod temperaturePeriod ticked begins leftAfter waitAfter startedAfter log onlyReads isRefusal isReading acceptedAnswer startedEvent eventFlight flightEvent eventStart differenceCount eventTemperature temperatureEvent temperatureCount tickModel clockTicked tickClock flightAfter fails tickSchedule settledAfter temperatureAfter after reply replyBy verdict firstOf table noFrame notCarried wrongLength pastRegisters shortOutput whileBusy supplyOff unreachable unerased badCalendar notInitialised badSetup notAwaited miscounted tooLong acceptedModel freshModel freshWith porBit noFlight noTemperature noSchedule start factory sound sumFits flightSound temperatureSound scheduleSound clockValid dateFits timeFits leap monthLength kindBusy busy awaits inEvent isCommand isWrite isFlash isRead notWhole pastEnd wordAt calendarWord word30 word31 hourDigits word32 word33 bcd hundredthsOf minuteIn twelveIn hourNamed hourIn ticksIn clockFrom timeDigits hourFits digitsFit wordsValid alarmValid alarmWord covers written withWord setupAfter ticksAfter clockAfter writeInvalid writeModel mustBeIdle startsFlight startsTemperature isEvent commandBusy notReady flightSideUnset temperatureSideUnset eventSideUnset commandUnset flightUnset temperatureUnset eventContinuous startsLeft beginsGroup goodAfter countsSound waitSound balanceSound sumAfter sumsAfter flightTicked clockStands runModel initialised joined
 probes-seen = refl
 
 -- and the command's answer reports a start
 pub start-seen :
     map (λ (f : Flow). f .started) (flowThrough freshModel (withProbes cut))
     ≡ false ∷ false ∷ false ∷ true ∷ false ∷ false ∷ false ∷ false ∷ []
-unfolding flowThrough flowOf startReported named stretchReport lastTick scheduleTicked reportOf registerWord flightWord temperatureWord half settle goodFlight goodSum goodDifference flightGood temperatureGood temperatureFailed goodSums six four average sixTotal filled portPairs portPair plusEach wordOrZero biased differenceWord differenceMean portMean anyLate anyOpen portFault anyFault anyFrom anyBelow anyWord shortBelow lateFrom openFrom hitCount timeout portCycle flightMiscounted sameCount differencePeriod temperaturePeriod ticked begins leftAfter waitAfter startedAfter log onlyReads isRefusal isReading acceptedAnswer startedEvent eventFlight flightEvent eventStart differenceCount eventTemperature temperatureEvent temperatureCount tickModel clockTicked tickClock flightAfter fails tickSchedule settledAfter temperatureAfter after reply replyBy verdict firstOf table noFrame notCarried wrongLength pastRegisters shortOutput whileBusy badCalendar notInitialised badSetup notAwaited miscounted tooLong acceptedModel freshModel freshWith porBit noFlight noTemperature noSchedule start factory sound sumFits flightSound temperatureSound scheduleSound clockValid dateFits timeFits leap monthLength kindBusy busy awaits inEvent isCommand isWrite isRead notWhole pastEnd wordAt calendarWord word30 word31 hourDigits word32 word33 bcd hundredthsOf minuteIn twelveIn hourNamed hourIn ticksIn clockFrom timeDigits hourFits digitsFit wordsValid alarmValid alarmWord covers written withWord setupAfter ticksAfter clockAfter writeInvalid writeModel mustBeIdle startsFlight startsTemperature isEvent commandBusy notReady flightSideUnset temperatureSideUnset eventSideUnset commandUnset flightUnset temperatureUnset eventContinuous startsLeft beginsGroup goodAfter countsSound waitSound balanceSound sumAfter sumsAfter flightTicked clockStands runModel initialised joined
+unfolding flowThrough flowOf startReported named stretchReport lastTick scheduleTicked reportOf registerWord flightWord temperatureWord half settle goodFlight goodSum goodDifference flightGood temperatureGood temperatureFailed goodSums six four average sixTotal filled portPairs portPair plusEach wordOrZero biased differenceWord differenceMean portMean anyLate anyOpen portFault anyFault anyFrom anyBelow anyWord shortBelow lateFrom openFrom hitCount timeout portCycle flightMiscounted sameCount differencePeriod temperaturePeriod ticked begins leftAfter waitAfter startedAfter log onlyReads isRefusal isReading acceptedAnswer startedEvent eventFlight flightEvent eventStart differenceCount eventTemperature temperatureEvent temperatureCount tickModel clockTicked tickClock flightAfter fails tickSchedule settledAfter temperatureAfter after reply replyBy verdict firstOf table noFrame notCarried wrongLength pastRegisters shortOutput whileBusy supplyOff unreachable unerased badCalendar notInitialised badSetup notAwaited miscounted tooLong acceptedModel freshModel freshWith porBit noFlight noTemperature noSchedule start factory sound sumFits flightSound temperatureSound scheduleSound clockValid dateFits timeFits leap monthLength kindBusy busy awaits inEvent isCommand isWrite isFlash isRead notWhole pastEnd wordAt calendarWord word30 word31 hourDigits word32 word33 bcd hundredthsOf minuteIn twelveIn hourNamed hourIn ticksIn clockFrom timeDigits hourFits digitsFit wordsValid alarmValid alarmWord covers written withWord setupAfter ticksAfter clockAfter writeInvalid writeModel mustBeIdle startsFlight startsTemperature isEvent commandBusy notReady flightSideUnset temperatureSideUnset eventSideUnset commandUnset flightUnset temperatureUnset eventContinuous startsLeft beginsGroup goodAfter countsSound waitSound balanceSound sumAfter sumsAfter flightTicked clockStands runModel initialised joined
 start-seen = refl
 
 -- A continuous event of differences, N = 1, so that each start begins a group: a delivery with a late word, and a good one in the
 -- tick at P. 42h is at 0100h (ET_CONT).
 abbrev pub setUp : List Call
-setUp = before ++ (transaction (0x42 ∷ 0x01 ∷ 0x00 ∷ []) [] ∷ [])
+setUp = before ++ (transaction (0x42 ∷ 0x01 ∷ 0x00 ∷ []) [] [] ∷ [])
 
 abbrev pub overGroups : List Call
 overGroups =
     flight (33554432 ∷ []) (19000000 ∷ []) ∷ stretch 16384 ∷ flight (20000000 ∷ []) (18000000 ∷ []) ∷ []
 
-pub continuous-accepted : verdict (after freshModel setUp) (command 8 []) ≡ accepted
-unfolding startReported named stretchReport lastTick scheduleTicked reportOf registerWord flightWord temperatureWord half settle goodFlight goodSum goodDifference flightGood temperatureGood temperatureFailed goodSums six four average sixTotal filled portPairs portPair plusEach wordOrZero biased differenceWord differenceMean portMean anyLate anyOpen portFault anyFault anyFrom anyBelow anyWord shortBelow lateFrom openFrom hitCount timeout portCycle flightMiscounted sameCount differencePeriod temperaturePeriod ticked begins leftAfter waitAfter startedAfter log onlyReads isRefusal isReading acceptedAnswer startedEvent eventFlight flightEvent eventStart differenceCount eventTemperature temperatureEvent temperatureCount tickModel clockTicked tickClock flightAfter fails tickSchedule settledAfter temperatureAfter after reply replyBy verdict firstOf table noFrame notCarried wrongLength pastRegisters shortOutput whileBusy badCalendar notInitialised badSetup notAwaited miscounted tooLong acceptedModel freshModel freshWith porBit noFlight noTemperature noSchedule start factory sound sumFits flightSound temperatureSound scheduleSound clockValid dateFits timeFits leap monthLength kindBusy busy awaits inEvent isCommand isWrite isRead notWhole pastEnd wordAt calendarWord word30 word31 hourDigits word32 word33 bcd hundredthsOf minuteIn twelveIn hourNamed hourIn ticksIn clockFrom timeDigits hourFits digitsFit wordsValid alarmValid alarmWord covers written withWord setupAfter ticksAfter clockAfter writeInvalid writeModel mustBeIdle startsFlight startsTemperature isEvent commandBusy notReady flightSideUnset temperatureSideUnset eventSideUnset commandUnset flightUnset temperatureUnset eventContinuous startsLeft beginsGroup goodAfter countsSound waitSound balanceSound sumAfter sumsAfter flightTicked clockStands runModel initialised joined isTick stretchIn spanOf lostFlight lostDifference flightFailed
+pub continuous-accepted : verdict (after freshModel setUp) (command 8 [] []) ≡ accepted
+unfolding startReported named stretchReport lastTick scheduleTicked reportOf registerWord flightWord temperatureWord half settle goodFlight goodSum goodDifference flightGood temperatureGood temperatureFailed goodSums six four average sixTotal filled portPairs portPair plusEach wordOrZero biased differenceWord differenceMean portMean anyLate anyOpen portFault anyFault anyFrom anyBelow anyWord shortBelow lateFrom openFrom hitCount timeout portCycle flightMiscounted sameCount differencePeriod temperaturePeriod ticked begins leftAfter waitAfter startedAfter log onlyReads isRefusal isReading acceptedAnswer startedEvent eventFlight flightEvent eventStart differenceCount eventTemperature temperatureEvent temperatureCount tickModel clockTicked tickClock flightAfter fails tickSchedule settledAfter temperatureAfter after reply replyBy verdict firstOf table noFrame notCarried wrongLength pastRegisters shortOutput whileBusy supplyOff unreachable unerased badCalendar notInitialised badSetup notAwaited miscounted tooLong acceptedModel freshModel freshWith porBit noFlight noTemperature noSchedule start factory sound sumFits flightSound temperatureSound scheduleSound clockValid dateFits timeFits leap monthLength kindBusy busy awaits inEvent isCommand isWrite isFlash isRead notWhole pastEnd wordAt calendarWord word30 word31 hourDigits word32 word33 bcd hundredthsOf minuteIn twelveIn hourNamed hourIn ticksIn clockFrom timeDigits hourFits digitsFit wordsValid alarmValid alarmWord covers written withWord setupAfter ticksAfter clockAfter writeInvalid writeModel mustBeIdle startsFlight startsTemperature isEvent commandBusy notReady flightSideUnset temperatureSideUnset eventSideUnset commandUnset flightUnset temperatureUnset eventContinuous startsLeft beginsGroup goodAfter countsSound waitSound balanceSound sumAfter sumsAfter flightTicked clockStands runModel initialised joined isTick stretchIn spanOf lostFlight lostDifference flightFailed
 continuous-accepted = refl
 
 pub plan-is :
     planOf differences ((after freshModel setUp) .setup) ≡ record { period = 16384; count = 1; continuous = true }
-unfolding startReported named stretchReport lastTick scheduleTicked reportOf registerWord flightWord temperatureWord half settle goodFlight goodSum goodDifference flightGood temperatureGood temperatureFailed goodSums six four average sixTotal filled portPairs portPair plusEach wordOrZero biased differenceWord differenceMean portMean anyLate anyOpen portFault anyFault anyFrom anyBelow anyWord shortBelow lateFrom openFrom hitCount timeout portCycle flightMiscounted sameCount differencePeriod temperaturePeriod ticked begins leftAfter waitAfter startedAfter log onlyReads isRefusal isReading acceptedAnswer startedEvent eventFlight flightEvent eventStart differenceCount eventTemperature temperatureEvent temperatureCount tickModel clockTicked tickClock flightAfter fails tickSchedule settledAfter temperatureAfter after reply replyBy verdict firstOf table noFrame notCarried wrongLength pastRegisters shortOutput whileBusy badCalendar notInitialised badSetup notAwaited miscounted tooLong acceptedModel freshModel freshWith porBit noFlight noTemperature noSchedule start factory sound sumFits flightSound temperatureSound scheduleSound clockValid dateFits timeFits leap monthLength kindBusy busy awaits inEvent isCommand isWrite isRead notWhole pastEnd wordAt calendarWord word30 word31 hourDigits word32 word33 bcd hundredthsOf minuteIn twelveIn hourNamed hourIn ticksIn clockFrom timeDigits hourFits digitsFit wordsValid alarmValid alarmWord covers written withWord setupAfter ticksAfter clockAfter writeInvalid writeModel mustBeIdle startsFlight startsTemperature isEvent commandBusy notReady flightSideUnset temperatureSideUnset eventSideUnset commandUnset flightUnset temperatureUnset eventContinuous startsLeft beginsGroup goodAfter countsSound waitSound balanceSound sumAfter sumsAfter flightTicked clockStands runModel initialised joined isTick stretchIn spanOf lostFlight lostDifference flightFailed periodOf countOf
+unfolding startReported named stretchReport lastTick scheduleTicked reportOf registerWord flightWord temperatureWord half settle goodFlight goodSum goodDifference flightGood temperatureGood temperatureFailed goodSums six four average sixTotal filled portPairs portPair plusEach wordOrZero biased differenceWord differenceMean portMean anyLate anyOpen portFault anyFault anyFrom anyBelow anyWord shortBelow lateFrom openFrom hitCount timeout portCycle flightMiscounted sameCount differencePeriod temperaturePeriod ticked begins leftAfter waitAfter startedAfter log onlyReads isRefusal isReading acceptedAnswer startedEvent eventFlight flightEvent eventStart differenceCount eventTemperature temperatureEvent temperatureCount tickModel clockTicked tickClock flightAfter fails tickSchedule settledAfter temperatureAfter after reply replyBy verdict firstOf table noFrame notCarried wrongLength pastRegisters shortOutput whileBusy supplyOff unreachable unerased badCalendar notInitialised badSetup notAwaited miscounted tooLong acceptedModel freshModel freshWith porBit noFlight noTemperature noSchedule start factory sound sumFits flightSound temperatureSound scheduleSound clockValid dateFits timeFits leap monthLength kindBusy busy awaits inEvent isCommand isWrite isFlash isRead notWhole pastEnd wordAt calendarWord word30 word31 hourDigits word32 word33 bcd hundredthsOf minuteIn twelveIn hourNamed hourIn ticksIn clockFrom timeDigits hourFits digitsFit wordsValid alarmValid alarmWord covers written withWord setupAfter ticksAfter clockAfter writeInvalid writeModel mustBeIdle startsFlight startsTemperature isEvent commandBusy notReady flightSideUnset temperatureSideUnset eventSideUnset commandUnset flightUnset temperatureUnset eventContinuous startsLeft beginsGroup goodAfter countsSound waitSound balanceSound sumAfter sumsAfter flightTicked clockStands runModel initialised joined isTick stretchIn spanOf lostFlight lostDifference flightFailed periodOf countOf
 plan-is = refl
 
 -- Its calls are accepted, and hold 16,384 ticks.
 pub groups-read :
-    (onlyReads (log (reply (after freshModel setUp) (command 8 []) .model) overGroups) ≡ true) ×
-    (tickCount (log (reply (after freshModel setUp) (command 8 []) .model) overGroups) ≡ 16384)
-unfolding startReported named stretchReport lastTick scheduleTicked reportOf registerWord flightWord temperatureWord half settle goodFlight goodSum goodDifference flightGood temperatureGood temperatureFailed goodSums six four average sixTotal filled portPairs portPair plusEach wordOrZero biased differenceWord differenceMean portMean anyLate anyOpen portFault anyFault anyFrom anyBelow anyWord shortBelow lateFrom openFrom hitCount timeout portCycle flightMiscounted sameCount differencePeriod temperaturePeriod ticked begins leftAfter waitAfter startedAfter log onlyReads isRefusal isReading acceptedAnswer startedEvent eventFlight flightEvent eventStart differenceCount eventTemperature temperatureEvent temperatureCount tickModel clockTicked tickClock flightAfter fails tickSchedule settledAfter temperatureAfter after reply replyBy verdict firstOf table noFrame notCarried wrongLength pastRegisters shortOutput whileBusy badCalendar notInitialised badSetup notAwaited miscounted tooLong acceptedModel freshModel freshWith porBit noFlight noTemperature noSchedule start factory sound sumFits flightSound temperatureSound scheduleSound clockValid dateFits timeFits leap monthLength kindBusy busy awaits inEvent isCommand isWrite isRead notWhole pastEnd wordAt calendarWord word30 word31 hourDigits word32 word33 bcd hundredthsOf minuteIn twelveIn hourNamed hourIn ticksIn clockFrom timeDigits hourFits digitsFit wordsValid alarmValid alarmWord covers written withWord setupAfter ticksAfter clockAfter writeInvalid writeModel mustBeIdle startsFlight startsTemperature isEvent commandBusy notReady flightSideUnset temperatureSideUnset eventSideUnset commandUnset flightUnset temperatureUnset eventContinuous startsLeft beginsGroup goodAfter countsSound waitSound balanceSound sumAfter sumsAfter flightTicked clockStands runModel initialised joined isTick stretchIn spanOf lostFlight lostDifference flightFailed ticksCounted tickCount
+    (onlyReads (log (reply (after freshModel setUp) (command 8 [] []) .model) overGroups) ≡ true) ×
+    (tickCount (log (reply (after freshModel setUp) (command 8 [] []) .model) overGroups) ≡ 16384)
+unfolding startReported named stretchReport lastTick scheduleTicked reportOf registerWord flightWord temperatureWord half settle goodFlight goodSum goodDifference flightGood temperatureGood temperatureFailed goodSums six four average sixTotal filled portPairs portPair plusEach wordOrZero biased differenceWord differenceMean portMean anyLate anyOpen portFault anyFault anyFrom anyBelow anyWord shortBelow lateFrom openFrom hitCount timeout portCycle flightMiscounted sameCount differencePeriod temperaturePeriod ticked begins leftAfter waitAfter startedAfter log onlyReads isRefusal isReading acceptedAnswer startedEvent eventFlight flightEvent eventStart differenceCount eventTemperature temperatureEvent temperatureCount tickModel clockTicked tickClock flightAfter fails tickSchedule settledAfter temperatureAfter after reply replyBy verdict firstOf table noFrame notCarried wrongLength pastRegisters shortOutput whileBusy supplyOff unreachable unerased badCalendar notInitialised badSetup notAwaited miscounted tooLong acceptedModel freshModel freshWith porBit noFlight noTemperature noSchedule start factory sound sumFits flightSound temperatureSound scheduleSound clockValid dateFits timeFits leap monthLength kindBusy busy awaits inEvent isCommand isWrite isFlash isRead notWhole pastEnd wordAt calendarWord word30 word31 hourDigits word32 word33 bcd hundredthsOf minuteIn twelveIn hourNamed hourIn ticksIn clockFrom timeDigits hourFits digitsFit wordsValid alarmValid alarmWord covers written withWord setupAfter ticksAfter clockAfter writeInvalid writeModel mustBeIdle startsFlight startsTemperature isEvent commandBusy notReady flightSideUnset temperatureSideUnset eventSideUnset commandUnset flightUnset temperatureUnset eventContinuous startsLeft beginsGroup goodAfter countsSound waitSound balanceSound sumAfter sumsAfter flightTicked clockStands runModel initialised joined isTick stretchIn spanOf lostFlight lostDifference flightFailed ticksCounted tickCount
 groups-read = (refl, refl)
 
 -- E4h to E6h of the second group: one good difference of 2,000,000 quanta
 pub groups-held :
-    map (registerWord (after (reply (after freshModel setUp) (command 8 []) .model) overGroups)) (0xE4 ∷ 0xE5 ∷ 0xE6 ∷ [])
+    map (registerWord (after (reply (after freshModel setUp) (command 8 [] []) .model) overGroups)) (0xE4 ∷ 0xE5 ∷ 0xE6 ∷ [])
     ≡ 1 ∷ 0x001E ∷ 0x8480 ∷ []
-unfolding startReported named stretchReport lastTick scheduleTicked reportOf registerWord flightWord temperatureWord half settle goodFlight goodSum goodDifference flightGood temperatureGood temperatureFailed goodSums six four average sixTotal filled portPairs portPair plusEach wordOrZero biased differenceWord differenceMean portMean anyLate anyOpen portFault anyFault anyFrom anyBelow anyWord shortBelow lateFrom openFrom hitCount timeout portCycle flightMiscounted sameCount differencePeriod temperaturePeriod ticked begins leftAfter waitAfter startedAfter log onlyReads isRefusal isReading acceptedAnswer startedEvent eventFlight flightEvent eventStart differenceCount eventTemperature temperatureEvent temperatureCount tickModel clockTicked tickClock flightAfter fails tickSchedule settledAfter temperatureAfter after reply replyBy verdict firstOf table noFrame notCarried wrongLength pastRegisters shortOutput whileBusy badCalendar notInitialised badSetup notAwaited miscounted tooLong acceptedModel freshModel freshWith porBit noFlight noTemperature noSchedule start factory sound sumFits flightSound temperatureSound scheduleSound clockValid dateFits timeFits leap monthLength kindBusy busy awaits inEvent isCommand isWrite isRead notWhole pastEnd wordAt calendarWord word30 word31 hourDigits word32 word33 bcd hundredthsOf minuteIn twelveIn hourNamed hourIn ticksIn clockFrom timeDigits hourFits digitsFit wordsValid alarmValid alarmWord covers written withWord setupAfter ticksAfter clockAfter writeInvalid writeModel mustBeIdle startsFlight startsTemperature isEvent commandBusy notReady flightSideUnset temperatureSideUnset eventSideUnset commandUnset flightUnset temperatureUnset eventContinuous startsLeft beginsGroup goodAfter countsSound waitSound balanceSound sumAfter sumsAfter flightTicked clockStands runModel initialised joined isTick stretchIn spanOf lostFlight lostDifference flightFailed
+unfolding startReported named stretchReport lastTick scheduleTicked reportOf registerWord flightWord temperatureWord half settle goodFlight goodSum goodDifference flightGood temperatureGood temperatureFailed goodSums six four average sixTotal filled portPairs portPair plusEach wordOrZero biased differenceWord differenceMean portMean anyLate anyOpen portFault anyFault anyFrom anyBelow anyWord shortBelow lateFrom openFrom hitCount timeout portCycle flightMiscounted sameCount differencePeriod temperaturePeriod ticked begins leftAfter waitAfter startedAfter log onlyReads isRefusal isReading acceptedAnswer startedEvent eventFlight flightEvent eventStart differenceCount eventTemperature temperatureEvent temperatureCount tickModel clockTicked tickClock flightAfter fails tickSchedule settledAfter temperatureAfter after reply replyBy verdict firstOf table noFrame notCarried wrongLength pastRegisters shortOutput whileBusy supplyOff unreachable unerased badCalendar notInitialised badSetup notAwaited miscounted tooLong acceptedModel freshModel freshWith porBit noFlight noTemperature noSchedule start factory sound sumFits flightSound temperatureSound scheduleSound clockValid dateFits timeFits leap monthLength kindBusy busy awaits inEvent isCommand isWrite isFlash isRead notWhole pastEnd wordAt calendarWord word30 word31 hourDigits word32 word33 bcd hundredthsOf minuteIn twelveIn hourNamed hourIn ticksIn clockFrom timeDigits hourFits digitsFit wordsValid alarmValid alarmWord covers written withWord setupAfter ticksAfter clockAfter writeInvalid writeModel mustBeIdle startsFlight startsTemperature isEvent commandBusy notReady flightSideUnset temperatureSideUnset eventSideUnset commandUnset flightUnset temperatureUnset eventContinuous startsLeft beginsGroup goodAfter countsSound waitSound balanceSound sumAfter sumsAfter flightTicked clockStands runModel initialised joined isTick stretchIn spanOf lostFlight lostDifference flightFailed
 groups-held = refl

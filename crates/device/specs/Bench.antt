@@ -35,6 +35,7 @@ setUp i w =
       setup = set factory i w;
       status = freshModel .status;
       ready = freshModel .ready;
+      regulator = freshModel .regulator;
       flight = freshModel .flight;
       temperature = freshModel .temperature;
     }

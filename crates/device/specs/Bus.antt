@@ -9,8 +9,8 @@ use Rattle.device.specs.declared.Flight.{Flight}
 use Rattle.device.specs.declared.Temperature.{Temperature}
 use Rattle.device.specs.declared.Model.{Model}
 use Rattle.device.specs.Event.{single, eventStart, halted}
-use Rattle.device.specs.Status.{joined, initBit, haltBit, noBits}
-use Rattle.device.specs.Model.{busy, resetModel, withFlight, withTemperature, withStatus}
+use Rattle.device.specs.Status.{joined, initBit, haltBit, ldoBit, withoutLdo, noBits}
+use Rattle.device.specs.Model.{busy, resetModel, withFlight, withTemperature, withStatus, withRegulator}
 
 -- "a command but HALT and Reset"
 unfoldable pub mustBeIdle : ℕ → Bool
@@ -98,6 +98,7 @@ startedEvent m op =
       setup = m .setup;
       status = m .status;
       ready = m .ready;
+      regulator = m .regulator;
       flight = eventFlight m op;
       temperature = eventTemperature m op;
     }
@@ -110,6 +111,7 @@ initialised m =
       setup = m .setup;
       status = joined (m .status) initBit;
       ready = true;
+      regulator = m .regulator;
       flight = m .flight;
       temperature = m .temperature;
     }
@@ -122,6 +124,7 @@ haltedModel m =
       setup = m .setup;
       status = joined (m .status) haltBit;
       ready = m .ready;
+      regulator = m .regulator;
       flight =
           record {
             schedule = halted (m .flight .schedule);
@@ -151,11 +154,20 @@ singleStarted m op =
     }))
     (withFlight m (flightStarted (m .flight) op))
 
+-- "LDO_ON sets status bit 10" (Note 8), and the regulator is on from then on, "until the LDO OFF command is received" (000)
+unfoldable pub supplied : Model → Model
+supplied m = withRegulator (withStatus m (joined (m .status) ldoBit)) true
+
+unfoldable pub unsupplied : Model → Model
+unsupplied m = withRegulator (withStatus m (withoutLdo (m .status))) false
+
 unfoldable pub runModel : Model → ℕ → Model
 runModel m op =
     pick (eqb op 4) resetModel
     (pick (eqb op 5) (initialised m)
-    (pick (eqb op 10) (haltedModel m) (pick (isEvent op) (startedEvent m op) (singleStarted m op))))
+    (pick (eqb op 10) (haltedModel m)
+    (pick (eqb op 12) (supplied m)
+    (pick (eqb op 13) (unsupplied m) (pick (isEvent op) (startedEvent m op) (singleStarted m op))))))
 
 -- "FEh is the interrupt status; reading it clears it after the word is taken."
 unfoldable pub readModel : Model → ℕ → ℕ → Model

@@ -51,7 +51,7 @@ isRefusal Good = false
 isRefusal Failed = false
 
 unfoldable pub isReading : Call → Bool
-isReading (transaction f o) = isRead (opcode f)
+isReading (transaction f o x) = isRead (opcode f)
 isReading tick = true
 isReading (flight u d) = true
 isReading (temperature w) = true
@@ -135,7 +135,7 @@ isFailed Good = false
 isFailed Failed = true
 
 unfoldable pub isTick : Call → Bool
-isTick (transaction f o) = false
+isTick (transaction f o x) = false
 isTick tick = true
 isTick (flight u d) = false
 isTick (temperature w) = false
@@ -143,14 +143,14 @@ isTick (stretch n) = false
 
 -- The ticks of a stretch; no other call has any.
 unfoldable pub spanOf : Call → ℕ
-spanOf (transaction f o) = 0
+spanOf (transaction f o x) = 0
 spanOf tick = 0
 spanOf (flight u d) = 0
 spanOf (temperature w) = 0
 spanOf (stretch n) = n
 
 unfoldable pub isDelivery : Kind → Call → Bool
-isDelivery k (transaction f o) = false
+isDelivery k (transaction f o x) = false
 isDelivery k tick = false
 isDelivery differences (flight u d) = true
 isDelivery temperatures (flight u d) = false
@@ -162,7 +162,7 @@ isDelivery k (stretch n) = false
 -- temperature one exactly when none is open." And none short: "its delivery .. is answered failed, and the third demand's good
 -- is read so" (Note 3).
 unfoldable pub noneLost : List ℕ → Call → Bool
-noneLost s (transaction f o) = false
+noneLost s (transaction f o x) = false
 noneLost s tick = false
 noneLost s (flight u d) =
     negate (either (anyFrom (lateFrom (timeout s)) u) (anyFrom (lateFrom (timeout s)) d))
@@ -171,7 +171,7 @@ noneLost s (stretch n) = false
 
 -- "A flight delivery's difference is the up list's sum ÷ H rounded down, less the same of the down list"
 unfoldable pub averagesOf : List ℕ → Call → Averages
-averagesOf s (transaction f o) = record { up = 0; down = 0 }
+averagesOf s (transaction f o x) = record { up = 0; down = 0 }
 averagesOf s tick = record { up = 0; down = 0 }
 averagesOf s (flight u d) = record { up = sum u / hitCount s; down = sum d / hitCount s }
 averagesOf s (temperature w) = record { up = 0; down = 0 }
@@ -179,7 +179,7 @@ averagesOf s (stretch n) = record { up = 0; down = 0 }
 
 -- "a temperature delivery's port words are the four delivered, each port with a mean of its own": port 0 to 3
 unfoldable pub portWord : ℕ → Call → ℕ
-portWord i (transaction f o) = 0
+portWord i (transaction f o x) = 0
 portWord i tick = 0
 portWord i (flight u d) = 0
 portWord i (temperature w) = getD w i 0
@@ -329,7 +329,7 @@ Whole s w = (i : ℕ) → i < length w → (32 * 65536 ≤ getD w i 0) × (getD 
 -- A good delivery had all its words: "an up list and a down list, each of H words"; "four words, T1 to T4". "For users the mean
 -- of a port runs from then on over cycles where all four words are neither short nor open." (Note 3)
 abbrev pub Complete : List ℕ → Call → Type 0
-Complete s (transaction f o) = ⊥
+Complete s (transaction f o x) = ⊥
 Complete s tick = ⊥
 Complete s (flight u d) = (length u ≡ hitCount s) × (length d ≡ hitCount s)
 Complete s (temperature w) = (length w ≡ 4) × Whole s w
@@ -383,40 +383,40 @@ pub record ClockClaim (m : Model) (n : ℕ) (end : Model) : Type 0 where
 -- A continuous event "ends only by HALT or Reset" (Note 5): a write of one word to any register is number 6, busy.
 abbrev pub StillBusy : Model → Type 0
 StillBusy m =
-    (a high low : ℕ) (o : List ℕ) →
+    (a high low : ℕ) (o x : List ℕ) →
     0x30 ≤ a →
     a ≤ 0x43 →
-    verdict m (transaction (a ∷ high ∷ low ∷ []) o) ≡ refused 6
+    verdict m (transaction (a ∷ high ∷ low ∷ []) o x) ≡ refused 6
 
--- The whole claim: `m` accepted event command `op` (with output buffer `o`), and then the calls `later` were made.
-abbrev pub command : ℕ → List ℕ → Call
-command op o = transaction (op ∷ []) o
+-- The whole claim: `m` accepted event command `op` (with output buffer `o` and memory `x`), and then the calls `later` were made.
+abbrev pub command : ℕ → List ℕ → List ℕ → Call
+command op o x = transaction (op ∷ []) o x
 
-abbrev pub toldOf : Kind → Model → ℕ → List ℕ → List Call → History
-toldOf k m op o later =
-    history k (m .setup) (log (reply m (command op o) .model) later) (beginning k (reply m (command op o) .answer))
+abbrev pub toldOf : Kind → Model → ℕ → List ℕ → List ℕ → List Call → History
+toldOf k m op o x later =
+    history k (m .setup) (log (reply m (command op o x) .model) later) (beginning k (reply m (command op o x) .answer))
 
-pub record EventClaim (m : Model) (op : ℕ) (o : List ℕ) (later : List Call) : Type 0 where
+pub record EventClaim (m : Model) (op : ℕ) (o x : List ℕ) (later : List Call) : Type 0 where
   pub kinds :
       (k : Kind) →
       runs k op ≡ true →
-      KindClaim k (m .setup) (toldOf k m op o later) (after (reply m (command op o) .model) later)
+      KindClaim k (m .setup) (toldOf k m op o x later) (after (reply m (command op o x) .model) later)
   -- both count the same ticks
   pub ticks :
-      (k : Kind) → (toldOf k m op o later) .ticks ≡ tickCount (log (reply m (command op o) .model) later)
+      (k : Kind) → (toldOf k m op o x later) .ticks ≡ tickCount (log (reply m (command op o x) .model) later)
   pub clock :
-      ClockClaim m (tickCount (log (reply m (command op o) .model) later))
-      (after (reply m (command op o) .model) later)
-  pub unended : eventContinuous (m .setup) ≡ true → StillBusy (after (reply m (command op o) .model) later)
+      ClockClaim m (tickCount (log (reply m (command op o x) .model) later))
+      (after (reply m (command op o x) .model) later)
+  pub unended : eventContinuous (m .setup) ≡ true → StillBusy (after (reply m (command op o x) .model) later)
 
 -- The third demand: "Let a model grow from a fresh one by any list of transactions, ticks and deliveries, refused ones among
 -- them, and then accept an event command. For every list of ticks, deliveries, register reads and refused calls that
 -- follows, whatever hit words are delivered, this holds at its end for each kind that the command runs."
 abbrev pub ThirdDemand : Type 0
 ThirdDemand =
-    (before : List Call) (op : ℕ) (o : List ℕ) (later : List Call) →
+    (before : List Call) (op : ℕ) (o x : List ℕ) (later : List Call) →
     0x07 ≤ op →
     op ≤ 0x09 →
-    verdict (after freshModel before) (command op o) ≡ accepted →
-    onlyReads (log (reply (after freshModel before) (command op o) .model) later) ≡ true →
-    EventClaim (after freshModel before) op o later
+    verdict (after freshModel before) (command op o x) ≡ accepted →
+    onlyReads (log (reply (after freshModel before) (command op o x) .model) later) ≡ true →
+    EventClaim (after freshModel before) op o x later

@@ -57,6 +57,7 @@ flightGood m hits ups downs =
       setup = m .setup;
       status = flightStatus m false;
       ready = m .ready;
+      regulator = m .regulator;
       flight = goodFlight (m .flight) hits ups downs;
       temperature = m .temperature;
     }
@@ -68,6 +69,7 @@ flightFailed m =
       setup = m .setup;
       status = flightStatus m true;
       ready = m .ready;
+      regulator = m .regulator;
       flight = lostFlight (m .flight) (settle (m .flight .schedule) false);
       temperature = m .temperature;
     }
@@ -86,6 +88,7 @@ temperatureGood m w =
       setup = m .setup;
       status = temperatureStatus m false;
       ready = m .ready;
+      regulator = m .regulator;
       flight = m .flight;
       temperature = record { schedule = settle (m .temperature .schedule) true; sums = goodSums (m .temperature) w; ports = w };
     }
@@ -99,6 +102,7 @@ temperatureFailed m limit opened w =
       setup = m .setup;
       status = temperatureStatus m opened;
       ready = m .ready;
+      regulator = m .regulator;
       flight = m .flight;
       temperature =
           record { schedule = settle (m .temperature .schedule) false; sums = m .temperature .sums; ports = portPairs limit w };

@@ -16,10 +16,10 @@ use Rattle.device.specs.Claim.{Entry, isRefusal, after, log}
 -- 12-hour form or not, after an accepted call, by what it was: Reset gives a fresh clock, which has 24-hour form; a write of
 -- 31h gives the form of its word
 unfoldable pub formGiven : Call → Bool → Bool
-formGiven (transaction f o) form =
+formGiven (transaction f o x) form =
     bySort f (pick (eqb (opcode f) 4) false form)
     (pick (covers (opcode f) (words f) 0x31) (twelveIn (wordAt (drop 1 f) (0x31 - opcode f))) form)
-    form
+    form form
 formGiven tick form = form
 formGiven (flight u d) form = form
 formGiven (temperature w) form = form

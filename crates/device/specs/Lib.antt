@@ -7,8 +7,11 @@ pub mod Tick
 pub mod Stretch
 pub mod Delivery
 pub mod Bus
+pub mod FlashFrame
 pub mod Call
 pub mod Claim
+pub mod FlashRun
+pub mod Supply
 pub mod Form
 pub mod Probes
 pub mod Bench

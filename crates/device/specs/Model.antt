@@ -24,6 +24,7 @@ withStatus m s =
       setup = m .setup;
       status = s;
       ready = m .ready;
+      regulator = m .regulator;
       flight = m .flight;
       temperature = m .temperature;
     }
@@ -35,6 +36,7 @@ withFlight m f =
       setup = m .setup;
       status = m .status;
       ready = m .ready;
+      regulator = m .regulator;
       flight = f;
       temperature = m .temperature;
     }
@@ -46,8 +48,21 @@ withTemperature m t =
       setup = m .setup;
       status = m .status;
       ready = m .ready;
+      regulator = m .regulator;
       flight = m .flight;
       temperature = t;
+    }
+
+abbrev pub withRegulator : Model → Bool → Model
+withRegulator m on =
+    record {
+      clock = m .clock;
+      setup = m .setup;
+      status = m .status;
+      ready = m .ready;
+      regulator = on;
+      flight = m .flight;
+      temperature = m .temperature;
     }
 
 -- "results 0"
@@ -68,7 +83,7 @@ noTemperature =
     record { schedule = noSchedule; sums = 0 ∷ 0 ∷ 0 ∷ 0 ∷ []; ports = 0 ∷ 0 ∷ 0 ∷ 0 ∷ [] }
 
 -- "Fresh: not initialised; configuration at the factory values ..; results 0; alarm 0; clock 2000-01-01 00:00:00.00,
--- weekday 1"
+-- weekday 1"; "A fresh model and Reset have the regulator off." (Note 8)
 unfoldable pub freshWith : Status → Model
 freshWith s =
     record {
@@ -76,6 +91,7 @@ freshWith s =
       setup = factory;
       status = s;
       ready = false;
+      regulator = false;
       flight = noFlight;
       temperature = noTemperature;
     }

@@ -15,7 +15,7 @@ pub data OtherProbes : Call → Call → Type 0 where
   same : (c : Call) → OtherProbes c c
   values : (v w : List ℕ) → length v ≡ length w → OtherProbes (temperature v) (temperature w)
   -- "temperature registers and what reads of them return may differ": a buffer that is lent again may hold such bytes
-  buffer : (f o p : List ℕ) → length o ≡ length p → OtherProbes (transaction f o) (transaction f p)
+  buffer : (f o p x : List ℕ) → length o ≡ length p → OtherProbes (transaction f o x) (transaction f p x)
 
 -- "equal call lists" but for that, call by call
 pub data OtherProbesIn : List Call → List Call → Type 0 where

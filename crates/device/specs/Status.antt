@@ -1,4 +1,5 @@
--- "Status bits: TO 15, AF 14, TOF 12, TE 11, TOF_EVTMG 9, TEMP_EVTMG 8, HALT 5, INIT 3, POR 2."
+-- "Status bits: TO 15, AF 14, TOF 12, TE 11, TOF_EVTMG 9, TEMP_EVTMG 8, HALT 5, INIT 3, POR 2." "LDO_ON sets status bit 10; a write
+-- or erase sets bit 7." (Note 8): LDO and FLASH, as 000 names them.
 use Prim.Native.Nat.{ℕ, _+_}
 use mathlib.Core.Bool.{Bool, true, false}
 use Rattle.unit.specs.Choice.{pick, either}
@@ -13,8 +14,10 @@ noBits =
       alarm = false;
       tof = false;
       te = false;
+      ldo = false;
       tofevtmg = false;
       tempevtmg = false;
+      flash = false;
       halt = false;
       init = false;
       por = false;
@@ -28,8 +31,10 @@ joined a b =
       alarm = either (a .alarm) (b .alarm);
       tof = either (a .tof) (b .tof);
       te = either (a .te) (b .te);
+      ldo = either (a .ldo) (b .ldo);
       tofevtmg = either (a .tofevtmg) (b .tofevtmg);
       tempevtmg = either (a .tempevtmg) (b .tempevtmg);
+      flash = either (a .flash) (b .flash);
       halt = either (a .halt) (b .halt);
       init = either (a .init) (b .init);
       por = either (a .por) (b .por);
@@ -38,8 +43,10 @@ joined a b =
 unfoldable pub statusWord : Status → ℕ
 statusWord s =
     pick (s .timeout) 0x8000 0 + pick (s .alarm) 0x4000 0 + pick (s .tof) 0x1000 0 + pick (s .te) 0x0800 0 +
+    pick (s .ldo) 0x0400 0 +
     pick (s .tofevtmg) 0x0200 0 +
     pick (s .tempevtmg) 0x0100 0 +
+    pick (s .flash) 0x0080 0 +
     pick (s .halt) 0x0020 0 +
     pick (s .init) 0x0008 0 +
     pick (s .por) 0x0004 0
@@ -58,8 +65,10 @@ flightBits k each settles failed =
       alarm = false;
       tof = shown k each;
       te = false;
+      ldo = false;
       tofevtmg = lastOne k;
       tempevtmg = false;
+      flash = false;
       halt = false;
       init = false;
       por = false;
@@ -75,8 +84,10 @@ temperatureBits k each settles opened =
       alarm = false;
       tof = false;
       te = shown k each;
+      ldo = false;
       tofevtmg = false;
       tempevtmg = lastOne k;
+      flash = false;
       halt = false;
       init = false;
       por = false;
@@ -90,8 +101,10 @@ alarmBit rings =
       alarm = rings;
       tof = false;
       te = false;
+      ldo = false;
       tofevtmg = false;
       tempevtmg = false;
+      flash = false;
       halt = false;
       init = false;
       por = false;
@@ -104,8 +117,10 @@ initBit =
       alarm = false;
       tof = false;
       te = false;
+      ldo = false;
       tofevtmg = false;
       tempevtmg = false;
+      flash = false;
       halt = false;
       init = true;
       por = false;
@@ -118,8 +133,10 @@ haltBit =
       alarm = false;
       tof = false;
       te = false;
+      ldo = false;
       tofevtmg = false;
       tempevtmg = false;
+      flash = false;
       halt = true;
       init = false;
       por = false;
@@ -132,9 +149,61 @@ porBit =
       alarm = false;
       tof = false;
       te = false;
+      ldo = false;
       tofevtmg = false;
       tempevtmg = false;
+      flash = false;
       halt = false;
       init = false;
       por = true;
+    }
+
+-- "LDO_ON sets status bit 10; a write or erase sets bit 7." (Note 8)
+unfoldable pub ldoBit : Status
+ldoBit =
+    record {
+      timeout = false;
+      alarm = false;
+      tof = false;
+      te = false;
+      ldo = true;
+      tofevtmg = false;
+      tempevtmg = false;
+      flash = false;
+      halt = false;
+      init = false;
+      por = false;
+    }
+
+unfoldable pub flashBit : Status
+flashBit =
+    record {
+      timeout = false;
+      alarm = false;
+      tof = false;
+      te = false;
+      ldo = false;
+      tofevtmg = false;
+      tempevtmg = false;
+      flash = true;
+      halt = false;
+      init = false;
+      por = false;
+    }
+
+-- 000, LDO_OFF Command: "the internal regulator is disabled and the Interrupt Status register LDO bit is cleared."
+unfoldable pub withoutLdo : Status → Status
+withoutLdo s =
+    record {
+      timeout = s .timeout;
+      alarm = s .alarm;
+      tof = s .tof;
+      te = s .te;
+      ldo = false;
+      tofevtmg = s .tofevtmg;
+      tempevtmg = s .tempevtmg;
+      flash = s .flash;
+      halt = s .halt;
+      init = s .init;
+      por = s .por;
     }

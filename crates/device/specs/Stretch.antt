@@ -100,6 +100,7 @@ laterModel q m =
       setup = m .setup;
       status = m .status;
       ready = m .ready;
+      regulator = m .regulator;
       flight = flightLater q (m .flight);
       temperature = temperatureLater q (m .temperature);
     }

@@ -87,6 +87,7 @@ tickModel m =
       setup = m .setup;
       status = tickStatus m (clockTicked m);
       ready = m .ready;
+      regulator = m .regulator;
       flight = flightAfter (m .flight);
       temperature = temperatureAfter (m .temperature);
     }

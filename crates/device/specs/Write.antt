@@ -63,6 +63,7 @@ writeModel bytes op n m =
       setup = setupAfter bytes op (m .setup) n;
       status = m .status;
       ready = m .ready;
+      regulator = m .regulator;
       flight = m .flight;
       temperature = m .temperature;
     }

@@ -47,8 +47,10 @@ pub struct Status {
     pub alarm: bool,
     pub tof: bool,
     pub te: bool,
+    pub ldo: bool,
     pub tofevtmg: bool,
     pub tempevtmg: bool,
+    pub flash: bool,
     pub halt: bool,
     pub init: bool,
     pub por: bool,
@@ -60,6 +62,8 @@ pub struct Model {
     pub setup: [u16; 16],
     pub status: Status,
     pub ready: bool,
+    // Whether the regulator that supplies the user flash is on.
+    pub regulator: bool,
     pub flight: Flight,
     pub temperature: Temperature,
 }

@@ -2,7 +2,7 @@
 ghost use mathlib.Core.Path.{_≡_};
 ghost use Rattle.unit.specs.Choice.{pick};
 ghost use Prim.Native.Nat.{_≤_};
-ghost use Rattle.device.specs.Status.{noBits, joined, statusWord, flightBits, temperatureBits, alarmBit, initBit, haltBit, porBit, shown};
+ghost use Rattle.device.specs.Status.{noBits, joined, statusWord, flightBits, temperatureBits, alarmBit, initBit, haltBit, porBit, ldoBit, flashBit, withoutLdo, shown};
 use crate::schedule::in_event;
 use crate::schedule::is_last;
 use device::Schedule;
@@ -17,8 +17,10 @@ pub fn no_bits() -> Status
         alarm: false,
         tof: false,
         te: false,
+        ldo: false,
         tofevtmg: false,
         tempevtmg: false,
+        flash: false,
         halt: false,
         init: false,
         por: false,
@@ -33,8 +35,10 @@ pub fn join(a: Status, b: Status) -> Status
     let alarm = any_of(a.alarm, b.alarm);
     let tof = any_of(a.tof, b.tof);
     let te = any_of(a.te, b.te);
+    let ldo = any_of(a.ldo, b.ldo);
     let tofevtmg = any_of(a.tofevtmg, b.tofevtmg);
     let tempevtmg = any_of(a.tempevtmg, b.tempevtmg);
+    let flash = any_of(a.flash, b.flash);
     let halt = any_of(a.halt, b.halt);
     let init = any_of(a.init, b.init);
     let por = any_of(a.por, b.por);
@@ -43,8 +47,10 @@ pub fn join(a: Status, b: Status) -> Status
         alarm,
         tof,
         te,
+        ldo,
         tofevtmg,
         tempevtmg,
+        flash,
         halt,
         init,
         por,
@@ -64,8 +70,10 @@ pub fn status_word(s: Status) -> u32
         + weight(s.alarm, 16384)
         + weight(s.tof, 4096)
         + weight(s.te, 2048)
+        + weight(s.ldo, 1024)
         + weight(s.tofevtmg, 512)
         + weight(s.tempevtmg, 256)
+        + weight(s.flash, 128)
         + weight(s.halt, 32)
         + weight(s.init, 8)
         + weight(s.por, 4)
@@ -140,4 +148,28 @@ pub fn por_bit() -> Status
     let mut s = no_bits();
     s.por = true;
     s
+}
+
+pub fn ldo_bit() -> Status
+    ensures { λ r. ⌜ r ≡ ldoBit ⌝ }
+{
+    let mut s = no_bits();
+    s.ldo = true;
+    s
+}
+
+pub fn flash_bit() -> Status
+    ensures { λ r. ⌜ r ≡ flashBit ⌝ }
+{
+    let mut s = no_bits();
+    s.flash = true;
+    s
+}
+
+pub fn without_ldo(s: Status) -> Status
+    ensures { λ r. ⌜ r ≡ withoutLdo s ⌝ }
+{
+    let mut n = s;
+    n.ldo = false;
+    n
 }

@@ -1,26 +1,50 @@
 -- What the tests of a frame mean in plain numbers.
 use Prim.Native.Nat.{ℕ, _+_, _-_, _*_, _/_, _%_, _≤_, _<_}
 use native.Mathlib.Omega.{arith}
-use mathlib.Core.Path.{_≡_}
+use mathlib.Core.Path.{_≡_, refl}
 use mathlib.Core.Logic.{_↔_, _⊎_, inl, inr, ⊎-elim}
 use mathlib.Core.Bool.{true, false}
-use mathlib.Core.List.{List}
+use mathlib.Core.List.{List, [], _∷_}
 use lib.ListN.{getD}
 use lib.Dec.{ltb}
 use Rattle.unit.specs.Choice.{pick}
 use Rattle.unit.specs.Cases.{by-test, by-ltb, by-eqb, holds, fails, refuted}
-use Rattle.frame.specs.Frame.{isCommand, isWrite, isRead, notWhole, pastEnd, writeFrame, readFrame, wordAt}
+use Rattle.frame.specs.Frame.{isCommand, isWrite, isRead, isFlash, flashFurther, notWhole, pastEnd, writeFrame, readFrame, wordAt}
 use Rattle.frame.specs.declared.Decoded.the-variants.{Read, Write}
 
--- "commands 00h to 05h and 07h to 0Ah"
-pub command-means : (op : ℕ) → (isCommand op ≡ true) ↔ ((op ≤ 0x05) ⊎ ((0x07 ≤ op) × (op ≤ 0x0A)))
+-- "commands 00h to 05h and 07h to 0Ah"; "LDO_ON (0Ch), LDO_OFF (0Dh)" (Note 8)
+pub command-means :
+    (op : ℕ) →
+    (isCommand op ≡ true) ↔ ((op ≤ 0x05) ⊎ ((0x07 ≤ op) × (op ≤ 0x0A)) ⊎ ((0x0C ≤ op) × (op ≤ 0x0D)))
 unfolding isCommand
 command-means op =
-    by-ltb 10 op
-    (λ h t. rw t (fails false (⊎-elim (λ l. omega arith) (λ m. omega arith))))
-    (λ h t. by-eqb op 6
-    (λ e u. rw (t, u) (fails false (⊎-elim (λ l. omega arith) (λ m. omega arith))))
-    (λ n u. rw (t, u) (holds (by-ltb op 6 (λ l v. inl (omega arith)) (λ l v. inr (omega arith))))))
+    by-ltb 0x0D op
+    (λ h t. rw t (fails false (⊎-elim (λ l. omega arith) (⊎-elim (λ m. omega arith) (λ m. omega arith)))))
+    (λ h t. by-eqb op 0x06
+    (λ e u. rw (t, u) (fails false (⊎-elim (λ l. omega arith) (⊎-elim (λ m. omega arith) (λ m. omega arith)))))
+    (λ n u. by-eqb op 0x0B
+    (λ e v. rw (t, u, v) (fails false (⊎-elim (λ l. omega arith) (⊎-elim (λ m. omega arith) (λ m. omega arith)))))
+    (λ k v. rw (t, u, v)
+    (holds
+    (by-ltb op 0x06 (λ l _. inl (omega arith))
+    (λ l _. by-ltb op 0x0B (λ i _. inr (inl (omega arith))) (λ i _. inr (inr (omega arith)))))))))
+
+-- "read (90h), write (10h) and block erase (13h)" (Note 8)
+pub flash-means : (op : ℕ) → (isFlash op ≡ true) ↔ ((op ≡ 0x90) ⊎ (op ≡ 0x10) ⊎ (op ≡ 0x13))
+unfolding isFlash
+flash-means op =
+    by-eqb op 0x90
+    (λ e t. rw t (holds (inl e)))
+    (λ n t. by-eqb op 0x10
+    (λ e u. rw (t, u) (holds (inr (inl e))))
+    (λ k u. by-eqb op 0x13
+    (λ e v. rw (t, u, v) (holds (inr (inr e))))
+    (λ j v. rw (t, u, v) (fails false (⊎-elim n (⊎-elim k j))))))
+
+-- "a length other than five bytes, for erase three" (Note 8), the opcode among them
+pub flash-lengths : (1 + flashFurther 0x90) ∷ (1 + flashFurther 0x10) ∷ (1 + flashFurther 0x13) ∷ [] ≡ 5 ∷ 5 ∷ 3 ∷ []
+unfolding flashFurther
+flash-lengths = refl
 
 within :
     (low high op : ℕ) →
@@ -43,8 +67,24 @@ unfolding isRead
 read-means op = within 0xB0 0xFF op
 
 -- an opcode is of one sort
-command-most : (op : ℕ) → isCommand op ≡ true → op ≤ 0x0A
-command-most op c = ⊎-elim (λ l. omega arith) (λ m. m .1) (command-means op .0 c)
+command-most : (op : ℕ) → isCommand op ≡ true → op ≤ 0x0D
+command-most op c = ⊎-elim (λ l. omega arith) (⊎-elim (λ m. omega arith) (λ m. m .1)) (command-means op .0 c)
+
+flash-least : (op : ℕ) → isFlash op ≡ true → (0x10 ≤ op) × (op ≤ 0x90)
+flash-least op f = ⊎-elim (λ e. omega arith) (⊎-elim (λ e. omega arith) (λ e. omega arith)) (flash-means op .0 f)
+
+not-write : (op : ℕ) → isFlash op ≡ true → isWrite op ≡ true → ⊥
+not-write op f w =
+    ⊎-elim (λ e. omega (arith, write-means op .0 w))
+    (⊎-elim (λ e. omega (arith, write-means op .0 w)) (λ e. omega (arith, write-means op .0 w)))
+    (flash-means op .0 f)
+
+pub flash-alone : (op : ℕ) → isFlash op ≡ true → (isCommand op ≡ false) × (isWrite op ≡ false) × (isRead op ≡ false)
+flash-alone op f = (
+  refuted (isCommand op) (λ c. omega (arith, command-most op c, flash-least op f)),
+  refuted (isWrite op) (not-write op f),
+  refuted (isRead op) (λ r. omega (arith, flash-least op f, read-means op .0 r)),
+)
 
 pub command-alone : (op : ℕ) → isCommand op ≡ true → (isWrite op ≡ false) × (isRead op ≡ false)
 command-alone op c = (
@@ -58,10 +98,11 @@ write-alone op w = (
   refuted (isRead op) (λ r. omega (arith, read-means op .0 r, write-means op .0 w)),
 )
 
-pub read-alone : (op : ℕ) → isRead op ≡ true → (isCommand op ≡ false) × (isWrite op ≡ false)
+pub read-alone : (op : ℕ) → isRead op ≡ true → (isCommand op ≡ false) × (isWrite op ≡ false) × (isFlash op ≡ false)
 read-alone op r = (
   refuted (isCommand op) (λ c. omega (arith, command-most op c, read-means op .0 r)),
   refuted (isWrite op) (λ w. omega (arith, write-means op .0 w, read-means op .0 r)),
+  refuted (isFlash op) (λ f. omega (arith, flash-least op f, read-means op .0 r)),
 )
 
 -- "n ≥ 1 whole words"

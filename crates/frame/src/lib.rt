@@ -2,14 +2,15 @@
 ghost use mathlib.Core.Path.{_≡_};
 ghost use Prim.Native.Nat.{_+_, _*_, _<_};
 ghost use lib.ListN.{length};
-ghost use Rattle.frame.specs.Frame.{isCommand, isWrite, isRead, notWhole, pastEnd, writeFrame, readFrame, decodeFrame, wordAt};
+ghost use Rattle.frame.specs.Frame.{isCommand, isWrite, isRead, isFlash, flashFurther, notWhole, pastEnd, writeFrame, readFrame, flashFrame, decodeFrame, wordAt};
 
-// What the bytes ask for. A read or a write names its first register, as in the opcode, and how many words follow.
-// A refusal holds its number.
+// What the bytes ask for. A read or a write names its first register, as in the opcode, and how many words follow;
+// a frame of the user flash has its opcode. A refusal holds its number.
 pub enum Decoded {
     Command(u32),
     Read(u32, usize),
     Write(u32, usize),
+    Flash(u32),
     Refusal(u32),
 }
 
@@ -22,10 +23,13 @@ fn byte(x: u8) -> u32
 fn is_command(op: u32) -> bool
     ensures { λ r. ⌜ r ≡ isCommand op ⌝ }
 {
-    if 10 < op {
+    if 0x0d < op {
         return false;
     }
-    if op == 6 { false } else { true }
+    if op == 0x06 {
+        return false;
+    }
+    if op == 0x0b { false } else { true }
 }
 
 fn is_write(op: u32) -> bool
@@ -44,6 +48,24 @@ fn is_read(op: u32) -> bool
         return false;
     }
     if 0xff < op { false } else { true }
+}
+
+fn is_flash(op: u32) -> bool
+    ensures { λ r. ⌜ r ≡ isFlash op ⌝ }
+{
+    if op == 0x90 {
+        return true;
+    }
+    if op == 0x10 {
+        return true;
+    }
+    if op == 0x13 { true } else { false }
+}
+
+fn flash_further(op: u32) -> usize
+    ensures { λ r. ⌜ r ≡ flashFurther op ⌝ }
+{
+    if op == 0x13 { 2 } else { 4 }
 }
 
 // Whether the bytes after the opcode are other than one or more whole words.
@@ -99,6 +121,22 @@ fn decode_read(op: u32, further: usize, room: usize) -> Decoded
     Decoded::Read(op, words)
 }
 
+fn decode_flash(op: u32, further: usize, room: usize) -> Decoded
+    ensures { λ r. ⌜ r ≡ flashFrame op further room ⌝ }
+{
+    let wanted = flash_further(op);
+    if further == wanted {
+        if op == 0x90 {
+            if room < 2 {
+                return Decoded::Refusal(5);
+            }
+            return Decoded::Flash(op);
+        }
+        return Decoded::Flash(op);
+    }
+    Decoded::Refusal(3)
+}
+
 // Decodes a transaction, given the room in the output buffer. A frame is judged by its first byte and its length alone.
 pub fn decode(frame: &[u8], room: usize) -> Decoded
     ensures { λ r. ⌜ r ≡ decodeFrame (now (frame .entry)) room ⌝ }
@@ -116,6 +154,9 @@ pub fn decode(frame: &[u8], room: usize) -> Decoded
     }
     if is_write(op) {
         return decode_write(op, further);
+    }
+    if is_flash(op) {
+        return decode_flash(op, further, room);
     }
     if is_read(op) {
         return decode_read(op, further, room);

@@ -10,6 +10,14 @@ pub fn word(m: Model, a: u32) -> u32 {
     }
 }
 
+// Whether the regulator of the user flash is on.
+fn regulator(m: Model) -> u32 {
+    match question::regulator_on(m) {
+        Told::Value(v) => v,
+        Told::Refused(_) => 0,
+    }
+}
+
 // The word of 32 bits of a pair of registers, Int and Frac.
 pub fn pair(m: Model, a: u32) -> u32 {
     word(m, a) % 65536 * 65536 + word(m, std::num::wrapping_add_u32(a, 1)) % 65536
@@ -61,6 +69,7 @@ pub fn number(m: Model, w: u32, x: u8) -> u32 {
     match x {
         b'i' | b'j' => half_day(word(m, 0xb1), x),
         b'y' | b'z' => half_day(w, x),
+        b'v' => regulator(m),
         _ => field(w, x),
     }
 }

@@ -8,7 +8,7 @@
 //
 // x is a letter, which the file `number` explains, or the number of a bit, 0 to F, of the row's
 // word. That is the word of the last #.
-pub const PAGE: [u8; 2981] = *b"\
+pub const PAGE: [u8; 3050] = *b"\
 RTC AND WATCHDOG REGISTERS
 B0     Seconds                  #       $s.$S s
 B1     Mins_Hrs                 #       $h:$H[i AM][j PM]
@@ -65,7 +65,8 @@ F8 F9  CalibrationInt/Frac      # #  not carried
 FA FB  Reserved                 # #  not carried
 FC FD  Reserved                 # #  not carried
 STATUS REGISTERS
-FE     Interrupt Status         #      [F TO][E AF][C TOF][B TE][9 TOF_EVTMG][8 TEMP_EVTMG][x
-                                          ][5 HALT][3 INIT][2 POR][w| none]
+FE     Interrupt Status         #      [F TO][E AF][C TOF][B TE][A LDO][9 TOF_EVTMG][8 TEMP_EVTMG][x
+                                          ][7 FLASH][5 HALT][3 INIT][2 POR][w| none]
+       Flash supply                        [von|off]
 FF     Control                  #       not carried
 ";

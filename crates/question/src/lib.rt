@@ -1,6 +1,6 @@
-// Questions about a model: INT, what is awaited, and a register's word. They change nothing.
+// Questions about a model: INT, what is awaited, the regulator of the user flash, and a register's word. They change nothing.
 ghost use mathlib.Core.Path.{_≡_};
-ghost use Rattle.device.specs.Call.{interruptTold, awaitedTold, registerTold};
+ghost use Rattle.device.specs.Call.{interruptTold, awaitedTold, regulatorTold, registerTold};
 use command::state::is_sound;
 use device::Model;
 use device::Schedule;
@@ -52,6 +52,19 @@ pub fn temperature_awaited(m: Model) -> Told
 {
     let t = m.temperature;
     told_awaited(m, t.schedule)
+}
+
+// Whether the regulator of the user flash is on: 1 or 0.
+pub fn regulator_on(m: Model) -> Told
+    ensures { λ r. ⌜ r ≡ regulatorTold m ⌝ }
+{
+    if is_sound(m) {
+        if m.regulator {
+            return Told::Value(1);
+        }
+        return Told::Value(0);
+    }
+    Told::Refused(0)
 }
 
 // The word that a read at address a, B0h to FFh, would give, with nothing cleared.

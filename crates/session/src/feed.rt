@@ -27,6 +27,7 @@ pub fn replay(fd: i32) {
     let mut held = [0u8; 1002];
     let mut numbers = [0u32; 200];
     let mut counts = [0usize; 7];
+    let mut mem = [255u8; 8192];
     let mut answers = io::large_buffer();
     let mut part = io::large_buffer();
     let mut m = converter::fresh();
@@ -44,13 +45,14 @@ pub fn replay(fd: i32) {
                 &mut held,
                 &mut numbers,
                 &mut counts,
+                &mut mem,
                 &mut answers,
             );
             written(&mut counts, &answers);
         }
     }
     if state != UNREADABLE {
-        finish(m, &held, &mut numbers, &mut counts, &mut answers);
+        finish(m, &held, &mut numbers, &mut counts, &mut mem, &mut answers);
     }
 }
 
@@ -68,6 +70,7 @@ fn feed(
     held: &mut [u8],
     numbers: &mut [u32],
     counts: &mut [usize; 7],
+    mem: &mut [u8],
     answers: &mut [u8],
 ) -> Model {
     let mut model = m;
@@ -75,7 +78,7 @@ fn feed(
     while i < part.len() {
         let end = line_end(part, i);
         if end < part.len() {
-            model = whole_line(model, &part[i..end], held, numbers, counts, answers);
+            model = whole_line(model, &part[i..end], held, numbers, counts, mem, answers);
             i = end + 1;
         } else {
             hold(&part[i..], held, counts);
@@ -153,13 +156,14 @@ fn whole_line(
     held: &mut [u8],
     numbers: &mut [u32],
     counts: &mut [usize; 7],
+    mem: &mut [u8],
     answers: &mut [u8],
 ) -> Model {
     if counts[HELD] == 0 {
-        return answer(m, rest, numbers, counts, answers);
+        return answer(m, rest, numbers, counts, mem, answers);
     }
     hold(rest, held, counts);
-    held_line(m, held, numbers, counts, answers)
+    held_line(m, held, numbers, counts, mem, answers)
 }
 
 fn held_line(
@@ -167,11 +171,12 @@ fn held_line(
     held: &[u8],
     numbers: &mut [u32],
     counts: &mut [usize; 7],
+    mem: &mut [u8],
     answers: &mut [u8],
 ) -> Model {
     let n = counts[HELD];
     counts[HELD] = 0;
-    answer(m, first_bytes(held, n), numbers, counts, answers)
+    answer(m, first_bytes(held, n), numbers, counts, mem, answers)
 }
 
 // Holds more of a line.
@@ -192,8 +197,15 @@ fn written(counts: &mut [usize; 7], answers: &[u8]) {
 }
 
 // The last line, which may lack its line feed, and the counts.
-fn finish(m: Model, held: &[u8], numbers: &mut [u32], counts: &mut [usize; 7], answers: &mut [u8]) {
-    last_line(m, held, numbers, counts, answers);
+fn finish(
+    m: Model,
+    held: &[u8],
+    numbers: &mut [u32],
+    counts: &mut [usize; 7],
+    mem: &mut [u8],
+    answers: &mut [u8],
+) {
+    last_line(m, held, numbers, counts, mem, answers);
     let used = add_end(counts, answers);
     write_first(answers, used);
 }
@@ -203,10 +215,11 @@ fn last_line(
     held: &[u8],
     numbers: &mut [u32],
     counts: &mut [usize; 7],
+    mem: &mut [u8],
     answers: &mut [u8],
 ) {
     if counts[HELD] != 0 {
-        held_line(m, held, numbers, counts, answers);
+        held_line(m, held, numbers, counts, mem, answers);
     }
 }
 

@@ -15,6 +15,7 @@ pub fn answer(
     text: &[u8],
     numbers: &mut [u32],
     counts: &mut [usize; 7],
+    mem: &mut [u8],
     answers: &mut [u8],
 ) -> Model {
     let call = line::read_line(text, numbers);
@@ -22,13 +23,14 @@ pub fn answer(
     counts[USED] = make_room(answers, counts[USED]);
     match call {
         Call::Nothing => m,
-        Call::Item => item(text, counts, answers),
-        Call::Bus { bytes } => bus(m, first_words(numbers, bytes), counts, answers),
+        Call::Item => item(text, counts, mem, answers),
+        Call::Bus { bytes } => bus(m, first_words(numbers, bytes), counts, mem, answers),
         Call::BusOut { out, bytes } => crate::transaction::bus(
             m,
             first_words(numbers, bytes),
             out as usize,
             counts,
+            mem,
             answers,
         ),
         Call::Tick(n) => crate::ticks::tick(m, n, counts, answers),
@@ -79,12 +81,19 @@ fn tell(m: Model, call: Call, counts: &mut [usize; 7], answers: &mut [u8]) {
     }
 }
 
-fn bus(m: Model, words: &[u32], counts: &mut [usize; 7], answers: &mut [u8]) -> Model {
+fn bus(
+    m: Model,
+    words: &[u32],
+    counts: &mut [usize; 7],
+    mem: &mut [u8],
+    answers: &mut [u8],
+) -> Model {
     crate::transaction::bus(
         m,
         words,
         crate::transaction::buffer_size(words),
         counts,
+        mem,
         answers,
     )
 }
@@ -106,8 +115,18 @@ fn bad(call: Call, counts: &mut [usize; 7], answers: &mut [u8]) {
     counts[USED] = wording::fault::put_fault(answers, counts[USED], counts[LINES] as u64, call);
 }
 
-fn item(text: &[u8], counts: &mut [usize; 7], answers: &mut [u8]) -> Model {
+// An item starts on a fresh model and an erased user flash.
+fn item(text: &[u8], counts: &mut [usize; 7], mem: &mut [u8], answers: &mut [u8]) -> Model {
+    erase_all(mem);
     let end = line::put_words(answers, counts[USED], text);
     counts[USED] = numeral::put_text(answers, end, b"\n");
     converter::fresh()
+}
+
+fn erase_all(mem: &mut [u8]) {
+    let mut i = 0;
+    while i < mem.len() {
+        mem[i] = 255;
+        i += 1;
+    }
 }

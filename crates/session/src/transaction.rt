@@ -12,6 +12,7 @@ pub fn bus(
     words: &[u32],
     size: usize,
     counts: &mut [usize; 7],
+    mem: &mut [u8],
     answers: &mut [u8],
 ) -> Model {
     let mut frame = [0u8; 200];
@@ -23,6 +24,7 @@ pub fn bus(
         &mut buffer,
         size,
         counts,
+        mem,
         answers,
     )
 }
@@ -34,12 +36,13 @@ fn bus_sized(
     buffer: &mut [u8],
     size: usize,
     counts: &mut [usize; 7],
+    mem: &mut [u8],
     answers: &mut [u8],
 ) -> Model {
     if size <= buffer.len() {
-        bus_call(m, frame, &mut buffer[..size], counts, answers)
+        bus_call(m, frame, &mut buffer[..size], counts, mem, answers)
     } else {
-        bus_call(m, frame, buffer, counts, answers)
+        bus_call(m, frame, buffer, counts, mem, answers)
     }
 }
 
@@ -48,9 +51,10 @@ fn bus_call(
     frame: &[u8],
     buffer: &mut [u8],
     counts: &mut [usize; 7],
+    mem: &mut [u8],
     answers: &mut [u8],
 ) -> Model {
-    let reply = converter::transaction(m, frame, buffer);
+    let reply = converter::transaction(m, frame, buffer, mem);
     let answer = reply.answer;
     let used = wording::bus::put_bus(answers, counts[USED], answer, buffer);
     count_call(counts, answer, used);

@@ -88,8 +88,8 @@ write-adds s t bytes op n =
 write-length :
     (f : List ℕ) →
     isWrite (opcode f) ≡ true →
-    noFrame (transaction f []) ≡ false →
-    wrongLength (transaction f []) ≡ false →
+    noFrame (transaction f [] []) ≡ false →
+    wrongLength (transaction f [] []) ≡ false →
     length f ≡ 2 * words f + 1
 unfolding noFrame wrongLength
 write-length f w e =
@@ -99,16 +99,16 @@ write-length f w e =
 frame-adds :
     (s : List ℕ) (m : Model) (f : List ℕ) →
     isWrite (opcode f) ≡ true →
-    changes s (reply m (transaction f []) .model .setup) ≤ changes s (m .setup) + length f
+    changes s (reply m (transaction f [] []) .model .setup) ≤ changes s (m .setup) + length f
 unfolding reply replyBy acceptedModel writeModel
-frame-adds s m f w = go (verdict m (transaction f [])) refl
+frame-adds s m f w = go (verdict m (transaction f [] [])) refl
   where
     go :
         (v : Verdict) →
-        verdict m (transaction f []) ≡ v →
-        changes s (replyBy v m (transaction f []) .model .setup) ≤ changes s (m .setup) + length f
+        verdict m (transaction f [] []) ≡ v →
+        changes s (replyBy v m (transaction f [] []) .model .setup) ≤ changes s (m .setup) + length f
     go accepted e =
-        let none = none-holds m (transaction f []) e in
+        let none = none-holds m (transaction f [] []) e in
         let long : length f ≡ 2 * words f + 1 = write-length f w (none .row1) (none .row3) in
         rw (write-alone (opcode f) w .0, w) (omega (arith, write-adds s (m .setup) (drop 1 f) (opcode f) (words f)))
     go (refused n) e = omega arith
@@ -127,7 +127,7 @@ list-adds s (f ∷ fs) m w =
     let (one, others) = both-hold (isWrite (opcode f)) (onlyWrites fs) w in
     omega (
       arith,
-      list-adds s fs (reply m (transaction f []) .model) others,
+      list-adds s fs (reply m (transaction f [] []) .model) others,
       frame-adds s m f one,
       length-append f (joined fs),
     )

@@ -9,14 +9,15 @@ use Rattle.unit.specs.Choice.{pick}
 use Rattle.unit.specs.Cases.{by-test}
 use Rattle.calendar.specs.Words.{alarmValid, wordsValid}
 use Rattle.register.specs.Setup.{factory, alarmWord}
-use Rattle.frame.specs.Frame.{isCommand, isWrite}
+use Rattle.frame.specs.Frame.{isCommand, isWrite, isFlash}
 use Rattle.device.specs.declared.Model.{Model}
 use Rattle.device.specs.Model.{freshModel, freshWith, resetModel}
 use Rattle.device.specs.Registers.{calendarWord}
 use Rattle.device.specs.Write.{written, ticksAfter, setupAfter, writeInvalid, writeModel}
 use Rattle.device.specs.Tick.{tickModel}
 use Rattle.device.specs.Delivery.{flightGood, flightFailed, temperatureGood, temperatureFailed}
-use Rattle.device.specs.Bus.{isEvent, initialised, haltedModel, startedEvent, singleStarted, runModel, readModel}
+use Rattle.device.specs.Bus.{isEvent, initialised, haltedModel, startedEvent, singleStarted, supplied, unsupplied, runModel, readModel}
+use Rattle.device.specs.FlashFrame.{flashModel}
 use Rattle.device.specs.Call.{Call, transaction, tick, flight, temperature, stretch, opcode, words}
 use Rattle.device.specs.Call.{badCalendar, anyLate, portFault, acceptedModel, Verdict, accepted, refused, verdict, reply, replyBy}
 use Rattle.device.specs.Claim.{after}
@@ -36,17 +37,23 @@ unfolding factory alarmWord
 fresh-valid m e = rw e fresh-alarm
 
 run-valid : (m : Model) (op : ℕ) → ValidAlarm m → ValidAlarm (runModel m op)
-unfolding runModel resetModel freshWith initialised haltedModel startedEvent singleStarted
+unfolding runModel resetModel freshWith initialised haltedModel supplied unsupplied startedEvent singleStarted
 run-valid m op v =
     picked ValidAlarm (eqb op 4) (λ _. fresh-valid resetModel refl)
     (λ _. picked ValidAlarm (eqb op 5) (λ _. v)
     (λ _. picked ValidAlarm (eqb op 10) (λ _. v)
-    (λ _. picked ValidAlarm (isEvent op) (λ _. v) (λ _. picked ValidAlarm (eqb op 3) (λ _. v) (λ _. v)))))
+    (λ _. picked ValidAlarm (eqb op 12) (λ _. v)
+    (λ _. picked ValidAlarm (eqb op 13) (λ _. v)
+    (λ _. picked ValidAlarm (isEvent op) (λ _. v) (λ _. picked ValidAlarm (eqb op 3) (λ _. v) (λ _. v)))))))
 
 read-valid : (m : Model) (a n : ℕ) → ValidAlarm m → ValidAlarm (readModel m a n)
 unfolding readModel
 read-valid m a n v =
     picked ValidAlarm (ltb 0xFE a) (λ _. v) (λ _. picked ValidAlarm (leb (a + n) 0xFE) (λ _. v) (λ _. v))
+
+flash-valid : (m : Model) (op : ℕ) → ValidAlarm m → ValidAlarm (flashModel m op)
+unfolding flashModel
+flash-valid m op v = picked ValidAlarm (eqb op 0x90) (λ _. v) (λ _. v)
 
 judged : (words alarm : Bool) → pick words (pick alarm false true) true ≡ false → alarm ≡ true
 judged true true e = refl
@@ -69,11 +76,13 @@ write-valid bytes op n m e =
 
 accepted-valid : (m : Model) (c : Call) → badCalendar m c ≡ false → ValidAlarm m → ValidAlarm (acceptedModel m c)
 unfolding acceptedModel badCalendar tickModel flightFailed flightGood temperatureFailed temperatureGood
-accepted-valid m (transaction f o) e v =
+accepted-valid m (transaction f o x) e v =
     by-test (isCommand (opcode f)) (λ c. rw c (run-valid m (opcode f) v))
     (λ c. by-test (isWrite (opcode f))
     (λ w. rw (c, w) (write-valid (drop 1 f) (opcode f) (words f) m (rw (c, w) at e)))
-    (λ w. rw (c, w) (read-valid m (opcode f) (words f) v)))
+    (λ w. by-test (isFlash (opcode f))
+    (λ u. rw (c, w, u) (flash-valid m (opcode f) v))
+    (λ u. rw (c, w, u) (read-valid m (opcode f) (words f) v))))
 accepted-valid m tick e v = v
 accepted-valid m (flight u d) e v = picked ValidAlarm (anyLate m u d) (λ _. v) (λ _. v)
 accepted-valid m (temperature w) e v = picked ValidAlarm (portFault m w) (λ _. v) (λ _. v)

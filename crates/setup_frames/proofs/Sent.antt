@@ -76,7 +76,7 @@ module _ (s : List ℕ) (w : Words s) (v : alarmValid (alarmWord s) ≡ true) wh
       i + n ≤ 16 →
       Idle m →
       m .setup ≡ reached s i →
-      reply m (transaction ((0x34 + i) ∷ bytesOf s i n) []) .model ≡ writeModel (bytesOf s i n) (0x34 + i) n m
+      reply m (transaction ((0x34 + i) ∷ bytesOf s i n) [] []) .model ≡ writeModel (bytesOf s i n) (0x34 + i) n m
   unfolding writeReply
   frame-sent m i n some fits idle at =
       let f : List ℕ = (0x34 + i) ∷ bytesOf s i n in
@@ -87,7 +87,7 @@ module _ (s : List ℕ) (w : Words s) (v : alarmValid (alarmWord s) ≡ true) wh
       rw written (reached-alarm s (i + n) (w .sixteen) v)
       in
       rw (
-        ← reply-write m f [] (idle .sound-model) (0x34 + i) n (frame-decoded s i n some fits) .0,
+        ← reply-write m f [] [] (idle .sound-model) (0x34 + i) n (frame-decoded s i n some fits),
         idle .not-busy,
         judged-by-alarm m (bytesOf s i n) (0x34 + i) n (idle .sound-model) (omega arith),
         valid,
@@ -99,11 +99,11 @@ module _ (s : List ℕ) (w : Words s) (v : alarmValid (alarmWord s) ≡ true) wh
       i + n ≤ 16 →
       Idle m →
       m .setup ≡ reached s i →
-      Idle (reply m (transaction ((0x34 + i) ∷ bytesOf s i n) []) .model)
+      Idle (reply m (transaction ((0x34 + i) ∷ bytesOf s i n) [] []) .model)
   unfolding busy writeModel
   still-idle m i n some fits idle at =
       record {
-        sound-model = keeps-sound m (transaction ((0x34 + i) ∷ bytesOf s i n) []) (idle .sound-model);
+        sound-model = keeps-sound m (transaction ((0x34 + i) ∷ bytesOf s i n) [] []) (idle .sound-model);
         not-busy = rw (frame-sent m i n some fits idle at) (idle .not-busy);
       }
 
@@ -113,7 +113,7 @@ module _ (s : List ℕ) (w : Words s) (v : alarmValid (alarmWord s) ≡ true) wh
       i + n ≤ 16 →
       Idle m →
       m .setup ≡ reached s i →
-      reply m (transaction ((0x34 + i) ∷ bytesOf s i n) []) .model .setup ≡ reached s (i + n)
+      reply m (transaction ((0x34 + i) ∷ bytesOf s i n) [] []) .model .setup ≡ reached s (i + n)
   unfolding writeModel
   words-sent m i n some fits idle at =
       rw (frame-sent m i n some fits idle at, at) (reached-write s w i n n (omega arith) fits)
@@ -148,7 +148,7 @@ module _ (s : List ℕ) (w : Words s) (v : alarmValid (alarmWord s) ≡ true) wh
       let fits : i + n ≤ 16 = omega (arith, run-within s k (suc i)) in
       let from : m .setup ≡ reached s i = at ∙ rw (add-zero i) in
       let e : i + n ≡ suc i + r = omega arith in
-      frames-sent k (suc i) (omega arith) (reply m (transaction ((0x34 + i) ∷ bytesOf s i n) []) .model)
+      frames-sent k (suc i) (omega arith) (reply m (transaction ((0x34 + i) ∷ bytesOf s i n) [] []) .model)
       (still-idle m i n (omega arith) fits idle from)
       (words-sent m i n (omega arith) fits idle from ∙ rw (before-next s i, d, e)))))
       (λ d.

@@ -10,9 +10,9 @@ use Rattle.device.specs.Model.{freshModel}
 use Rattle.device.specs.Call.{Call, transaction, opcode}
 use Rattle.device.specs.Claim.{after}
 
--- "Sending them": each frame is one transaction, with no output buffer
+-- "Sending them": each frame is one transaction, with no output buffer and no memory
 abbrev pub sent : List (List ℕ) → List Call
-sent fs = map (λ (f : List ℕ). transaction f []) fs
+sent fs = map (λ (f : List ℕ). transaction f [] []) fs
 
 -- "Sending them to a fresh model gives": its set-up afterwards
 unfoldable pub setupFrom : List (List ℕ) → List ℕ

@@ -30,6 +30,16 @@ fn put_late_refusal(out: &mut [u8], at: usize, number: u32) -> usize {
         8 => numeral::put_text(out, at, b"not initialised"),
         9 => numeral::put_text(out, at, b"set-up"),
         10 => numeral::put_text(out, at, b"not awaited"),
-        _ => numeral::put_text(out, at, b"word count"),
+        11 => numeral::put_text(out, at, b"word count"),
+        _ => put_later_refusal(out, at, number),
+    }
+}
+
+fn put_later_refusal(out: &mut [u8], at: usize, number: u32) -> usize {
+    match number {
+        12 => numeral::put_text(out, at, b"span"),
+        15 => numeral::put_text(out, at, b"supply off"),
+        16 => numeral::put_text(out, at, b"flash address"),
+        _ => numeral::put_text(out, at, b"not erased"),
     }
 }

@@ -16,6 +16,11 @@ const FIRST: u8 = 0x30;
 const RESET: u8 = 0x04;
 const INITIALIZE: u8 = 0x05;
 const HALT: u8 = 0x0A;
+const LDO_ON: u8 = 0x0C;
+const LDO_OFF: u8 = 0x0D;
+const FLASH_WRITE: u8 = 0x10;
+const FLASH_ERASE: u8 = 0x13;
+const FLASH_READ: u8 = 0x90;
 
 fn main() -> ExitCode {
     let arguments: Option<Vec<u64>> = std::env::args()
@@ -153,7 +158,8 @@ impl Maker {
                 0..=4 => self.configure(),
                 5..=26 => self.calendar(),
                 27..=29 => self.continuous_event(),
-                30..=64 => self.single_measurement(),
+                30..=60 => self.single_measurement(),
+                61..=64 => self.flash(),
                 65..=74 => self.event(),
                 75..=84 => self.frames(),
                 85..=91 => self.mixture(),
@@ -213,7 +219,7 @@ impl Maker {
             [INITIALIZE] => self.initialised = true,
             _ => {}
         }
-        let mut words = String::from("bus");
+        let mut output_size = None;
         if self.random.percent(3) {
             let exact = frame.len() as u64;
             let size = match self.random.below(3) {
@@ -221,8 +227,16 @@ impl Maker {
                 1 => self.random.below(8),
                 _ => self.random.between(0, 200),
             };
+            output_size = Some(size.min(200));
+        }
+        self.bus_with(output_size, frame);
+    }
+
+    fn bus_with(&mut self, output_size: Option<u64>, frame: &[u8]) {
+        let mut words = String::from("bus");
+        if let Some(size) = output_size {
             let digits = self.random.between(1, 10) as usize;
-            words += &format!(" out={:0digits$}", size.min(200));
+            words += &format!(" out={size:0digits$}");
         }
         for &byte in frame {
             words.push(' ');
@@ -617,7 +631,7 @@ impl Maker {
     }
 
     fn disturb(&mut self) {
-        match self.random.below(8) {
+        match self.random.below(10) {
             0 => self.deliver_flight(true, true, Quality::Good),
             1 => self.deliver_temperature(Quality::Good),
             2 => self.write(0x34, &[0x1234]),
@@ -629,6 +643,8 @@ impl Maker {
                 self.bus(&[opcode]);
             }
             6 => self.line(b"awaited"),
+            7 => self.flash_frame(),
+            8 => self.switch_regulator(),
             _ => self.read(0xFE, 1),
         }
     }
@@ -817,16 +833,110 @@ impl Maker {
     }
 }
 
+/// The user flash.
+impl Maker {
+    /// Frames on a few words and blocks, so that many meet what earlier ones left.
+    fn flash(&mut self) {
+        if self.random.percent(85) {
+            self.bus(&[LDO_ON]);
+        }
+        for _ in 0..self.random.between(3, 40) {
+            match self.random.below(30) {
+                0 | 1 => self.switch_regulator(),
+                2 => self.read(0xFE, 1),
+                3 => self.while_busy(),
+                4 => {
+                    let opcode = self.random.one_of(&[HALT, INITIALIZE, RESET]);
+                    self.bus(&[opcode]);
+                }
+                5 => self.probe(),
+                _ => self.flash_frame(),
+            }
+        }
+    }
+
+    fn switch_regulator(&mut self) {
+        let opcode = self.random.one_of(&[LDO_ON, LDO_ON, LDO_OFF]);
+        let frame = [opcode, 0, 0, 0, 0];
+        let length = self.random.one_of(&[1, 1, 1, 1, 1, 1, 1, 2, 3, 5]);
+        self.bus(&frame[..length]);
+    }
+
+    /// Flash frames while a measurement is awaited or an event runs.
+    fn while_busy(&mut self) {
+        let opcode = self.random.one_of(&[0, 1, 2, 3, 7, 8, 9]);
+        self.bus(&[opcode]);
+        for _ in 0..self.random.between(1, 4) {
+            match self.random.below(4) {
+                0 => self.switch_regulator(),
+                _ => self.flash_frame(),
+            }
+        }
+        match self.random.below(4) {
+            0 => self.wait(DELIVERY_LIMIT),
+            _ => self.bus(&[HALT]),
+        }
+    }
+
+    /// A read, a write or an erasure; one in twelve has a wrong length.
+    fn flash_frame(&mut self) {
+        let opcode = match self.random.below(12) {
+            0..=5 => FLASH_READ,
+            6..=10 => FLASH_WRITE,
+            _ => FLASH_ERASE,
+        };
+        let mut frame = vec![opcode];
+        frame.extend(self.flash_address().to_be_bytes());
+        if opcode != FLASH_ERASE {
+            let random = self.random.word();
+            let word = self
+                .random
+                .one_of(&[random, random, 0, 0xFFFF, 0xFF00, 0x00FF]);
+            frame.extend(word.to_be_bytes());
+        }
+        if self.random.below(12) == 0 {
+            let length = self.random.between(1, 8) as usize;
+            frame.resize(length, 0xFF);
+        }
+        if opcode == FLASH_READ && self.random.percent(15) {
+            let size = self.random.one_of(&[0, 1, 1, 2, 3, 7]);
+            self.bus_with(Some(size), &frame);
+        } else {
+            self.bus(&frame);
+        }
+    }
+
+    /// Mostly a word at an edge of a block, sometimes odd or past the memory.
+    fn flash_address(&mut self) -> u16 {
+        let even = self.random.word() & 0x1FFE;
+        match self.random.below(20) {
+            0 => even + 1,
+            1 => self
+                .random
+                .one_of(&[0x2000, 0x2002, 0x1FFF, 0x8000, 0xFFFE, 0xFFFF]),
+            2 => self.random.word(),
+            3 | 4 => even,
+            5 => self.random.one_of(&[0x0001, 0x00FF, 0x0101, 0x1FFD]),
+            _ => self
+                .random
+                .one_of(&[0x0000, 0x0002, 0x00FE, 0x0100, 0x01FE, 0x1F00, 0x1FFE]),
+        }
+    }
+}
+
 /// Calls and lines without a plan.
 impl Maker {
     /// Frames of every sort, many of them malformed.
     fn frames(&mut self) {
+        const OPCODES_AT_EDGES: [u8; 20] = [
+            0x06, 0x0B, 0x0C, 0x0D, 0x0E, 0x0F, 0x10, 0x11, 0x12, 0x13, 0x14, 0x2F, 0x30, 0x43,
+            0x44, 0x90, 0x91, 0xAF, 0xB0, 0xFF,
+        ];
         for _ in 0..self.random.between(1, 10) {
             let random = self.random.byte();
             let write = self.random.between(0x30, 0x43) as u8;
             let read = self.random.between(0xB0, 0xFF) as u8;
-            let edge = [0x06, 0x0B, 0x2F, 0x30, 0x43, 0x44, 0x90, 0xAF, 0xB0, 0xFF];
-            let edge = self.random.one_of(&edge);
+            let edge = self.random.one_of(&OPCODES_AT_EDGES);
             let opcode = self.random.one_of(&[random, write, read, read, edge]);
             let further = match self.random.below(10) {
                 0 => 0,
@@ -846,9 +956,9 @@ impl Maker {
 
     fn mixture(&mut self) {
         for _ in 0..self.random.between(3, 25) {
-            match self.random.below(12) {
+            match self.random.below(13) {
                 0 | 1 => {
-                    let opcode = self.random.between(0, 10) as u8;
+                    let opcode = self.random.between(0, 0x14) as u8;
                     self.bus(&[opcode]);
                 }
                 2 | 3 => {
@@ -867,6 +977,7 @@ impl Maker {
                 }
                 8 => self.disturb(),
                 9 => self.frames(),
+                10 => self.flash_frame(),
                 _ => self.probe(),
             }
         }
@@ -952,10 +1063,12 @@ impl Maker {
 
     /// A good line with one byte changed, added or removed.
     fn altered_line(&mut self) {
-        const LINES: [&str; 10] = [
+        const LINES: [&str; 12] = [
             "item an altered line",
             "bus 38 01 10",
             "bus out=4 FE 00 00",
+            "bus 10 00 02 12 34",
+            "bus out=2 90 00 02 00 00",
             "tick 12",
             "flight 5 / 6",
             "temperature 1 2 3 4",

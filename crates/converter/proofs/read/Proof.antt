@@ -5,7 +5,7 @@ use Rattle.device.specs.Bus.{readModel}
 use Rattle.device.specs.Registers.{fill}
 use Rattle.device.specs.declared.Model.{Model}
 use Rattle.frame.proofs.Decoded.{the-type}
-use Rattle.frame.specs.declared.Decoded.the-variants.{Command, Read, Write, Refusal}
+use Rattle.frame.specs.declared.Decoded.the-variants.{Command, Read, Write, Flash, Refusal}
 use Rattle.frame.specs.declared.Decoded.{Decoded}
 use types.Run.{OneOf, miss}
 use denote.Enum.Declared.{tagOf}
@@ -23,12 +23,13 @@ use Rattle.converter.proofs.read.Tie as tie
 -- what decoding gives but a read: the refusal's number, and nothing written
 not-a-read :
     (m : Model) (d : Decoded) (o : List ℕ) →
-    OneOf (0 ∷ 2 ∷ 3 ∷ []) (tagOf the-type d) →
+    OneOf (0 ∷ 2 ∷ 3 ∷ 4 ∷ []) (tagOf the-type d) →
     (refuse (refusalNumber d) m ≡ readReply m d) × (o ≡ readOutput m d o)
 unfolding readReply readOutput refusalNumber
 not-a-read m (Command op) o h = (refl, refl)
-not-a-read m (Read op n) o h = absurd (miss (0 ∷ 2 ∷ 3 ∷ []) 1 tt h)
+not-a-read m (Read op n) o h = absurd (miss (0 ∷ 2 ∷ 3 ∷ 4 ∷ []) 1 tt h)
 not-a-read m (Write op n) o h = (refl, refl)
+not-a-read m (Flash op) o h = (refl, refl)
 not-a-read m (Refusal n) o h = (refl, refl)
 
 -- a read: the registers' words written

@@ -1,39 +1,34 @@
 -- `converter::refusal_number` meets its contract.
-use Rattle.unit.specs.Tests.{tests}
 use Rattle.device.specs.Call.{refusalNumber}
+use Rattle.frame.proofs.Decoded.{the-type}
+use Rattle.frame.specs.declared.Decoded.{Decoded}
+use Rattle.frame.specs.declared.Decoded.the-variants.{Command, Read, Write, Flash, Refusal}
+use types.Run.{OneOf, miss}
+use denote.Enum.Declared.{tagOf}
+use mathlib.Core.List.{List, [], _∷_}
+use mathlib.Core.Path.{_≡_, refl}
+use Prim.Native.Nat.{ℕ}
 use borrow.Author.Needs.{needs}
 use Rattle.converter.proofs.refusal_number.Statement.{statement}
 use Rattle.converter.proofs.refusal_number.Tie as tie
 
+not-a-refusal : (d : Decoded) → OneOf (0 ∷ 1 ∷ 2 ∷ 3 ∷ []) (tagOf the-type d) → _≡_ {A = ℕ} 2 (refusalNumber d)
+unfolding refusalNumber
+not-a-refusal (Command op) h = refl
+not-a-refusal (Read op n) h = refl
+not-a-refusal (Write op n) h = refl
+not-a-refusal (Flash op) h = refl
+not-a-refusal (Refusal n) h = absurd (miss (0 ∷ 1 ∷ 2 ∷ 3 ∷ []) 4 tt h)
+
 enum-known-d : tie.Need-enum-known-d
 enum-known-d c = search needs
 
-enum-told : tie.Need-enum-told
-enum-told c = search needs
-
-enum-told-2 : tie.Need-enum-told-2
-enum-told-2 c = search needs
-
-enum-told-3 : tie.Need-enum-told-3
-enum-told-3 c = search needs
-
 returns : tie.Need-returns
 unfolding refusalNumber
-returns c = search (needs, tests)
+returns c = simp (c .before .d .given .1)
 
 returns-2 : tie.Need-returns-2
-unfolding refusalNumber
-returns-2 c = search (needs, tests)
-
-returns-3 : tie.Need-returns-3
-unfolding refusalNumber
-returns-3 c = search (needs, tests)
-
-returns-4 : tie.Need-returns-4
-unfolding refusalNumber
-returns-4 c = search (needs, tests)
+returns-2 c = not-a-refusal (c .before .args .d) (c .match .keys2)
 
 pub refusal-number-spec : {M : Type 1} → statement M
-refusal-number-spec =
-    tie.close
-    (tie.spec enum-known-d enum-told enum-told-2 enum-told-3 returns returns-2 returns-3 returns-4)
+refusal-number-spec = tie.close (tie.spec enum-known-d returns returns-2)

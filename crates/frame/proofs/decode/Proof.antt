@@ -1,6 +1,6 @@
 -- `frame::decode` meets its contract.
-use Rattle.unit.specs.Tests.{tests}
 use Rattle.frame.specs.Frame.{decodeFrame}
+use Rattle.unit.specs.Tests.{tests}
 use borrow.Author.Needs.{needs}
 use Rattle.frame.proofs.decode.Statement.{statement}
 use Rattle.frame.proofs.decode.Tie as tie
@@ -39,19 +39,29 @@ returns-4 : tie.Need-returns-4
 unfolding decodeFrame
 returns-4 c = search (needs, tests, ← c .decode-write .ensures, c .before .if4 .taken, ← c .before .before .is-write .ensures, c .before .before .before .if2 .left, ← c .before .before .before .before .is-command .ensures, ← c .before .before .before .before .before .byte .ensures .0, c .before .before .before .before .before .before .before .if1 .left)
 
+is-flash-requires : tie.Need-is-flash-requires
+is-flash-requires c κs = search needs
+
+decode-flash-requires : tie.Need-decode-flash-requires
+decode-flash-requires c κs = search needs
+
+returns-5 : tie.Need-returns-5
+unfolding decodeFrame
+returns-5 c = search (needs, tests, ← c .decode-flash .ensures, c .before .if5 .taken, ← c .before .before .is-flash .ensures, c .before .before .before .if4 .left, ← c .before .before .before .before .is-write .ensures, c .before .before .before .before .before .if2 .left, ← c .before .before .before .before .before .before .is-command .ensures, ← c .before .before .before .before .before .before .before .byte .ensures .0, c .before .before .before .before .before .before .before .before .before .if1 .left)
+
 is-read-requires : tie.Need-is-read-requires
 is-read-requires c κs = search needs
 
 decode-read-requires : tie.Need-decode-read-requires
 decode-read-requires c κs = search needs
 
-returns-5 : tie.Need-returns-5
-unfolding decodeFrame
-returns-5 c = search (needs, tests, ← c .decode-read .ensures, c .before .if5 .taken, ← c .before .before .is-read .ensures, c .before .before .before .if4 .left, ← c .before .before .before .before .is-write .ensures, c .before .before .before .before .before .if2 .left, ← c .before .before .before .before .before .before .is-command .ensures, ← c .before .before .before .before .before .before .before .byte .ensures .0, c .before .before .before .before .before .before .before .before .before .if1 .left)
-
 returns-6 : tie.Need-returns-6
 unfolding decodeFrame
-returns-6 c = search (needs, tests, c .if5 .left, ← c .before .is-read .ensures, c .before .before .if4 .left, ← c .before .before .before .is-write .ensures, c .before .before .before .before .if2 .left, ← c .before .before .before .before .before .is-command .ensures, ← c .before .before .before .before .before .before .byte .ensures .0, c .before .before .before .before .before .before .before .before .if1 .left)
+returns-6 c = search (needs, tests, ← c .decode-read .ensures, c .before .if6 .taken, ← c .before .before .is-read .ensures, c .before .before .before .if5 .left, ← c .before .before .before .before .is-flash .ensures, c .before .before .before .before .before .if4 .left, ← c .before .before .before .before .before .before .is-write .ensures, c .before .before .before .before .before .before .before .if2 .left, ← c .before .before .before .before .before .before .before .before .is-command .ensures, ← c .before .before .before .before .before .before .before .before .before .byte .ensures .0, c .before .before .before .before .before .before .before .before .before .before .before .if1 .left)
+
+returns-7 : tie.Need-returns-7
+unfolding decodeFrame
+returns-7 c = search (needs, tests, c .if6 .left, ← c .before .is-read .ensures, c .before .before .if5 .left, ← c .before .before .before .is-flash .ensures, c .before .before .before .before .if4 .left, ← c .before .before .before .before .before .is-write .ensures, c .before .before .before .before .before .before .if2 .left, ← c .before .before .before .before .before .before .before .is-command .ensures, ← c .before .before .before .before .before .before .before .before .byte .ensures .0, c .before .before .before .before .before .before .before .before .before .before .if1 .left)
 
 pub decode-spec : {M : Type 1} → statement M
 decode-spec =
@@ -67,7 +77,10 @@ decode-spec =
     is-write-requires
     decode-write-requires
     returns-4
+    is-flash-requires
+    decode-flash-requires
+    returns-5
     is-read-requires
     decode-read-requires
-    returns-5
-    returns-6)
+    returns-6
+    returns-7)

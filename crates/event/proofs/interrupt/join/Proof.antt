@@ -31,6 +31,12 @@ any-of-requires-8 c κs = search needs
 any-of-requires-9 : tie.Need-any-of-requires-9
 any-of-requires-9 c κs = search needs
 
+any-of-requires-10 : tie.Need-any-of-requires-10
+any-of-requires-10 c κs = search needs
+
+any-of-requires-11 : tie.Need-any-of-requires-11
+any-of-requires-11 c κs = search needs
+
 returns : tie.Need-returns
 unfolding joined
 returns c = cc
@@ -48,4 +54,6 @@ join-spec =
     any-of-requires-7
     any-of-requires-8
     any-of-requires-9
+    any-of-requires-10
+    any-of-requires-11
     returns)

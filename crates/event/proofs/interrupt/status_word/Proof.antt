@@ -1,6 +1,6 @@
 -- `event::interrupt::status_word` meets its contract.
-use Rattle.unit.specs.Tests.{tests}
 use Rattle.device.specs.Status.{statusWord}
+use Rattle.unit.specs.Tests.{tests}
 use borrow.Author.Needs.{needs}
 use Rattle.event.proofs.interrupt.status_word.Statement.{statement}
 use Rattle.event.proofs.interrupt.status_word.Tie as tie
@@ -56,6 +56,18 @@ weight-requires-9 c κs = search needs
 add-result-8 : tie.Need-add-result-8
 add-result-8 c = search needs
 
+weight-requires-10 : tie.Need-weight-requires-10
+weight-requires-10 c κs = search needs
+
+add-result-9 : tie.Need-add-result-9
+add-result-9 c = search needs
+
+weight-requires-11 : tie.Need-weight-requires-11
+weight-requires-11 c κs = search needs
+
+add-result-10 : tie.Need-add-result-10
+add-result-10 c = search needs
+
 returns : tie.Need-returns
 unfolding statusWord
 returns c = search (needs, tests)
@@ -81,4 +93,8 @@ status-word-spec =
     add-result-7
     weight-requires-9
     add-result-8
+    weight-requires-10
+    add-result-9
+    weight-requires-11
+    add-result-10
     returns)

@@ -1,17 +1,22 @@
 -- `session::feed::feed` is safe.
-use borrow.Author.Needs.{needs}
 use native.Mathlib.Omega.{arith}
 use Prim.Native.Nat.{_≤_, _-_}
 use lib.ListN.{length}
-use mathlib.Core.Path.{_≡_}
+use mathlib.Core.Path.{_≡_, _∙_}
+use borrow.Author.Needs.{needs}
 use Rattle.session.proofs.feed.feed.Statement.{statement}
 use Rattle.session.proofs.feed.feed.Tie as tie
 
 abbrev Inv-loop : tie.InvT-loop
-Inv-loop part held₀ numbers₀ counts₀ answers₀ model₀ i₀ held numbers counts answers model i = (i ≤ length part) × (length held ≡ length held₀) × (length numbers ≡ length numbers₀) × (length answers ≡ length answers₀)
+Inv-loop part held₀ numbers₀ counts₀ mem₀ answers₀ model₀ i₀ held numbers counts mem answers model i =
+    (i ≤ length part) ×
+    (length held ≡ length held₀) ×
+    (length numbers ≡ length numbers₀) ×
+    (length mem ≡ length mem₀) ×
+    (length answers ≡ length answers₀)
 
 abbrev μ-loop : tie.MeasureT-loop
-μ-loop part held₀ numbers₀ counts₀ answers₀ model₀ i₀ held numbers counts answers model i = length part - i
+μ-loop part held₀ numbers₀ counts₀ mem₀ answers₀ model₀ i₀ held numbers counts mem answers model i = length part - i
 
 loop-holds : tie.Need-loop-holds Inv-loop μ-loop
 loop-holds c = search needs
@@ -32,13 +37,21 @@ whole-line-requires : tie.Need-whole-line-requires Inv-loop μ-loop
 whole-line-requires c κs = search needs
 
 add-i : tie.Need-add-i Inv-loop μ-loop
-add-i c = omega (arith, c .before .before .before .before .before .before .before .before .before .before .before .before .if1 .taken, c .before .before .before .before .before .before .before .before .before .before .before .before .before .before .before .before .before .before .before .before .good .1)
+add-i c = omega (arith, c .before .before .before .before .before .before .before .before .before .before .before .before .before .before .before .if1 .taken, c .before .before .before .before .before .before .before .before .before .before .before .before .before .before .before .before .before .before .before .before .before .before .before .before .good .1)
 
 loop-less : tie.Need-loop-less Inv-loop μ-loop
 loop-less c = search needs
 
 loop-again : tie.Need-loop-again Inv-loop μ-loop
-loop-again c = search needs
+loop-again c =
+    let kept = c .before .before .before .before .before .before .before .before .whole-line .kept in
+    let inv = c .before .before .before .before .before .before .before .before .before .before .before .before .before .before .before .before .before .before .loop .inv in (
+      omega (arith, c .before .before .before .before .before .before .before .before .before .before .before .before .before .before .before .if1 .taken),
+      kept .1 .1 .0 ∙ inv .1,
+      kept .1 .1 .1 .0 ∙ inv .2,
+      kept .1 .1 .1 .1 .1 .0 ∙ inv .3,
+      kept .1 .1 .1 .1 .1 .1 .0 ∙ inv .4,
+    )
 
 sub-hold : tie.Need-sub-hold Inv-loop μ-loop
 sub-hold c = search needs
@@ -61,17 +74,23 @@ same-length-2 c = search needs
 same-length-3 : tie.Need-same-length-3 Inv-loop μ-loop
 same-length-3 c = search needs
 
-returns : tie.Need-returns Inv-loop μ-loop
-returns c = search needs
-
 same-length-4 : tie.Need-same-length-4 Inv-loop μ-loop
 same-length-4 c = search needs
+
+returns : tie.Need-returns Inv-loop μ-loop
+returns c = search needs
 
 same-length-5 : tie.Need-same-length-5 Inv-loop μ-loop
 same-length-5 c = search needs
 
 same-length-6 : tie.Need-same-length-6 Inv-loop μ-loop
 same-length-6 c = search needs
+
+same-length-7 : tie.Need-same-length-7 Inv-loop μ-loop
+same-length-7 c = search needs
+
+same-length-8 : tie.Need-same-length-8 Inv-loop μ-loop
+same-length-8 c = search needs
 
 returns-2 : tie.Need-returns-2 Inv-loop μ-loop
 returns-2 c = search needs
@@ -98,8 +117,10 @@ feed-spec =
     same-length
     same-length-2
     same-length-3
-    returns
     same-length-4
+    returns
     same-length-5
     same-length-6
+    same-length-7
+    same-length-8
     returns-2)

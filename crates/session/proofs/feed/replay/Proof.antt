@@ -1,17 +1,21 @@
 -- `session::feed::replay` is safe.
-use borrow.Author.Needs.{needs}
 use native.Mathlib.Omega.{arith}
-use Prim.Native.Nat.{_≤_, _-_}
 use lib.ListN.{length}
-use mathlib.Core.Path.{_≡_}
+use mathlib.Core.Path.{_≡_, _∙_}
+use borrow.Author.Needs.{needs}
 use Rattle.session.proofs.feed.replay.Statement.{statement}
 use Rattle.session.proofs.feed.replay.Tie as tie
 
 abbrev Inv-loop : tie.InvT-loop
-Inv-loop fd held₀ numbers₀ counts₀ answers₀ part₀ m₀ turns₀ state₀ held numbers counts answers part m turns state = (length held ≡ 1002) × (length numbers ≡ 200) × (length answers ≡ 65536) × (length part ≡ 65536)
+Inv-loop fd held₀ numbers₀ counts₀ mem₀ answers₀ part₀ m₀ turns₀ state₀ held numbers counts mem answers part m turns state =
+    (length held ≡ 1002) ×
+    (length numbers ≡ 200) ×
+    (length mem ≡ 8192) ×
+    (length answers ≡ 65536) ×
+    (length part ≡ 65536)
 
 abbrev μ-loop : tie.MeasureT-loop
-μ-loop fd held₀ numbers₀ counts₀ answers₀ part₀ m₀ turns₀ state₀ held numbers counts answers part m turns state = turns
+μ-loop fd held₀ numbers₀ counts₀ mem₀ answers₀ part₀ m₀ turns₀ state₀ held numbers counts mem answers part m turns state = turns
 
 large-buffer-requires : tie.Need-large-buffer-requires Inv-loop μ-loop
 large-buffer-requires c κs = search needs
@@ -58,6 +62,9 @@ slice-aggregate-feed-3 c = search needs
 slice-aggregate-feed-4 : tie.Need-slice-aggregate-feed-4 Inv-loop μ-loop
 slice-aggregate-feed-4 c = search needs
 
+slice-aggregate-feed-5 : tie.Need-slice-aggregate-feed-5 Inv-loop μ-loop
+slice-aggregate-feed-5 c = search needs
+
 feed-requires : tie.Need-feed-requires Inv-loop μ-loop
 feed-requires c κs = search needs
 
@@ -68,10 +75,19 @@ written-requires : tie.Need-written-requires Inv-loop μ-loop
 written-requires c κs = search needs
 
 loop-less : tie.Need-loop-less Inv-loop μ-loop
-loop-less c = omega (arith, c .before .before .before .before .before .before .before .before .before .before .before .before .before .before .before .before .before .before .before .before .loop-test .taken)
+loop-less c = omega (arith, c .before .before .before .before .before .before .before .before .before .before .before .before .before .before .before .before .before .before .before .before .before .before .loop-test .taken)
 
 loop-again : tie.Need-loop-again Inv-loop μ-loop
-loop-again c = search needs
+loop-again c =
+    let fed = c .before .before .before .before .before .before .before .feed .kept in
+    let read = c .before .before .before .before .before .before .before .before .before .before .before .before .before .before .before .before .before .before .before .read .kept in
+    let inv = c .before .before .before .before .before .before .before .before .before .before .before .before .before .before .before .before .before .before .before .before .before .before .before .loop .inv in (
+      fed .1 .1 .0 ∙ inv .0,
+      fed .1 .1 .1 .0 ∙ inv .1,
+      fed .1 .1 .1 .1 .1 .0 ∙ inv .2,
+      fed .1 .1 .1 .1 .1 .1 .0 ∙ inv .3,
+      read .1 .0 ∙ inv .4,
+    )
 
 loop-less-2 : tie.Need-loop-less-2 Inv-loop μ-loop
 loop-less-2 c = search needs
@@ -87,6 +103,9 @@ slice-aggregate-finish-2 c = search needs
 
 slice-aggregate-finish-3 : tie.Need-slice-aggregate-finish-3 Inv-loop μ-loop
 slice-aggregate-finish-3 c = search needs
+
+slice-aggregate-finish-4 : tie.Need-slice-aggregate-finish-4 Inv-loop μ-loop
+slice-aggregate-finish-4 c = search needs
 
 finish-requires : tie.Need-finish-requires Inv-loop μ-loop
 finish-requires c κs = search needs
@@ -118,6 +137,7 @@ replay-spec =
     slice-aggregate-feed-2
     slice-aggregate-feed-3
     slice-aggregate-feed-4
+    slice-aggregate-feed-5
     feed-requires
     slice-aggregate-written
     written-requires
@@ -128,6 +148,7 @@ replay-spec =
     slice-aggregate-finish
     slice-aggregate-finish-2
     slice-aggregate-finish-3
+    slice-aggregate-finish-4
     finish-requires
     returns
     returns-2)

@@ -1,17 +1,15 @@
+-- `session::transaction::bus_sized` is safe.
 use mathlib.Core.Path.{sym}
 use lib.Seq.{length-take-le}
 use borrow.Author.Needs.{needs}
 use Rattle.session.proofs.transaction.bus_sized.Statement.{statement}
 use Rattle.session.proofs.transaction.bus_sized.Tie as tie
-use Rattle.session.proofs.transaction.bus_sized.Reads as reads
-use Rattle.session.proofs.transaction.bus_sized.Lts as lts
-use Rattle.session.proofs.transaction.bus_call.Reads as bus-call-reads
 
 slice-relend-prefix-bus-call : tie.Need-slice-relend-prefix-bus-call
 slice-relend-prefix-bus-call c = search needs
 
 slice-aggregate-bus-call : tie.Need-slice-aggregate-bus-call
-slice-aggregate-bus-call c = sym (length-take-le _ (c .before .before .before .before .before .args .buffer .now) (c .before .if1 .taken))
+slice-aggregate-bus-call c = sym (length-take-le _ (c .before .before .before .before .before .before .args .buffer .now) (c .before .if1 .taken))
 
 bus-call-requires : tie.Need-bus-call-requires
 bus-call-requires c κs = search needs
@@ -25,14 +23,20 @@ same-length c = search needs
 same-length-2 : tie.Need-same-length-2
 same-length-2 c = search needs
 
-returns : tie.Need-returns
-returns c = search needs
-
 same-length-3 : tie.Need-same-length-3
 same-length-3 c = search needs
 
+returns : tie.Need-returns
+returns c = search needs
+
 same-length-4 : tie.Need-same-length-4
 same-length-4 c = search needs
+
+same-length-5 : tie.Need-same-length-5
+same-length-5 c = search needs
+
+same-length-6 : tie.Need-same-length-6
+same-length-6 c = search needs
 
 returns-2 : tie.Need-returns-2
 returns-2 c = search needs
@@ -47,7 +51,9 @@ bus-sized-spec =
     bus-call-requires-2
     same-length
     same-length-2
-    returns
     same-length-3
+    returns
     same-length-4
+    same-length-5
+    same-length-6
     returns-2)

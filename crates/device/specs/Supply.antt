@@ -1,0 +1,28 @@
+-- The regulator of the user flash, told from the calls and their answers: on from an accepted LDO_ON until LDO_OFF or Reset
+-- (Note 8).
+use mathlib.Core.Bool.{Bool, true, false}
+use mathlib.Core.List.{List, [], _∷_}
+use mathlib.Core.Path.{_≡_}
+use lib.Dec.{eqb}
+use Rattle.unit.specs.Choice.{pick}
+use Rattle.device.specs.Model.{freshModel}
+use Rattle.device.specs.Call.{Call, transaction, tick, flight, temperature, stretch, opcode, bySort}
+use Rattle.device.specs.Claim.{Entry, isRefusal, after, log}
+
+unfoldable pub supplyGiven : Call → Bool → Bool
+supplyGiven (transaction f o x) on =
+    bySort f
+    (pick (eqb (opcode f) 0x0C) true (pick (eqb (opcode f) 0x0D) false (pick (eqb (opcode f) 0x04) false on)))
+    on on on
+supplyGiven tick on = on
+supplyGiven (flight u d) on = on
+supplyGiven (temperature w) on = on
+supplyGiven (stretch n) on = on
+
+unfoldable pub lastSupply : List Entry → Bool → Bool
+lastSupply [] on = on
+lastSupply (e ∷ es) on = lastSupply es (pick (isRefusal (e .answer)) on (supplyGiven (e .call) on))
+
+-- On a model that grew from a fresh one by any list of calls, refused ones among them.
+abbrev pub SupplyClaim : Type 0
+SupplyClaim = (cs : List Call) → (after freshModel cs) .regulator ≡ lastSupply (log freshModel cs) false

@@ -1,0 +1,4 @@
+pub mod Bytes
+pub mod Refusal
+pub mod Words
+pub mod Examples

@@ -1,0 +1,25 @@
+-- `frame::is_flash` meets its contract.
+use Rattle.frame.specs.Frame.{isFlash}
+use Rattle.unit.specs.Tests.{tests}
+use borrow.Author.Needs.{needs}
+use Rattle.frame.proofs.is_flash.Statement.{statement}
+use Rattle.frame.proofs.is_flash.Tie as tie
+
+returns : tie.Need-returns
+unfolding isFlash
+returns c = search (needs, tests, c .if1 .taken)
+
+returns-2 : tie.Need-returns-2
+unfolding isFlash
+returns-2 c = search (needs, tests, c .if2 .taken, c .before .if1 .left)
+
+returns-3 : tie.Need-returns-3
+unfolding isFlash
+returns-3 c = search (needs, tests, c .if3 .taken, c .before .if2 .left, c .before .before .if1 .left)
+
+returns-4 : tie.Need-returns-4
+unfolding isFlash
+returns-4 c = search (needs, tests, c .if3 .left, c .before .if2 .left, c .before .before .if1 .left)
+
+pub is-flash-spec : {M : Type 1} → statement M
+is-flash-spec = tie.close (tie.spec returns returns-2 returns-3 returns-4)

@@ -9,7 +9,7 @@ const PM: u16 = 1 << 5;
 
 /// How a word of 31h or 35h gives its hours.
 #[derive(Clone, Copy, Debug, PartialEq, Eq)]
-enum HourForm {
+pub enum HourForm {
     TwentyFour,
     Twelve,
 }
@@ -50,7 +50,7 @@ impl TimeOfDay {
         Some(TimeOfDay { hour, minute })
     }
 
-    fn to_word(self, form: HourForm) -> u16 {
+    pub fn to_word(self, form: HourForm) -> u16 {
         let hours = match (form, self.hour) {
             (HourForm::TwentyFour, hour) => bcd(hour),
             (HourForm::Twelve, 0) => TWELVE_HOURS | bcd(12),
@@ -168,7 +168,7 @@ impl Clock {
     fn set_seconds(&mut self, word: u16) -> Option<()> {
         let hundredths = two_digits(word >> 12, word >> 8 & 15)?;
         self.second = two_digits(word >> 4 & 7, word & 15).filter(|&second| second <= 59)?;
-        self.ticks = (hundredths * TICKS_PER_SECOND + 99) / 100;
+        self.ticks = first_tick(hundredths);
         Some(())
     }
 
@@ -191,6 +191,11 @@ impl Clock {
     }
 }
 
+/// The first tick of a second that reads as so many hundredths.
+pub fn first_tick(hundredths: i32) -> i32 {
+    (hundredths * TICKS_PER_SECOND + 99) / 100
+}
+
 fn days_in_month(year: i32, month: i32) -> i32 {
     match month {
         2 if year % 4 == 0 => 29,
@@ -200,7 +205,7 @@ fn days_in_month(year: i32, month: i32) -> i32 {
     }
 }
 
-fn bcd(value: i32) -> u16 {
+pub fn bcd(value: i32) -> u16 {
     (value / 10 * 16 + value % 10) as u16
 }
 

@@ -3,7 +3,7 @@
 use crate::registers::PORTS;
 
 /// Ticks after its start at which an undelivered measurement fails.
-const DELIVERY_LIMIT: i64 = 8_192;
+pub const DELIVERY_LIMIT: i64 = 8_192;
 /// A moment that is never reached.
 pub const NEVER: i64 = i64::MAX;
 
@@ -147,6 +147,24 @@ impl Kind {
 #[cfg(test)]
 mod tests {
     use super::*;
+    use crate::chip::Chip;
+    use crate::model::TickReport;
+    use crate::refusal::Refusal;
+    use crate::registers::{status, TEMPERATURE_CYCLE_COUNT, TOF_CYCLE_COUNT};
+
+    const PORT: i64 = 32 << 16;
+
+    const STARTED: TickReport = TickReport {
+        flight_failed: false,
+        flight_started: true,
+        temperature_failed: false,
+        temperature_started: false,
+    };
+    const FAILED: TickReport = TickReport {
+        flight_failed: true,
+        flight_started: false,
+        ..STARTED
+    };
 
     /// Differences of 16,384 ticks in groups of two, the first at 100.
     fn series(continuous: bool) -> Series {
@@ -189,12 +207,87 @@ mod tests {
         }
     }
 
+    /// Ready for groups of two differences and three temperatures.
+    fn chip(control: u8) -> Chip {
+        let mut chip = Chip::ready();
+        chip.accept(&[0x3F, 0x00, 0x80, 0x10, 0x60]);
+        chip.accept(&[0x42, control, 0x00]);
+        chip
+    }
+
     #[test]
-    fn a_negative_mean_is_rounded_down() {
-        let mut series = series(true);
-        series.start();
-        series.add_good(&[-1]);
-        series.add_good(&[0]);
-        assert_eq!(series.mean(0), -1);
+    fn an_event_ends_with_its_last_settling() {
+        let mut chip = chip(0);
+        assert!(chip.accept(&[0x08]).flight);
+        chip.model.deliver_flight(&[0], &[1]).unwrap();
+        assert_eq!(chip.ticks(16_384), [(16_384, STARTED)]);
+        assert_eq!(chip.send(&[0x05]), Err(Refusal::Busy));
+        chip.model.deliver_flight(&[0], &[0]).unwrap();
+        // The mean of -1 and 0, rounded down.
+        assert_eq!(chip.registers(TOF_CYCLE_COUNT), [2, 0xFFFF, 0xFFFF]);
+        assert_eq!(chip.status(), status::TOF_EVTMG);
+        chip.accept(&[0x05]);
+        assert_eq!(chip.ticks(40_000), []);
+    }
+
+    #[test]
+    fn a_failed_cycle_is_not_in_the_mean() {
+        let mut chip = chip(0);
+        chip.accept(&[0x08]);
+        chip.model.deliver_flight(&[7], &[0]).unwrap();
+        let reports = [(16_384, STARTED), (24_576, FAILED)];
+        assert_eq!(chip.ticks(50_000), reports);
+        assert_eq!(chip.registers(TOF_CYCLE_COUNT), [1, 0, 7]);
+        assert_eq!(chip.status(), status::TO | status::TOF_EVTMG);
+    }
+
+    #[test]
+    fn a_continuous_event_until_halt() {
+        let mut chip = chip(1);
+        chip.accept(&[0x08]);
+        for _ in 0..3 {
+            chip.model.deliver_flight(&[5], &[0]).unwrap();
+            assert_eq!(chip.status(), 0);
+            assert_eq!(chip.ticks(16_384), [(16_384, STARTED)]);
+            chip.model.deliver_flight(&[8], &[0]).unwrap();
+            assert_eq!(chip.status(), status::TOF_EVTMG);
+            chip.ticks(16_383);
+            assert_eq!(chip.registers(TOF_CYCLE_COUNT), [2, 0, 6]);
+            assert_eq!(chip.ticks(1), [(1, STARTED)]);
+            assert_eq!(chip.registers(TOF_CYCLE_COUNT), [0, 0, 0]);
+        }
+        chip.model.deliver_flight(&[5], &[0]).unwrap();
+        assert_eq!(chip.send(&[0x08]), Err(Refusal::Busy));
+        chip.accept(&[0x0A]);
+        assert_eq!(chip.ticks(40_000), []);
+        assert_eq!(chip.status(), status::HALT);
+        assert_eq!(chip.registers(TOF_CYCLE_COUNT), [1, 0, 5]);
+    }
+
+    #[test]
+    fn the_kinds_turn_by_themselves() {
+        let mut chip = chip(1);
+        chip.accept(&[0x07]);
+        chip.model.deliver_temperature(&[PORT; 4]).unwrap();
+        chip.model.deliver_flight(&[5], &[0]).unwrap();
+        chip.ticks(32_768);
+        // The second group of differences began, within the first of temperatures.
+        assert_eq!(chip.registers(TOF_CYCLE_COUNT), [0, 0, 0]);
+        assert_eq!(chip.registers(TEMPERATURE_CYCLE_COUNT), [1, 32, 0]);
+        chip.model.deliver_flight(&[9], &[0]).unwrap();
+        chip.ticks(2 * 32_768 - 1);
+        assert_eq!(chip.registers(TEMPERATURE_CYCLE_COUNT), [1, 32, 0]);
+        chip.ticks(1);
+        assert_eq!(chip.registers(TEMPERATURE_CYCLE_COUNT), [0; 9]);
+    }
+
+    #[test]
+    fn a_standing_clock_has_no_events() {
+        let mut chip = chip(1);
+        chip.accept(&[0x43, 0x00, 0x10]);
+        for opcode in [0x07, 0x08, 0x09] {
+            assert_eq!(chip.send(&[opcode]), Err(Refusal::SetUp));
+        }
+        assert!(chip.accept(&[0x02]).flight);
     }
 }

@@ -90,53 +90,22 @@ impl Model {
 #[cfg(test)]
 mod tests {
     use super::*;
+    use crate::chip::Chip;
 
-    struct Chip {
-        model: Model,
-        memory: Vec<u8>,
-    }
-
-    impl Chip {
-        /// A fresh model that could start a flight measurement.
-        fn new() -> Chip {
-            let mut chip = Chip {
-                model: Model::fresh(),
-                memory: vec![ERASED; MEMORY],
-            };
-            chip.send(&[0x38, 0x01, 0x10]).unwrap();
-            chip.send(&[0x05]).unwrap();
-            chip
-        }
-
-        fn with_supply() -> Chip {
-            let mut chip = Chip::new();
-            chip.send(&[0x0C]).unwrap();
-            chip
-        }
-
-        /// What a frame writes to an output of two bytes.
-        fn send(&mut self, frame: &[u8]) -> Result<[u8; 2], Refusal> {
-            let mut output = [0xEE; 2];
-            let answer = self.model.transaction(frame, &mut output, &mut self.memory);
-            if answer.is_err() {
-                assert_eq!(output, [0xEE; 2]);
-            }
-            answer.map(|_| output)
-        }
-
-        /// Reads the status and clears it.
-        fn status(&mut self) -> u16 {
-            u16::from_be_bytes(self.send(&[0xFE, 0, 0]).unwrap())
-        }
+    /// With the regulator on and status 0.
+    fn supplied() -> Chip {
+        let mut chip = Chip::ready();
+        chip.accept(&[0x0C]);
+        chip.status();
+        chip
     }
 
     #[test]
     fn a_word_is_written_once() {
-        let mut chip = Chip::with_supply();
-        chip.status();
-        assert!(chip.send(&[0x10, 0x1F, 0xFE, 0x12, 0x34]).is_ok());
+        let mut chip = supplied();
+        chip.accept(&[0x10, 0x1F, 0xFE, 0x12, 0x34]);
         assert_eq!(chip.status(), status::FLASH);
-        assert_eq!(chip.send(&[0x90, 0x1F, 0xFE, 0, 0]), Ok([0x12, 0x34]));
+        assert_eq!(chip.word(&[0x90, 0x1F, 0xFE, 0, 0]), 0x1234);
         let again = chip.send(&[0x10, 0x1F, 0xFE, 0xFF, 0xFF]);
         assert_eq!(again, Err(Refusal::NotErased));
         assert_eq!(chip.status(), 0);
@@ -146,19 +115,18 @@ mod tests {
 
     #[test]
     fn an_erased_word_takes_ffff() {
-        let mut chip = Chip::with_supply();
-        assert!(chip.send(&[0x10, 0, 0, 0xFF, 0xFF]).is_ok());
-        assert!(chip.send(&[0x10, 0, 0, 0xFF, 0x00]).is_ok());
+        let mut chip = supplied();
+        chip.accept(&[0x10, 0, 0, 0xFF, 0xFF]);
+        chip.accept(&[0x10, 0, 0, 0xFF, 0x00]);
         let half_written = chip.send(&[0x10, 0, 0, 0x00, 0xFF]);
         assert_eq!(half_written, Err(Refusal::NotErased));
     }
 
     #[test]
     fn an_erasure_takes_its_block_alone() {
-        let mut chip = Chip::with_supply();
+        let mut chip = supplied();
         chip.memory.fill(0);
-        chip.status();
-        assert!(chip.send(&[0x13, 0x02, 0xFF]).is_ok());
+        chip.accept(&[0x13, 0x02, 0xFF]);
         assert_eq!(chip.status(), status::FLASH);
         for (place, &byte) in chip.memory.iter().enumerate() {
             assert_eq!(byte == ERASED, (0x200..0x300).contains(&place));
@@ -167,37 +135,54 @@ mod tests {
 
     #[test]
     fn refusals_in_their_order() {
-        let mut chip = Chip::with_supply();
-        chip.send(&[0x02]).unwrap();
-        let mut short = [0xEE];
-        let memory = &mut chip.memory;
-        let answers = [&[0x90, 0x20, 0x01, 0][..], &[0x90, 0x20, 0x01, 0, 0]]
-            .map(|frame| chip.model.transaction(frame, &mut short, memory).err());
-        assert_eq!(
-            answers,
-            [Refusal::FrameLength, Refusal::ShortOutput].map(Some)
-        );
-        let odd = [0x10, 0x20, 0x01, 0, 0];
-        assert_eq!(chip.send(&odd), Err(Refusal::Busy));
-        assert_eq!(chip.send(&[0x0C]), Err(Refusal::Busy));
-        assert_eq!(chip.send(&[0x0C, 0]), Err(Refusal::FrameLength));
-        chip.send(&[0x0A]).unwrap();
-        chip.send(&[0x0D]).unwrap();
-        assert_eq!(chip.send(&odd), Err(Refusal::SupplyOff));
-        chip.send(&[0x0C]).unwrap();
+        let mut chip = supplied();
+        chip.accept(&[0x02]);
+        let odd_and_past = [0x90, 0x20, 0x01, 0, 0];
+        let (answer, output) = chip.send_with(1, &odd_and_past[..4]);
+        assert_eq!((answer, output), (Err(Refusal::FrameLength), vec![0xEE]));
+        let (answer, output) = chip.send_with(1, &odd_and_past);
+        assert_eq!((answer, output), (Err(Refusal::ShortOutput), vec![0xEE]));
+        assert_eq!(chip.send(&odd_and_past), Err(Refusal::Busy));
+        chip.accept(&[0x0A]);
+        chip.accept(&[0x0D]);
+        assert_eq!(chip.send(&odd_and_past), Err(Refusal::SupplyOff));
+        chip.accept(&[0x0C]);
+        assert_eq!(chip.send(&odd_and_past), Err(Refusal::FlashAddress));
         chip.memory[0] = 0;
-        for address in [[0x00, 0x01], [0x20, 0x00], [0xFF, 0xFE]] {
-            let frame = [0x10, address[0], address[1], 0, 0];
-            assert_eq!(chip.send(&frame), Err(Refusal::FlashAddress));
+        let odd = chip.send(&[0x10, 0, 1, 0, 0]);
+        assert_eq!(odd, Err(Refusal::FlashAddress));
+        let written = chip.send(&[0x10, 0, 0, 0, 0]);
+        assert_eq!(written, Err(Refusal::NotErased));
+    }
+
+    #[test]
+    fn lengths_and_busy_of_the_others() {
+        let mut chip = supplied();
+        chip.accept(&[0x08]);
+        for frame in [
+            &[0x0C, 0][..],
+            &[0x0D, 0],
+            &[0x10, 0, 0, 0],
+            &[0x13, 0, 0, 0, 0],
+        ] {
+            assert_eq!(chip.send(frame), Err(Refusal::FrameLength));
         }
-        assert_eq!(chip.send(&[0x10, 0, 0, 0, 0]), Err(Refusal::NotErased));
-        assert_eq!(chip.send(&[0x13, 0x20, 0x00]), Err(Refusal::FlashAddress));
-        assert!(chip.send(&[0x13, 0x00, 0x01]).is_ok());
+        for frame in [&[0x0C][..], &[0x0D], &[0x10, 0, 0, 0, 0], &[0x13, 0, 0]] {
+            assert_eq!(chip.send(frame), Err(Refusal::Busy));
+        }
+    }
+
+    #[test]
+    fn an_erasure_may_have_an_odd_address() {
+        let mut chip = supplied();
+        chip.accept(&[0x13, 0x1F, 0xFF]);
+        let past = chip.send(&[0x13, 0x20, 0x00]);
+        assert_eq!(past, Err(Refusal::FlashAddress));
     }
 
     #[test]
     fn a_memory_of_another_size() {
-        let mut chip = Chip::with_supply();
+        let mut chip = supplied();
         for size in [0, MEMORY - 1, MEMORY + 1] {
             chip.memory.resize(size, ERASED);
             for frame in [&[0x90, 0, 0, 0, 0][..], &[0x10, 0, 0, 0, 0], &[0x13, 0, 0]] {
@@ -207,26 +192,27 @@ mod tests {
     }
 
     #[test]
-    fn the_regulator() {
-        let mut chip = Chip::new();
-        chip.status();
+    fn the_regulator_and_its_bit() {
+        let mut chip = Chip::ready();
         for _ in 0..2 {
-            chip.send(&[0x0C]).unwrap();
+            chip.accept(&[0x0C]);
             assert_eq!(chip.status(), status::LDO);
-        }
-        for opcode in [0x0A, 0x05] {
-            chip.send(&[opcode]).unwrap();
             assert!(chip.model.regulator_on);
         }
-        chip.status();
-        chip.send(&[0x0C]).unwrap();
-        chip.send(&[0x0D]).unwrap();
+        chip.accept(&[0x0C]);
+        chip.accept(&[0x0D]);
         assert_eq!(chip.status(), 0);
         assert!(!chip.model.regulator_on);
-        chip.send(&[0x0C]).unwrap();
+    }
+
+    #[test]
+    fn other_commands_and_the_flash() {
+        let mut chip = supplied();
         chip.memory[5] = 0;
-        chip.send(&[0x04]).unwrap();
-        assert_eq!(chip.status(), 0);
+        chip.accept(&[0x0A]);
+        chip.accept(&[0x05]);
+        assert!(chip.model.regulator_on);
+        chip.accept(&[0x04]);
         assert!(!chip.model.regulator_on);
         assert_eq!(chip.memory[5], 0);
     }

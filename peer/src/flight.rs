@@ -123,3 +123,78 @@ impl Model {
         self.end_event_when_finished();
     }
 }
+
+#[cfg(test)]
+mod tests {
+    use super::*;
+    use crate::chip::Chip;
+
+    #[test]
+    fn a_difference() {
+        let mut chip = Chip::ready();
+        chip.accept(&[0x02]);
+        let answer = chip.model.deliver_flight(&[0x0001_0000], &[0x0002_EBCE]);
+        assert_eq!(answer, Ok(Outcome::Good));
+        assert_eq!(chip.registers(registers::TOF_DIFF), [0xFFFE, 0x1432]);
+        assert_eq!(chip.status(), status::TOF);
+        assert_eq!(chip.registers(registers::TOF_CYCLE_COUNT), [0; 3]);
+    }
+
+    #[test]
+    fn hits_and_their_average() {
+        let mut chip = Chip::ready();
+        chip.accept(&[0x39, 0x20, 0x00]);
+        chip.accept(&[0x02]);
+        let answer = chip.model.deliver_flight(&[65_536, 65_539], &[1, 2]);
+        assert_eq!(answer, Ok(Outcome::Good));
+        let up = [1, 0, 1, 3, 0, 0, 0, 0, 0, 0, 0, 0, 1, 1];
+        assert_eq!(chip.registers(registers::UP_RESULTS), up);
+        let down = [0, 1, 0, 2, 0, 0, 0, 0, 0, 0, 0, 0, 0, 1];
+        assert_eq!(chip.registers(registers::DOWN_RESULTS), down);
+    }
+
+    #[test]
+    fn one_late_word_fails_both_directions() {
+        let mut chip = Chip::ready();
+        for down in [33_554_432, 0x8000_0000, 0xFFFF_FFFF] {
+            chip.accept(&[0x02]);
+            let answer = chip.model.deliver_flight(&[33_554_431], &[down]);
+            assert_eq!(answer, Ok(Outcome::Failed));
+            assert_eq!(chip.registers(registers::UP_RESULTS), [0xFFFF; 14]);
+            assert_eq!(chip.registers(registers::DOWN_RESULTS), [0xFFFF; 14]);
+            assert_eq!(chip.registers(registers::TOF_DIFF), [0xFFFF; 2]);
+            assert_eq!(chip.status(), status::TO | status::TOF);
+        }
+    }
+
+    #[test]
+    fn one_direction_leaves_the_other() {
+        let mut chip = Chip::ready();
+        chip.accept(&[0x02]);
+        chip.model.deliver_flight(&[9], &[4]).unwrap();
+        chip.accept(&[0x00]);
+        chip.model.deliver_flight(&[0x8000_0000], &[]).unwrap();
+        assert_eq!(chip.registers(registers::UP_RESULTS), [0xFFFF; 14]);
+        assert_eq!(chip.registers(registers::DOWN_RESULTS), [0, 4]);
+        assert_eq!(chip.registers(registers::TOF_DIFF), [0, 5]);
+        chip.accept(&[0x01]);
+        chip.model.deliver_flight(&[], &[7]).unwrap();
+        assert_eq!(chip.registers(registers::DOWN_RESULTS), [0, 7]);
+        assert_eq!(chip.registers(registers::TOF_DIFF), [0, 5]);
+    }
+
+    #[test]
+    fn refused_deliveries() {
+        let mut chip = Chip::ready();
+        let answer = chip.model.deliver_flight(&[], &[]);
+        assert_eq!(answer, Err(Refusal::NotAwaited));
+        chip.accept(&[0x00]);
+        for (up, down) in [(&[][..], &[][..]), (&[5, 5], &[]), (&[5], &[5])] {
+            let answer = chip.model.deliver_flight(up, down);
+            assert_eq!(answer, Err(Refusal::WordCount));
+        }
+        let answer = chip.model.deliver_temperature(&[]);
+        assert_eq!(answer, Err(Refusal::NotAwaited));
+        assert!(chip.model.flight.is_awaited());
+    }
+}

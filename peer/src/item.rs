@@ -1,13 +1,15 @@
 //! Items as text: one call a line.
 
+use crate::registers;
+
 /// Bytes of a line, its line feed and carriage return not counted.
-const LONGEST_LINE: usize = 1_000;
+pub const LONGEST_LINE: usize = 1_000;
 /// Bytes of a frame or of an output buffer.
 pub const LONGEST_FRAME: usize = 200;
 /// Words of one delivered list.
-const LONGEST_LIST: usize = 16;
+pub const LONGEST_LIST: usize = 16;
 /// Digits of a decimal, leading zeros included.
-const DECIMAL_DIGITS: usize = 10;
+pub const DECIMAL_DIGITS: usize = 10;
 
 /// A list with room for `N` entries that counts those past its room too.
 pub struct List<T, const N: usize> {
@@ -60,7 +62,7 @@ pub enum Line<'a> {
     Registers,
     Expect {
         first: u8,
-        wanted: List<u16, 80>,
+        wanted: List<u16, { registers::COUNT }>,
     },
     /// Its answer is laid out by each program's makers; this one gives none.
     Show,
@@ -208,11 +210,11 @@ fn temperature(words: Words) -> Result<Line, Fault> {
 fn expect(mut words: Words) -> Result<Line, Fault> {
     let first = words.next().ok_or(Fault::WrongCount)?;
     let first = hexadecimal(first, 2, 2)? as u8;
-    if first < 0xB0 {
+    if first < registers::FIRST {
         return Err(Fault::BadNumber);
     }
     let mut wanted = List::new();
-    for word in words.by_ref().take(0x100 - usize::from(first)) {
+    for word in words.by_ref().take(registers::words_from(first)) {
         wanted.push(hexadecimal(word, 1, 4)? as u16);
     }
     if wanted.count == 0 {
@@ -244,4 +246,72 @@ fn hexadecimal(word: &[u8], fewest_digits: usize, most_digits: usize) -> Result<
         value = value << 4 | digit;
     }
     Ok(value)
+}
+
+#[cfg(test)]
+mod tests {
+    use super::*;
+
+    fn fault(line: &str) -> Option<Fault> {
+        parse(line.as_bytes()).err()
+    }
+
+    #[test]
+    fn line_ends() {
+        let found: Vec<&[u8]> = lines(b"a\r\nb\n\r\r\nc\r").collect();
+        assert_eq!(found, [&b"a"[..], b"b", b"\r", b"c"]);
+    }
+
+    #[test]
+    fn the_longest_line() {
+        let comment = format!("#{}", "x".repeat(LONGEST_LINE - 1));
+        assert_eq!(fault(&comment), None);
+        assert_eq!(fault(&format!("{comment}x")), Some(Fault::TooLong));
+    }
+
+    #[test]
+    fn numbers_in_their_range() {
+        for line in [
+            "tick 4294967295",
+            "tick 0000000003",
+            "bus out=200 ff",
+            "bus",
+            "flight /",
+        ] {
+            assert_eq!(fault(line), None);
+        }
+        let lines = [
+            "tick 4294967296",
+            "tick 00000000003",
+            "tick +3",
+            "bus out=201 FF",
+            "bus 5",
+            "bus FF out=2",
+            "flight 1 / 2 / x",
+            "temperature 000000001",
+            "expect AF 0",
+            "expect FF x 0",
+        ];
+        for line in lines {
+            assert_eq!(fault(line), Some(Fault::BadNumber));
+        }
+    }
+
+    #[test]
+    fn numbers_of_words() {
+        let crowded = format!("bus{}", " 00".repeat(LONGEST_FRAME + 1));
+        let lines = [
+            "tick",
+            "tick 5 x",
+            "flight 1",
+            "flight / /",
+            "expect FF 0 x",
+            "item",
+            &crowded,
+        ];
+        for line in lines {
+            assert_eq!(fault(line), Some(Fault::WrongCount));
+        }
+        assert_eq!(fault("ticks 5"), Some(Fault::UnknownWord));
+    }
 }

@@ -1,18 +1,6 @@
 //! Reads an item from standard input, or from the file named as its argument, replays it on the
 //! model and writes one answer for each call.
 
-mod calendar;
-mod event;
-mod flash;
-mod flight;
-mod item;
-mod model;
-mod refusal;
-mod registers;
-mod replay;
-mod temperature;
-mod transaction;
-
 use std::io::{self, Read};
 use std::process::ExitCode;
 use std::{env, fs};
@@ -36,5 +24,5 @@ fn run() -> io::Result<()> {
             text
         }
     };
-    replay::replay(&text, io::stdout().lock())
+    peer::replay(&text, io::stdout().lock())
 }

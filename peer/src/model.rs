@@ -13,7 +13,7 @@ pub enum Outcome {
     Failed,
 }
 
-#[derive(Clone, Copy, Default)]
+#[derive(Clone, Copy, Debug, Default, PartialEq, Eq)]
 pub struct TickReport {
     pub flight_failed: bool,
     pub flight_started: bool,
@@ -71,7 +71,7 @@ impl Model {
     /// The word that a read of `address`, B0h to FFh, returns; clears nothing.
     pub fn register(&self, address: u8) -> u16 {
         let index = usize::from(address - registers::FIRST);
-        if index < 4 {
+        if index < registers::CLOCK_WORDS {
             self.clock.word(index)
         } else {
             self.registers.get(address)
@@ -154,5 +154,56 @@ impl Model {
         }
         self.schedule();
         report
+    }
+}
+
+#[cfg(test)]
+mod tests {
+    use super::*;
+    use crate::chip::Chip;
+
+    #[test]
+    fn an_undelivered_measurement_fails() {
+        let mut chip = Chip::ready();
+        // The clock stands, and the count goes on.
+        chip.accept(&[0x43, 0x00, 0x10]);
+        chip.accept(&[0x03]);
+        assert_eq!(chip.ticks(8_191), []);
+        assert!(chip.model.temperature.is_awaited());
+        let failed = TickReport {
+            temperature_failed: true,
+            ..TickReport::default()
+        };
+        assert_eq!(chip.ticks(2), [(1, failed)]);
+        assert!(!chip.model.temperature.is_awaited());
+        assert_eq!(chip.status(), status::TO | status::TE);
+        assert_eq!(chip.registers(registers::PORT_RESULTS), [0xFFFF; 8]);
+        assert_eq!(chip.registers(registers::FIRST), [0; 2]);
+    }
+
+    /// Whether the alarm rings in the tick that ends a minute.
+    fn rings(time: u16, alarm: u16, mode: u8) -> bool {
+        let mut chip = Chip::fresh();
+        let [time_high, time_low] = time.to_be_bytes();
+        let [alarm_high, alarm_low] = alarm.to_be_bytes();
+        chip.accept(&[0x30, 0x99, 0x59, time_high, time_low]);
+        chip.accept(&[0x35, alarm_high, alarm_low]);
+        chip.accept(&[0x43, 0x00, mode << 2]);
+        chip.status();
+        chip.ticks(326);
+        assert_eq!(chip.registers(registers::FIRST), [0x9959]);
+        chip.ticks(1);
+        chip.status() == status::AF
+    }
+
+    #[test]
+    fn alarms_by_mode() {
+        let modes = |time, alarm| [0, 1, 2, 3].map(|mode| rings(time, alarm, mode));
+        assert_eq!(modes(0x5923, 0x0000), [false, true, true, true]);
+        assert_eq!(modes(0x5923, 0x0001), [false, true, false, false]);
+        assert_eq!(modes(0x5923, 0x3000), [false, false, true, false]);
+        assert_eq!(modes(0x2923, 0x3023), [false, true, false, true]);
+        // Noon, which each of the two has in its own form.
+        assert_eq!(modes(0x5911, 0x0072), [false, true, true, true]);
     }
 }

@@ -1,18 +1,19 @@
 //! The register words that are stored as they are written or measured, and the set-up they hold.
 //!
-//! Addresses are those of a read; a writable register is written at its address less 80h.
+//! A register's address is the opcode that reads it.
 
 use crate::event::Timing;
+use crate::opcode::{FIRST_READ, LAST_READ, LAST_WRITE, READ_ABOVE_WRITE};
 
-pub const FIRST: u8 = 0xB0;
+pub const FIRST: u8 = FIRST_READ;
 pub const ALARM: u8 = 0xB5;
-const TOF1: u8 = 0xB8;
+pub const TOF1: u8 = 0xB8;
 const TOF2: u8 = 0xB9;
-const EVENT_TIMING_1: u8 = 0xBF;
+pub const EVENT_TIMING_1: u8 = 0xBF;
 const EVENT_TIMING_2: u8 = 0xC0;
-const CALIBRATION_AND_CONTROL: u8 = 0xC2;
-const REAL_TIME_CLOCK: u8 = 0xC3;
-pub const LAST_WRITABLE: u8 = REAL_TIME_CLOCK;
+pub const CALIBRATION_AND_CONTROL: u8 = 0xC2;
+pub const REAL_TIME_CLOCK: u8 = 0xC3;
+pub const LAST_WRITABLE: u8 = LAST_WRITE + READ_ABOVE_WRITE;
 pub const UP_RESULTS: u8 = 0xC5;
 pub const DOWN_RESULTS: u8 = 0xD4;
 pub const TOF_DIFF: u8 = 0xE2;
@@ -22,6 +23,14 @@ pub const PORT_RESULTS: u8 = 0xE7;
 pub const TEMPERATURE_CYCLE_COUNT: u8 = 0xEF;
 pub const PORT_AVERAGES: u8 = 0xF0;
 pub const STATUS: u8 = 0xFE;
+pub const LAST: u8 = LAST_READ;
+
+/// All registers.
+pub const COUNT: usize = words_from(FIRST);
+/// The clock's registers, the first of all.
+pub const CLOCK_WORDS: usize = 4;
+/// Registers that can be written.
+pub const WRITABLE: usize = (LAST_WRITABLE - FIRST) as usize + 1;
 
 /// Bits of the interrupt status.
 pub mod status {
@@ -38,6 +47,18 @@ pub mod status {
     pub const POR: u16 = 1 << 2;
 }
 
+/// Bits of the Calibration and Control register.
+pub mod control {
+    pub const INT_EN: u16 = 1 << 9;
+    pub const ET_CONT: u16 = 1 << 8;
+    pub const CONT_INT: u16 = 1 << 7;
+}
+
+/// The bit of the Real-Time Clock register that stops the clock.
+pub const EOSC: u16 = 1 << 4;
+/// The bits of the same register that say when the alarm flag is set.
+pub const ALARM_MODE: u16 = 3 << 2;
+
 /// HIT pairs of one direction.
 pub const HITS: usize = 6;
 /// Temperature ports.
@@ -45,7 +66,7 @@ pub const PORTS: usize = 4;
 /// Quanta in one period of 4 MHz.
 const QUANTA_PER_PERIOD: i64 = 65_536;
 /// A word of this size or more means that no hit came.
-const NO_HIT: i64 = 1 << 31;
+pub const NO_HIT: i64 = 1 << 31;
 /// A port whose word is below this is short: 8 µs, 32 periods of 4 MHz.
 pub const SHORT_LIMIT: i64 = 32 * QUANTA_PER_PERIOD;
 
@@ -59,13 +80,13 @@ pub enum AlarmMode {
 }
 
 pub struct Registers {
-    words: [u16; 80],
+    words: [u16; COUNT],
 }
 
 impl Registers {
     /// The factory values, results and status 0.
     pub fn factory() -> Registers {
-        let mut registers = Registers { words: [0; 80] };
+        let mut registers = Registers { words: [0; COUNT] };
         registers.set(TOF1, 0x0010);
         registers
     }
@@ -97,9 +118,13 @@ impl Registers {
         i64::from(self.get(address)) >> low & ((1 << (high - low + 1)) - 1)
     }
 
+    fn controls(&self, bit: u16) -> bool {
+        self.get(CALIBRATION_AND_CONTROL) & bit != 0
+    }
+
     #[inline]
     pub fn clock_stands(&self) -> bool {
-        self.get(REAL_TIME_CLOCK) & 1 << 4 != 0
+        self.get(REAL_TIME_CLOCK) & EOSC != 0
     }
 
     pub fn alarm_mode(&self) -> AlarmMode {
@@ -112,15 +137,11 @@ impl Registers {
     }
 
     pub fn interrupt_enabled(&self) -> bool {
-        self.field(CALIBRATION_AND_CONTROL, 9, 9) == 1
-    }
-
-    fn continuous_event(&self) -> bool {
-        self.field(CALIBRATION_AND_CONTROL, 8, 8) == 1
+        self.controls(control::INT_EN)
     }
 
     pub fn continuous_interrupt(&self) -> bool {
-        self.field(CALIBRATION_AND_CONTROL, 7, 7) == 1
+        self.controls(control::CONT_INT)
     }
 
     /// The pulse launcher has pulses and a frequency.
@@ -155,7 +176,7 @@ impl Registers {
         Timing {
             period: 16_384 * (self.field(EVENT_TIMING_1, 15, 12) + 1),
             total: self.field(EVENT_TIMING_1, 11, 7) + 1,
-            continuous: self.continuous_event(),
+            continuous: self.controls(control::ET_CONT),
         }
     }
 
@@ -164,7 +185,7 @@ impl Registers {
         Timing {
             period: 32_768 * (self.field(EVENT_TIMING_1, 6, 1) + 1),
             total: self.field(EVENT_TIMING_2, 15, 11) + 1,
-            continuous: self.continuous_event(),
+            continuous: self.controls(control::ET_CONT),
         }
     }
 }
@@ -172,4 +193,51 @@ impl Registers {
 /// The Int address of the pair at `place` in a row of pairs.
 pub fn pair(first: u8, place: usize) -> u8 {
     first + 2 * place as u8
+}
+
+/// Registers from `address` to the last.
+pub const fn words_from(address: u8) -> usize {
+    (LAST - address) as usize + 1
+}
+
+#[cfg(test)]
+mod tests {
+    use super::*;
+
+    fn with(address: u8, word: u16) -> Registers {
+        let mut registers = Registers::factory();
+        registers.set(address, word);
+        registers
+    }
+
+    #[test]
+    fn hits_by_stop() {
+        let hits = [0, 1, 2, 3, 4, 5, 6, 7].map(|stop| with(TOF2, stop << 13).hits());
+        assert_eq!(hits, [1, 2, 3, 4, 5, 6, 6, 6]);
+    }
+
+    #[test]
+    fn late_words_by_timeout() {
+        let limits = [0, 1, 2, 3, 4, 5, 6, 7].map(|k| with(TOF2, k).late_limit());
+        assert_eq!(limits[0], 33_554_432);
+        assert_eq!(limits[1..6], [1 << 26, 1 << 27, 1 << 28, 1 << 29, 1 << 30]);
+        assert_eq!(limits[6..], [2_147_483_648; 2]);
+    }
+
+    #[test]
+    fn open_words_by_port_cycles() {
+        let limits = [0, 1, 2, 3].map(|cycles| with(EVENT_TIMING_2, cycles).open_limit());
+        let periods = [504, 1_016, 1_528, 2_040];
+        assert_eq!(limits, periods.map(|periods| periods * 65_536));
+    }
+
+    #[test]
+    fn event_timing_fields() {
+        let mut registers = with(EVENT_TIMING_1, 0xFFFE);
+        registers.set(EVENT_TIMING_2, 0xF800);
+        let timing = registers.difference_timing();
+        assert_eq!((timing.period, timing.total), (262_144, 32));
+        let timing = registers.temperature_timing();
+        assert_eq!((timing.period, timing.total), (2_097_152, 32));
+    }
 }

@@ -2,11 +2,17 @@
 
 use std::io::{self, Write};
 
+use answers::Answers;
+
 use crate::flash;
 use crate::item::{self, Fault, Line, Words, LONGEST_FRAME};
 use crate::model::{Model, Outcome, TickReport};
+use crate::opcode;
 use crate::refusal::Refusal;
+use crate::registers;
 use crate::transaction::Started;
+
+mod answers;
 
 /// What an output buffer holds before a call.
 const UNTOUCHED: u8 = 0xEE;
@@ -21,86 +27,87 @@ struct Counts {
     differing: u64,
 }
 
-struct Replay<W: Write> {
+struct Replay {
     model: Model,
     /// The item's user flash.
     memory: Vec<u8>,
     counts: Counts,
-    text: Vec<u8>,
-    sink: W,
+    answers: Answers,
 }
 
 /// Replays the whole text.
-pub fn replay<W: Write>(text: &[u8], sink: W) -> io::Result<()> {
+pub fn replay<W: Write>(text: &[u8], mut sink: W) -> io::Result<()> {
     let mut replay = Replay {
         model: Model::fresh(),
         memory: vec![flash::ERASED; flash::MEMORY],
         counts: Counts::default(),
-        text: Vec::with_capacity(2 * BLOCK),
-        sink,
+        answers: Answers::with_capacity(2 * BLOCK),
     };
     for (index, line) in item::lines(text).enumerate() {
         match item::parse(line) {
-            Ok(line) => replay.answer(line)?,
-            Err(fault) => replay.bad_line(index + 1, fault)?,
+            Ok(line) => replay.answer(line),
+            Err(fault) => replay.bad_line(index + 1, fault),
         }
-        if replay.text.len() >= BLOCK {
-            replay.hand_on()?;
+        if replay.answers.len() >= BLOCK {
+            replay.answers.hand_on(&mut sink)?;
         }
     }
-    replay.end()
+    replay.end();
+    replay.answers.hand_on(&mut sink)?;
+    sink.flush()
 }
 
-impl<W: Write> Replay<W> {
-    fn answer(&mut self, line: Line) -> io::Result<()> {
+impl Replay {
+    fn answer(&mut self, line: Line) {
         match line {
-            Line::Nothing | Line::Show => Ok(()),
+            Line::Nothing | Line::Show => {}
             Line::Item(words) => self.item(words),
             Line::Bus { output_size, frame } => self.bus(output_size, frame.entries()),
             Line::Tick(count) => self.ticks(count),
             Line::Flight { up, down } => {
                 let answer = self.model.deliver_flight(up.entries(), down.entries());
-                self.delivery("flight", answer)
+                self.delivery("flight", answer);
             }
             Line::Temperature(words) => {
                 let answer = self.model.deliver_temperature(words.entries());
-                self.delivery("temperature", answer)
+                self.delivery("temperature", answer);
             }
             Line::Interrupt => {
                 let answer = if self.model.interrupt() { "yes" } else { "no" };
-                writeln!(self.text, "int {answer}")
+                self.answers.print(format_args!("int {answer}\n"));
             }
             Line::Awaited => {
                 let flight = u8::from(self.model.flight.is_awaited());
                 let temperature = u8::from(self.model.temperature.is_awaited());
-                writeln!(self.text, "awaited {flight} {temperature}")
+                self.answers
+                    .print(format_args!("awaited {flight} {temperature}\n"));
             }
             Line::Registers => self.registers(),
             Line::Expect { first, wanted } => self.expect(first, wanted.entries()),
         }
     }
 
-    fn bad_line(&mut self, number: usize, fault: Fault) -> io::Result<()> {
+    fn bad_line(&mut self, number: usize, fault: Fault) {
         self.counts.bad_lines += 1;
-        writeln!(self.text, "line {number}: {}", fault.text())
+        let text = fault.text();
+        self.answers.print(format_args!("line {number}: {text}\n"));
     }
 
-    fn item(&mut self, words: Words) -> io::Result<()> {
+    fn item(&mut self, words: Words) {
         self.model = Model::fresh();
         self.memory.fill(flash::ERASED);
-        self.text.extend_from_slice(b"item");
+        self.answers.put(b"item");
         for word in words {
-            self.text.push(b' ');
-            self.text.extend_from_slice(word);
+            self.answers.put(b" ");
+            self.answers.put(word);
         }
-        self.text.push(b'\n');
-        Ok(())
+        self.answers.put(b"\n");
     }
 
-    fn bus(&mut self, output_size: Option<usize>, frame: &[u8]) -> io::Result<()> {
+    fn bus(&mut self, output_size: Option<usize>, frame: &[u8]) {
         let size = output_size.unwrap_or(match frame {
-            [0xB0..=0xFF, further @ ..] => further.len() & !1,
-            [0x90, ..] => 2,
+            [opcode::FIRST_READ..=opcode::LAST_READ, further @ ..] => further.len() & !1,
+            [opcode::READ_FLASH, ..] => 2,
             _ => 0,
         });
         let mut output = [UNTOUCHED; LONGEST_FRAME];
@@ -108,35 +115,33 @@ impl<W: Write> Replay<W> {
         self.counts.calls += 1;
         match self.model.transaction(frame, output, &mut self.memory) {
             Ok(started) => {
-                self.text.extend_from_slice(b"bus ok ");
-                self.text.extend_from_slice(started_text(started));
+                self.answers.put(b"bus ok ");
+                self.answers.put(started_text(started));
             }
-            Err(refusal) => self.refused("bus", refusal)?,
+            Err(refusal) => self.refused("bus", refusal),
         }
         if !output.is_empty() {
-            self.text.extend_from_slice(b" out ");
+            self.answers.put(b" out ");
             for &byte in output.iter() {
-                push_byte(&mut self.text, byte);
+                self.answers.byte(byte);
             }
         }
-        self.text.push(b'\n');
-        Ok(())
+        self.answers.put(b"\n");
     }
 
-    fn ticks(&mut self, count: u32) -> io::Result<()> {
+    fn ticks(&mut self, count: u32) {
         self.counts.calls += 1;
-        write!(self.text, "tick {count}")?;
+        self.answers.print(format_args!("tick {count}"));
         for number in 1..=count {
             let report = self.model.tick();
             if !report.is_empty() {
-                self.tick_report(report, number)?;
+                self.tick_report(report, number);
             }
         }
-        self.text.push(b'\n');
-        Ok(())
+        self.answers.put(b"\n");
     }
 
-    fn tick_report(&mut self, report: TickReport, number: u32) -> io::Result<()> {
+    fn tick_report(&mut self, report: TickReport, number: u32) {
         let what = [
             (report.flight_failed, "failed-flight"),
             (report.flight_started, "started-flight"),
@@ -145,90 +150,76 @@ impl<W: Write> Replay<W> {
         ];
         for (happened, what) in what {
             if happened {
-                write!(self.text, " {what}@{number}")?;
+                self.answers.print(format_args!(" {what}@{number}"));
             }
         }
-        Ok(())
     }
 
-    fn delivery(&mut self, name: &str, answer: Result<Outcome, Refusal>) -> io::Result<()> {
+    fn delivery(&mut self, name: &str, answer: Result<Outcome, Refusal>) {
         self.counts.calls += 1;
         match answer {
-            Ok(Outcome::Good) => writeln!(self.text, "{name} good"),
-            Ok(Outcome::Failed) => writeln!(self.text, "{name} failed"),
-            Err(refusal) => {
-                self.refused(name, refusal)?;
-                self.text.push(b'\n');
-                Ok(())
-            }
+            Ok(Outcome::Good) => self.answers.print(format_args!("{name} good")),
+            Ok(Outcome::Failed) => self.answers.print(format_args!("{name} failed")),
+            Err(refusal) => self.refused(name, refusal),
         }
+        self.answers.put(b"\n");
     }
 
-    fn refused(&mut self, name: &str, refusal: Refusal) -> io::Result<()> {
+    fn refused(&mut self, name: &str, refusal: Refusal) {
         self.counts.refused += 1;
         let (number, word) = (refusal as u8, refusal.word());
-        write!(self.text, "{name} no {number} {word}")
+        self.answers
+            .print(format_args!("{name} no {number} {word}"));
     }
 
-    fn registers(&mut self) -> io::Result<()> {
-        for first in (0xB0..=0xFF).step_by(8) {
-            push_byte(&mut self.text, first);
+    fn registers(&mut self) {
+        for first in (registers::FIRST..=registers::LAST).step_by(8) {
+            self.answers.byte(first);
             for address in first..=first + 7 {
-                self.text.push(b' ');
-                push_word(&mut self.text, self.model.register(address));
+                self.answers.put(b" ");
+                self.answers.word(self.model.register(address));
             }
-            self.text.push(b'\n');
+            self.answers.put(b"\n");
         }
-        Ok(())
     }
 
-    fn expect(&mut self, first: u8, wanted: &[u16]) -> io::Result<()> {
-        self.text.extend_from_slice(b"expect ");
-        push_byte(&mut self.text, first);
+    fn expect(&mut self, first: u8, wanted: &[u16]) {
+        self.answers.put(b"expect ");
+        self.answers.byte(first);
         let mut differing = 0;
-        for (address, &wanted) in (first..=0xFF).zip(wanted) {
+        for (address, &wanted) in (first..=registers::LAST).zip(wanted) {
             let has = self.model.register(address);
             if has == wanted {
                 continue;
             }
             if differing == 0 {
-                self.text.extend_from_slice(b" differs");
+                self.answers.put(b" differs");
             }
             differing += 1;
-            self.text.push(b' ');
-            push_byte(&mut self.text, address);
-            self.text.push(b':');
-            push_word(&mut self.text, has);
-            self.text.push(b'/');
-            push_word(&mut self.text, wanted);
+            self.answers.put(b" ");
+            self.answers.byte(address);
+            self.answers.put(b":");
+            self.answers.word(has);
+            self.answers.put(b"/");
+            self.answers.word(wanted);
         }
         if differing == 0 {
-            self.text.extend_from_slice(b" ok");
+            self.answers.put(b" ok");
         }
-        self.text.push(b'\n');
+        self.answers.put(b"\n");
         self.counts.differing += differing;
-        Ok(())
     }
 
-    fn end(mut self) -> io::Result<()> {
+    fn end(&mut self) {
         let Counts {
             calls,
             refused,
             bad_lines,
             differing,
         } = self.counts;
-        writeln!(
-            self.text,
-            "end {calls} calls, {refused} refused, {bad_lines} bad lines, {differing} expectations differ"
-        )?;
-        self.hand_on()?;
-        self.sink.flush()
-    }
-
-    fn hand_on(&mut self) -> io::Result<()> {
-        self.sink.write_all(&self.text)?;
-        self.text.clear();
-        Ok(())
+        self.answers.print(format_args!(
+            "end {calls} calls, {refused} refused, {bad_lines} bad lines, {differing} expectations differ\n"
+        ));
     }
 }
 
@@ -241,14 +232,42 @@ fn started_text(started: Started) -> &'static [u8] {
     }
 }
 
-fn push_byte(text: &mut Vec<u8>, byte: u8) {
-    const DIGITS: &[u8; 16] = b"0123456789ABCDEF";
-    let digit = |value: u8| DIGITS[usize::from(value)];
-    text.extend_from_slice(&[digit(byte >> 4), digit(byte & 15)]);
-}
+#[cfg(test)]
+mod tests {
+    use super::*;
 
-fn push_word(text: &mut Vec<u8>, word: u16) {
-    for byte in word.to_be_bytes() {
-        push_byte(text, byte);
+    fn answers(text: &str) -> String {
+        let mut answers = Vec::new();
+        replay(text.as_bytes(), &mut answers).unwrap();
+        String::from_utf8(answers).unwrap()
+    }
+
+    #[test]
+    fn an_item() {
+        let text = "item one\nbus 38 10 10\nbus 05\nbus 02\nawaited\n\
+            tick 3\nflight 64 / 1\nexpect E2 0 63\nbus FE 00 00\nint\nbus 06";
+        let wanted = "item one\nbus ok -\nbus ok -\nbus ok flight\nawaited 1 0\n\
+            tick 3\nflight good\nexpect E2 ok\nbus ok - out 100C\nint no\nbus no 2 opcode\n\
+            end 7 calls, 1 refused, 0 bad lines, 0 expectations differ\n";
+        assert_eq!(answers(text), wanted);
+    }
+
+    #[test]
+    fn an_item_has_its_own_flash() {
+        let text = "bus 0C\nbus 10 00 00 12 34\nbus 90 00 00 00 00\nitem\titem  2 \r\n\
+            bus 90 00 00 00 00\nbus 0C\nbus out=3 90 00 00 00 00\n";
+        let wanted = "bus ok -\nbus ok -\nbus ok - out 1234\nitem item 2\n\
+            bus no 15 supply off out EEEE\nbus ok -\nbus ok - out FFFFEE\n\
+            end 6 calls, 1 refused, 0 bad lines, 0 expectations differ\n";
+        assert_eq!(answers(text), wanted);
+    }
+
+    #[test]
+    fn lines_that_are_no_calls() {
+        let text = "# no call\n\ntick x\nbus 5\nflight 1\nexpect E2 1\n";
+        let wanted = "line 3: bad number\nline 4: bad number\nline 5: wrong count\n\
+            expect E2 differs E2:0000/0001\n\
+            end 0 calls, 0 refused, 3 bad lines, 1 expectations differ\n";
+        assert_eq!(answers(text), wanted);
     }
 }

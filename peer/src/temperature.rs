@@ -80,3 +80,81 @@ impl Model {
         self.end_event_when_finished();
     }
 }
+
+#[cfg(test)]
+mod tests {
+    use super::*;
+    use crate::chip::Chip;
+
+    const GOOD: i64 = SHORT_LIMIT;
+    const OPEN: i64 = 33_030_144;
+
+    /// The outcome of a single measurement, its four pairs and the status.
+    fn single(words: [i64; 4]) -> (Outcome, [u16; 8], u16) {
+        let mut chip = Chip::ready();
+        chip.accept(&[0x03]);
+        let outcome = chip.model.deliver_temperature(&words).unwrap();
+        assert_eq!(chip.registers(registers::TEMPERATURE_CYCLE_COUNT), [0; 9]);
+        let results = chip.registers(registers::PORT_RESULTS);
+        (outcome, results, chip.status())
+    }
+
+    #[test]
+    fn good_words_to_their_limits() {
+        let (outcome, results, status) = single([GOOD, GOOD + 1, OPEN - 1, GOOD]);
+        assert_eq!(outcome, Outcome::Good);
+        assert_eq!(results, [32, 0, 32, 1, 503, 0xFFFF, 32, 0]);
+        assert_eq!(status, status::TE);
+    }
+
+    #[test]
+    fn an_open_port() {
+        let (outcome, results, status) = single([GOOD, OPEN, GOOD, 0xFFFF_FFFF]);
+        assert_eq!(outcome, Outcome::Failed);
+        assert_eq!(results, [32, 0, 0xFFFF, 0xFFFF, 32, 0, 0xFFFF, 0xFFFF]);
+        assert_eq!(status, status::TO | status::TE);
+    }
+
+    #[test]
+    fn a_short_port_does_not_set_to() {
+        let (outcome, results, status) = single([GOOD, GOOD - 1, GOOD, GOOD]);
+        assert_eq!(outcome, Outcome::Failed);
+        assert_eq!(results, [32, 0, 0, 0, 32, 0, 32, 0]);
+        assert_eq!(status, status::TE);
+        let (outcome, _, status) = single([OPEN, 0, GOOD, GOOD]);
+        assert_eq!(outcome, Outcome::Failed);
+        assert_eq!(status, status::TO | status::TE);
+    }
+
+    #[test]
+    fn each_port_has_its_mean() {
+        let mut chip = Chip::ready();
+        // Three temperatures.
+        chip.accept(&[0x40, 0x10, 0x60]);
+        chip.accept(&[0x09]);
+        for (words, count) in [
+            ([GOOD, GOOD, GOOD, GOOD + 9], 1),
+            ([0, GOOD, GOOD, GOOD], 1),
+            ([GOOD + 1, GOOD + 2, GOOD + 3, GOOD], 2),
+        ] {
+            chip.model.deliver_temperature(&words).unwrap();
+            assert_eq!(chip.registers(registers::TEMPERATURE_CYCLE_COUNT), [count]);
+            chip.ticks(32_768);
+        }
+        let means = [32, 0, 32, 1, 32, 1, 32, 4];
+        assert_eq!(chip.registers(registers::PORT_AVERAGES), means);
+        assert_eq!(chip.status(), status::TEMP_EVTMG);
+    }
+
+    #[test]
+    fn refused_deliveries() {
+        let mut chip = Chip::ready();
+        let answer = chip.model.deliver_temperature(&[GOOD; 4]);
+        assert_eq!(answer, Err(Refusal::NotAwaited));
+        chip.accept(&[0x03]);
+        for count in [0, 3, 5] {
+            let answer = chip.model.deliver_temperature(&[GOOD; 5][..count]);
+            assert_eq!(answer, Err(Refusal::WordCount));
+        }
+    }
+}

@@ -1,6 +1,6 @@
 // Writes the temperatures of probe words over the built-in table, then over others. A row has the probe word, the reference word,
 // and the thousandths of a degree or `no` and the number of the refusal; over another table its size stands in front.
-// `peer/readings` works out the same rows by itself.
+// `peer/readings.py` works out the same rows by itself.
 use thermometer::Reading;
 
 fn put_reading(line: &mut [u8], at: usize, reading: Reading) -> usize {

@@ -1,0 +1,20 @@
+//! A second model of the MAX35101, read from the documents, with the limits and opcodes that its
+//! programs share: `peer` replays items on it, `make_items` makes random ones.
+
+pub mod calendar;
+pub mod event;
+pub mod flash;
+mod flight;
+pub mod item;
+mod model;
+pub mod opcode;
+mod refusal;
+pub mod registers;
+mod replay;
+mod temperature;
+mod transaction;
+
+#[cfg(test)]
+mod chip;
+
+pub use replay::replay;

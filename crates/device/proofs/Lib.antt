@@ -11,6 +11,7 @@ pub mod WriteMeaning
 pub mod DeliveryMeaning
 pub mod CommandMeaning
 pub mod CallMeaning
+pub mod StartMeaning
 pub mod Witness
 pub mod Bench
 pub mod Going

@@ -1,0 +1,619 @@
+-- What starts a measurement and what starts none, what a single measurement leaves, and what each command keeps.
+use Prim.Native.Nat.{ℕ, zero, suc, _≤_}
+use native.Mathlib.Omega.{arith}
+use mathlib.Core.Bool.{Bool, true, false}
+use mathlib.Core.List.{List, [], _∷_, map}
+use mathlib.Core.Path.{_≡_, refl, _∙_}
+use borrow.Author.Tests.{le-ltb}
+use lib.Dec.{eqb}
+use Rattle.unit.specs.Choice.{negate}
+use Rattle.unit.specs.Cases.{by-test, by-ltb}
+use Rattle.device.specs.declared.Schedule.{Schedule}
+use Rattle.device.specs.declared.Flight.{Flight}
+use Rattle.device.specs.declared.Temperature.{Temperature}
+use Rattle.device.specs.declared.Model.{Model}
+use Rattle.device.specs.declared.Answer.the-variants.{Ticked, Stretched}
+use Rattle.device.specs.Event.{awaits, inEvent, startsLeft, begins, beginsGroup, fails, single, settle, halted}
+use Rattle.device.specs.Event.{tickSchedule, leftAfter, startedAfter, settledAfter, goodAfter}
+use Rattle.device.specs.Model.{sound, kindBusy, busy, withFlight}
+use Rattle.device.specs.Registers.{calendarWord, flightWord, temperatureWord, registerWord, upwards}
+use Rattle.device.specs.Tick.{lostFlight, sumAfter, sumsAfter, flightTicked, flightAfter, temperatureAfter, tickModel, reportOf}
+use Rattle.device.specs.Stretch.{ticked, scheduleTicked, lastTick, stretchReport}
+use Rattle.device.specs.Delivery.{goodSum, goodSums, goodFlight, flightGood, flightFailed, temperatureGood, temperatureFailed}
+use Rattle.device.specs.Bus.{flightStarted, isEvent, startedEvent, initialised, haltedModel, singleStarted, supplied, unsupplied, runModel}
+use Rattle.device.specs.Call.{tick, flight, temperature, stretch, anyLate, portFault, notAwaited, acceptedModel, acceptedAnswer}
+use Rattle.device.proofs.Sound.{ScheduleBounds, bounds-of, neither-picked}
+
+-- No event runs: all that were planned are started and settled, and none is continuous.
+pub record Ended (k : Schedule) : Type 0 where
+  pub once : k .continuous ≡ false
+  pub started : k .planned ≤ k .started
+  pub settled : k .planned ≤ k .settled
+
+all-settled : (k : Schedule) → inEvent k ≡ false → (k .continuous ≡ false) × (k .planned ≤ k .settled)
+unfolding inEvent
+all-settled k =
+    by-test (k .continuous) (λ c. rw c (λ e. (cc, absurd (let z : _≡_ {A = ℕ} 0 1 = cc in omega arith))))
+    (λ c. rw c
+    (by-ltb (k .settled) (k .planned) (λ l e. rw e (λ f. (refl, absurd (let z : _≡_ {A = ℕ} 0 1 = cc in omega arith))))
+    (λ l e. rw e (λ f. (refl, l)))))
+
+ended-of : (k : Schedule) → ScheduleBounds k → inEvent k ≡ false → Ended k
+ended-of k b e =
+    let (c, l) = all-settled k e in record { once = c; started = omega (arith, b .settled); settled = l }
+
+ended-none : (k : Schedule) → Ended k → begins k ≡ false
+unfolding begins startsLeft
+ended-none k e = rw (e .once, le-ltb (k .started) (k .planned) (e .started))
+
+ended-group : (k : Schedule) → Ended k → beginsGroup k ≡ false
+unfolding beginsGroup
+ended-group k e = rw (ended-none k e)
+
+ended-tick : (k : Schedule) → Ended k → Ended (tickSchedule k)
+unfolding tickSchedule startedAfter settledAfter
+ended-tick k e =
+    rw (ended-none k e, ended-group k e, le-ltb (k .settled) (k .planned) (e .settled))
+    (by-test (fails k)
+    (λ f. rw f (record { once = e .once; started = e .started; settled = e .settled }))
+    (λ f. rw f (record { once = e .once; started = e .started; settled = e .settled })))
+
+ended-ticked : (n : ℕ) (k : Schedule) → Ended k → Ended (scheduleTicked n k)
+unfolding scheduleTicked
+ended-ticked zero k e = e
+ended-ticked (suc n) k e = ended-tick (scheduleTicked n k) (ended-ticked n k e)
+
+-- "The event ends when all are settled.": where no event runs, no tick starts a measurement, however many pass
+pub idle-starts-none :
+    (k : Schedule) → ScheduleBounds k → inEvent k ≡ false → (n : ℕ) → begins (scheduleTicked n k) ≡ false
+idle-starts-none k b i n = ended-none (scheduleTicked n k) (ended-ticked n k (ended-of k b i))
+
+-- the same by the counts: an event of N that are all settled, not a continuous one
+pub settled-starts-none :
+    (k : Schedule) →
+    ScheduleBounds k →
+    k .continuous ≡ false →
+    k .settled ≡ k .planned →
+    (n : ℕ) →
+    begins (scheduleTicked n k) ≡ false
+settled-starts-none k b c s n =
+    ended-none (scheduleTicked n k)
+    (ended-ticked n k (record { once = c; started = omega (arith, b .settled); settled = omega arith }))
+
+-- Nothing is awaited either.
+none-left : (k : Schedule) → Ended k → k .left .0 ≡ 0 → tickSchedule k .left .0 ≡ 0
+unfolding tickSchedule leftAfter
+none-left k e z = rw (ended-none k e, z)
+
+none-left-ticked : (n : ℕ) (k : Schedule) → Ended k → k .left .0 ≡ 0 → scheduleTicked n k .left .0 ≡ 0
+unfolding scheduleTicked
+none-left-ticked zero k e z = z
+none-left-ticked (suc n) k e z = none-left (scheduleTicked n k) (ended-ticked n k e) (none-left-ticked n k e z)
+
+halted-ended : (k : Schedule) → Ended (halted k)
+unfolding halted
+halted-ended k = record { once = refl; started = omega arith; settled = omega arith }
+
+halted-left : (k : Schedule) → halted k .left .0 ≡ 0
+unfolding halted
+halted-left k = refl
+
+not-failing : (k : Schedule) → k .left .0 ≡ 0 → fails k ≡ false
+unfolding fails
+not-failing k z = rw z
+
+not-awaiting : (k : Schedule) → k .left .0 ≡ 0 → awaits k ≡ false
+unfolding awaits
+not-awaiting k z = rw z
+
+-- A tick starts none and fails none, and none is awaited.
+pub record Silent (k : Schedule) : Type 0 where
+  pub starts : begins k ≡ false
+  pub left : k .left .0 ≡ 0
+  pub expires : fails k ≡ false
+
+-- "HALT drops awaited measurements, ends the event": so it is, and stays so for n ticks
+pub halted-silent : (k : Schedule) (n : ℕ) → Silent (scheduleTicked n (halted k))
+halted-silent k n =
+    let l = none-left-ticked n (halted k) (halted-ended k) (halted-left k) in
+    record {
+      starts = ended-none (scheduleTicked n (halted k)) (ended-ticked n (halted k) (halted-ended k));
+      left = l;
+      expires = not-failing (scheduleTicked n (halted k)) l;
+    }
+
+never-starts : (k : Schedule) (n : ℕ) → lastTick begins (halted k) n ≡ 0
+unfolding lastTick
+never-starts k zero = refl
+never-starts k (suc n) = rw (halted-silent k n .starts, never-starts k n)
+
+never-fails : (k : Schedule) (n : ℕ) → lastTick fails (halted k) n ≡ 0
+unfolding lastTick
+never-fails k zero = refl
+never-fails k (suc n) = rw (halted-silent k n .expires, never-fails k n)
+
+pub flight-schedule : (n : ℕ) (m : Model) → ticked n m .flight .schedule ≡ scheduleTicked n (m .flight .schedule)
+unfolding ticked scheduleTicked tickModel
+flight-schedule zero m = refl
+flight-schedule (suc n) m = flight-after (ticked n m .flight) ∙ rw (flight-schedule n m)
+  where
+    flight-after : (f : Flight) → flightAfter f .schedule ≡ tickSchedule (f .schedule)
+    flight-after f = unfold flightAfter flightTicked lostFlight in by-test (fails (f .schedule)) (λ e. rw e) (λ e. rw e)
+
+pub temperature-schedule :
+    (n : ℕ) (m : Model) → ticked n m .temperature .schedule ≡ scheduleTicked n (m .temperature .schedule)
+unfolding ticked scheduleTicked tickModel
+temperature-schedule zero m = refl
+temperature-schedule (suc n) m = temperature-after (ticked n m .temperature) ∙ rw (temperature-schedule n m)
+  where
+    temperature-after : (t : Temperature) → temperatureAfter t .schedule ≡ tickSchedule (t .schedule)
+    temperature-after t = unfold temperatureAfter in by-test (fails (t .schedule)) (λ e. rw e) (λ e. rw e)
+
+module _ (m : Model) where
+  halted-flight : runModel m 10 .flight .schedule ≡ halted (m .flight .schedule)
+  unfolding runModel haltedModel
+  halted-flight = refl
+
+  halted-temperature : runModel m 10 .temperature .schedule ≡ halted (m .temperature .schedule)
+  unfolding runModel haltedModel
+  halted-temperature = refl
+
+  pub halt-flight : (n : ℕ) → Silent (ticked n (runModel m 10) .flight .schedule)
+  halt-flight n = rw (flight-schedule n (runModel m 10), halted-flight) (halted-silent (m .flight .schedule) n)
+
+  pub halt-temperature : (n : ℕ) → Silent (ticked n (runModel m 10) .temperature .schedule)
+  halt-temperature n =
+      rw (temperature-schedule n (runModel m 10), halted-temperature) (halted-silent (m .temperature .schedule) n)
+
+  -- in the answers: after 0Ah no tick reports a start or a failure,
+  pub halt-ticks :
+      (n : ℕ) →
+      acceptedAnswer (ticked n (runModel m 10)) tick
+      ≡ Ticked (record { started = false; failed = false }) (record { started = false; failed = false })
+  unfolding acceptedAnswer reportOf
+  halt-ticks n =
+      let f = halt-flight n in
+      let t = halt-temperature n in
+      rw (f .starts, f .expires, t .starts, t .expires)
+
+  -- and a delivery of either kind is number 10
+  pub halt-drops :
+      (n : ℕ) (u d w : List ℕ) →
+      (notAwaited (ticked n (runModel m 10)) (flight u d) ≡ true) ×
+      (notAwaited (ticked n (runModel m 10)) (temperature w) ≡ true)
+  unfolding notAwaited
+  halt-drops n u d w =
+      rw (
+        not-awaiting (ticked n (runModel m 10) .flight .schedule) (halt-flight n .left),
+        not-awaiting (ticked n (runModel m 10) .temperature .schedule) (halt-temperature n .left),
+      )
+      (refl, refl)
+
+  -- nor does a stretch after 0Ah name a start or a failure
+  pub halt-stretch :
+      (n : ℕ) →
+      acceptedAnswer (runModel m 10) (stretch n)
+      ≡ Stretched (record { started = 0; failed = 0 }) (record { started = 0; failed = 0 })
+  unfolding acceptedAnswer stretchReport
+  halt-stretch n =
+      rw (
+        halted-flight,
+        halted-temperature,
+        never-starts (m .flight .schedule) n,
+        never-fails (m .flight .schedule) n,
+        never-starts (m .temperature .schedule) n,
+        never-fails (m .temperature .schedule) n,
+      )
+
+-- A single measurement: "A good measurement of an event adds one to its count, a single one none". Count and averages are what
+-- E4h to E6h read, and EFh to F7h.
+flight-counts :
+    (m n : Model) →
+    n .flight .sum ≡ m .flight .sum →
+    n .flight .schedule .good ≡ m .flight .schedule .good →
+    map (registerWord n) (upwards 0xE4 3) ≡ map (registerWord m) (upwards 0xE4 3)
+unfolding registerWord flightWord
+flight-counts m n s g = rw (s, g)
+
+temperature-counts :
+    (m n : Model) →
+    n .temperature .sums ≡ m .temperature .sums →
+    n .temperature .schedule .good ≡ m .temperature .schedule .good →
+    map (registerWord n) (upwards 0xEF 9) ≡ map (registerWord m) (upwards 0xEF 9)
+unfolding registerWord temperatureWord
+temperature-counts m n s g = rw (s, g)
+
+settle-good : (k : Schedule) (good : Bool) → k .planned ≤ k .settled → settle k good .good ≡ k .good
+unfolding settle
+settle-good k good l = rw (le-ltb (k .settled) (k .planned) l)
+
+delivered-sum :
+    (m : Model) (u d : List ℕ) →
+    m .flight .schedule .planned ≤ m .flight .schedule .settled →
+    (acceptedModel m (flight u d) .flight .sum ≡ m .flight .sum) ×
+    (acceptedModel m (flight u d) .flight .schedule .good ≡ m .flight .schedule .good)
+unfolding acceptedModel flightFailed lostFlight flightGood goodFlight goodSum
+delivered-sum m u d l =
+    let k = m .flight .schedule in
+    by-test (anyLate m u d)
+    (λ e. rw (e, settle-good k false l) (refl, refl))
+    (λ e. rw (e, settle-good k true l, le-ltb (k .settled) (k .planned) l) (refl, refl))
+
+delivered-sums :
+    (m : Model) (w : List ℕ) →
+    m .temperature .schedule .planned ≤ m .temperature .schedule .settled →
+    (acceptedModel m (temperature w) .temperature .sums ≡ m .temperature .sums) ×
+    (acceptedModel m (temperature w) .temperature .schedule .good ≡ m .temperature .schedule .good)
+unfolding acceptedModel temperatureFailed temperatureGood goodSums
+delivered-sums m w l =
+    let k = m .temperature .schedule in
+    by-test (portFault m w)
+    (λ e. rw (e, settle-good k false l) (refl, refl))
+    (λ e. rw (e, settle-good k true l, le-ltb (k .settled) (k .planned) l) (refl, refl))
+
+-- a delivery, good or failed
+pub single-flight-delivered :
+    (m : Model) (u d : List ℕ) →
+    inEvent (m .flight .schedule) ≡ false →
+    map (registerWord (acceptedModel m (flight u d))) (upwards 0xE4 3) ≡ map (registerWord m) (upwards 0xE4 3)
+single-flight-delivered m u d i =
+    let (s, g) = delivered-sum m u d (all-settled (m .flight .schedule) i .1) in
+    flight-counts m (acceptedModel m (flight u d)) s g
+
+pub single-temperature-delivered :
+    (m : Model) (w : List ℕ) →
+    inEvent (m .temperature .schedule) ≡ false →
+    map (registerWord (acceptedModel m (temperature w))) (upwards 0xEF 9) ≡ map (registerWord m) (upwards 0xEF 9)
+single-temperature-delivered m w i =
+    let (s, g) = delivered-sums m w (all-settled (m .temperature .schedule) i .1) in
+    temperature-counts m (acceptedModel m (temperature w)) s g
+
+-- ticks, in which it may fail
+ended-sum :
+    (n : ℕ) (m : Model) →
+    Ended (m .flight .schedule) →
+    (ticked n m .flight .sum ≡ m .flight .sum) × (ticked n m .flight .schedule .good ≡ m .flight .schedule .good)
+unfolding ticked tickModel
+ended-sum zero m e = (refl, refl)
+ended-sum (suc n) m e =
+    let (s, g) = ended-sum n m e in
+    let (t, h) = after (ticked n m .flight) (rw (flight-schedule n m) (ended-ticked n (m .flight .schedule) e)) in
+    (t ∙ s, h ∙ g)
+  where
+    after : (f : Flight) → Ended (f .schedule) → (flightAfter f .sum ≡ f .sum) × (flightAfter f .schedule .good ≡ f .schedule .good)
+    after f e =
+        unfold flightAfter flightTicked lostFlight sumAfter tickSchedule goodAfter in
+        rw (ended-group (f .schedule) e) (by-test (fails (f .schedule)) (λ x. rw x (refl, refl)) (λ x. rw x (refl, refl)))
+
+ended-sums :
+    (n : ℕ) (m : Model) →
+    Ended (m .temperature .schedule) →
+    (ticked n m .temperature .sums ≡ m .temperature .sums) ×
+    (ticked n m .temperature .schedule .good ≡ m .temperature .schedule .good)
+unfolding ticked tickModel
+ended-sums zero m e = (refl, refl)
+ended-sums (suc n) m e =
+    let (s, g) = ended-sums n m e in
+    let (t, h) =
+    after (ticked n m .temperature) (rw (temperature-schedule n m) (ended-ticked n (m .temperature .schedule) e))
+    in
+    (t ∙ s, h ∙ g)
+  where
+    after :
+        (t : Temperature) →
+        Ended (t .schedule) →
+        (temperatureAfter t .sums ≡ t .sums) × (temperatureAfter t .schedule .good ≡ t .schedule .good)
+    after t e =
+        unfold temperatureAfter sumsAfter tickSchedule goodAfter in
+        rw (ended-group (t .schedule) e) (by-test (fails (t .schedule)) (λ x. rw x (refl, refl)) (λ x. rw x (refl, refl)))
+
+pub single-flight-ticked :
+    (m : Model) (n : ℕ) →
+    sound m ≡ true →
+    inEvent (m .flight .schedule) ≡ false →
+    map (registerWord (ticked n m)) (upwards 0xE4 3) ≡ map (registerWord m) (upwards 0xE4 3)
+single-flight-ticked m n s i =
+    let e = ended-of (m .flight .schedule) (bounds-of m s .flight .schedule) i in
+    let (a, b) = ended-sum n m e in
+    flight-counts m (ticked n m) a b
+
+pub single-temperature-ticked :
+    (m : Model) (n : ℕ) →
+    sound m ≡ true →
+    inEvent (m .temperature .schedule) ≡ false →
+    map (registerWord (ticked n m)) (upwards 0xEF 9) ≡ map (registerWord m) (upwards 0xEF 9)
+single-temperature-ticked m n s i =
+    let e = ended-of (m .temperature .schedule) (bounds-of m s .temperature .schedule) i in
+    let (a, b) = ended-sums n m e in
+    temperature-counts m (ticked n m) a b
+
+-- A delivery of one kind leaves the other's results: E7h to F7h, and C5h to E6h.
+flight-reads :
+    (m n : Model) →
+    n .flight ≡ m .flight →
+    map (registerWord n) (upwards 0xC5 34) ≡ map (registerWord m) (upwards 0xC5 34)
+unfolding registerWord
+flight-reads m n e = rw e
+
+temperature-reads :
+    (m n : Model) →
+    n .temperature ≡ m .temperature →
+    map (registerWord n) (upwards 0xE7 17) ≡ map (registerWord m) (upwards 0xE7 17)
+unfolding registerWord
+temperature-reads m n e = rw e
+
+pub flight-leaves-ports :
+    (m : Model) (u d : List ℕ) →
+    map (registerWord (acceptedModel m (flight u d))) (upwards 0xE7 17) ≡ map (registerWord m) (upwards 0xE7 17)
+flight-leaves-ports m u d = temperature-reads m (acceptedModel m (flight u d)) kept
+  where
+    kept : acceptedModel m (flight u d) .temperature ≡ m .temperature
+    kept = unfold acceptedModel flightFailed flightGood in by-test (anyLate m u d) (λ e. rw e) (λ e. rw e)
+
+pub temperature-leaves-hits :
+    (m : Model) (w : List ℕ) →
+    map (registerWord (acceptedModel m (temperature w))) (upwards 0xC5 34) ≡ map (registerWord m) (upwards 0xC5 34)
+temperature-leaves-hits m w = flight-reads m (acceptedModel m (temperature w)) kept
+  where
+    kept : acceptedModel m (temperature w) .flight ≡ m .flight
+    kept = unfold acceptedModel temperatureFailed temperatureGood in by-test (portFault m w) (λ e. rw e) (λ e. rw e)
+
+-- "TOF_Up (00h), TOF_Down (01h), TOF_Diff (02h) start a flight measurement": it is awaited for 8,192 ticks, in the directions
+-- named, and everything else of `n`, the model after the command, is as it was in `m`, the model before it.
+pub record FlightStarts (m n : Model) (upstream downstream : Bool) : Type 0 where
+  pub awaited : (u d : List ℕ) → notAwaited n (flight u d) ≡ false
+  pub left : n .flight .schedule .left .0 ≡ 8192
+  pub up : n .flight .up ≡ upstream
+  pub down : n .flight .down ≡ downstream
+  pub sum : n .flight .sum ≡ m .flight .sum
+  pub ups : n .flight .ups ≡ m .flight .ups
+  pub downs : n .flight .downs ≡ m .flight .downs
+  pub difference : n .flight .difference ≡ m .flight .difference
+  pub wait : n .flight .schedule .wait ≡ m .flight .schedule .wait
+  pub period : n .flight .schedule .period ≡ m .flight .schedule .period
+  pub planned : n .flight .schedule .planned ≡ m .flight .schedule .planned
+  pub started : n .flight .schedule .started ≡ m .flight .schedule .started
+  pub settled : n .flight .schedule .settled ≡ m .flight .schedule .settled
+  pub continuous : n .flight .schedule .continuous ≡ m .flight .schedule .continuous
+  pub good : n .flight .schedule .good ≡ m .flight .schedule .good
+  pub temperature : n .temperature ≡ m .temperature
+  pub clock : n .clock ≡ m .clock
+  pub setup : n .setup ≡ m .setup
+  pub status : n .status ≡ m .status
+  pub ready : n .ready ≡ m .ready
+  pub regulator : n .regulator ≡ m .regulator
+
+-- "Temperature (03h) a temperature one"
+pub record TemperatureStarts (m n : Model) : Type 0 where
+  pub awaited : (w : List ℕ) → notAwaited n (temperature w) ≡ false
+  pub left : n .temperature .schedule .left .0 ≡ 8192
+  pub sums : n .temperature .sums ≡ m .temperature .sums
+  pub ports : n .temperature .ports ≡ m .temperature .ports
+  pub wait : n .temperature .schedule .wait ≡ m .temperature .schedule .wait
+  pub period : n .temperature .schedule .period ≡ m .temperature .schedule .period
+  pub planned : n .temperature .schedule .planned ≡ m .temperature .schedule .planned
+  pub started : n .temperature .schedule .started ≡ m .temperature .schedule .started
+  pub settled : n .temperature .schedule .settled ≡ m .temperature .schedule .settled
+  pub continuous : n .temperature .schedule .continuous ≡ m .temperature .schedule .continuous
+  pub good : n .temperature .schedule .good ≡ m .temperature .schedule .good
+  pub flight : n .flight ≡ m .flight
+  pub clock : n .clock ≡ m .clock
+  pub setup : n .setup ≡ m .setup
+  pub status : n .status ≡ m .status
+  pub ready : n .ready ≡ m .ready
+  pub regulator : n .regulator ≡ m .regulator
+
+module _ (m : Model) where
+  -- one law over the direction
+  starts-some : (op : ℕ) → FlightStarts m (withFlight m (flightStarted (m .flight) op)) (negate (eqb op 1)) (negate (eqb op 0))
+  unfolding flightStarted single notAwaited awaits
+  starts-some op =
+      record {
+        awaited = λ u d. refl;
+        left = refl;
+        up = refl;
+        down = refl;
+        sum = refl;
+        ups = refl;
+        downs = refl;
+        difference = refl;
+        wait = refl;
+        period = refl;
+        planned = refl;
+        started = refl;
+        settled = refl;
+        continuous = refl;
+        good = refl;
+        temperature = refl;
+        clock = refl;
+        setup = refl;
+        status = refl;
+        ready = refl;
+        regulator = refl;
+      }
+
+  pub starts-up : FlightStarts m (runModel m 0) true false
+  unfolding runModel isEvent singleStarted
+  starts-up = starts-some 0
+
+  pub starts-down : FlightStarts m (runModel m 1) false true
+  unfolding runModel isEvent singleStarted
+  starts-down = starts-some 1
+
+  pub starts-both : FlightStarts m (runModel m 2) true true
+  unfolding runModel isEvent singleStarted
+  starts-both = starts-some 2
+
+  pub starts-temperature : TemperatureStarts m (runModel m 3)
+  unfolding runModel isEvent singleStarted single notAwaited awaits
+  starts-temperature =
+      record {
+        awaited = λ w. refl;
+        left = refl;
+        sums = refl;
+        ports = refl;
+        wait = refl;
+        period = refl;
+        planned = refl;
+        started = refl;
+        settled = refl;
+        continuous = refl;
+        good = refl;
+        flight = refl;
+        clock = refl;
+        setup = refl;
+        status = refl;
+        ready = refl;
+        regulator = refl;
+      }
+
+  -- "05h Initialize", "0Ah HALT", "LDO_ON (0Ch), LDO_OFF (0Dh)" (Note 8) keep the calendar, the configuration and every result:
+  -- B0h to F7h read the same
+  pub initialize-keeps : map (registerWord (runModel m 5)) (upwards 0xB0 72) ≡ map (registerWord m) (upwards 0xB0 72)
+  unfolding runModel initialised registerWord calendarWord
+  initialize-keeps = refl
+
+  pub halt-keeps : map (registerWord (runModel m 10)) (upwards 0xB0 72) ≡ map (registerWord m) (upwards 0xB0 72)
+  unfolding runModel haltedModel halted registerWord calendarWord flightWord temperatureWord
+  halt-keeps = refl
+
+  pub supply-keeps :
+      (map (registerWord (runModel m 12)) (upwards 0xB0 72) ≡ map (registerWord m) (upwards 0xB0 72)) ×
+      (map (registerWord (runModel m 13)) (upwards 0xB0 72) ≡ map (registerWord m) (upwards 0xB0 72))
+  unfolding runModel supplied unsupplied registerWord calendarWord
+  supply-keeps = (refl, refl)
+
+  -- the clock to its tick, too, which no register tells
+  pub commands-keep-clock :
+      map (λ (op : ℕ). runModel m op .clock) (0 ∷ 1 ∷ 2 ∷ 3 ∷ 5 ∷ 7 ∷ 8 ∷ 9 ∷ 10 ∷ 12 ∷ 13 ∷ [])
+      ≡ map (λ (op : ℕ). m .clock) (0 ∷ 1 ∷ 2 ∷ 3 ∷ 5 ∷ 7 ∷ 8 ∷ 9 ∷ 10 ∷ 12 ∷ 13 ∷ [])
+  unfolding runModel isEvent startedEvent singleStarted initialised haltedModel supplied unsupplied
+  commands-keep-clock = refl
+
+  pub commands-keep-setup :
+      map (λ (op : ℕ). runModel m op .setup) (0 ∷ 1 ∷ 2 ∷ 3 ∷ 5 ∷ 7 ∷ 8 ∷ 9 ∷ 10 ∷ 12 ∷ 13 ∷ [])
+      ≡ map (λ (op : ℕ). m .setup) (0 ∷ 1 ∷ 2 ∷ 3 ∷ 5 ∷ 7 ∷ 8 ∷ 9 ∷ 10 ∷ 12 ∷ 13 ∷ [])
+  unfolding runModel isEvent startedEvent singleStarted initialised haltedModel supplied unsupplied
+  commands-keep-setup = refl
+
+-- where a kind is neither awaited nor in an event
+idle-left : (k : Schedule) → awaits k ≡ false → k .left .0 ≡ 0
+unfolding awaits
+idle-left k =
+    by-ltb 0 (k .left .0) (λ l e. rw e (λ f. let z : _≡_ {A = ℕ} 0 1 = cc in absurd (omega arith)))
+    (λ l e. rw e (λ f. omega arith))
+
+idle-ended : (k : Schedule) → ScheduleBounds k → kindBusy k ≡ false → Ended k
+unfolding kindBusy
+idle-ended k b i = ended-of k b (neither-picked (awaits k) i .1)
+
+module _ (m : Model) (s : sound m ≡ true) (i : busy m ≡ false) where
+  ended-flight : Ended (m .flight .schedule)
+  unfolding busy
+  ended-flight =
+      idle-ended (m .flight .schedule) (bounds-of m s .flight .schedule)
+      (neither-picked (kindBusy (m .flight .schedule)) i .0)
+
+  ended-temperature : Ended (m .temperature .schedule)
+  unfolding busy
+  ended-temperature =
+      idle-ended (m .temperature .schedule) (bounds-of m s .temperature .schedule)
+      (neither-picked (kindBusy (m .flight .schedule)) i .1)
+
+  -- Where nothing is awaited and no event runs, no tick reports a start or a failure.
+  idle-silent : (k : Schedule) → Ended k → kindBusy k ≡ false → (n : ℕ) → Silent (scheduleTicked n k)
+  unfolding kindBusy
+  idle-silent k e b n =
+      let l = none-left-ticked n k e (idle-left k (neither-picked (awaits k) b .0)) in
+      record {
+        starts = ended-none (scheduleTicked n k) (ended-ticked n k e);
+        left = l;
+        expires = not-failing (scheduleTicked n k) l;
+      }
+
+  pub idle-ticks :
+      (n : ℕ) →
+      acceptedAnswer (ticked n m) tick
+      ≡ Ticked (record { started = false; failed = false }) (record { started = false; failed = false })
+  unfolding acceptedAnswer reportOf busy
+  idle-ticks n =
+      let (x, y) = neither-picked (kindBusy (m .flight .schedule)) i in
+      let f = idle-silent (m .flight .schedule) ended-flight x n in
+      let t = idle-silent (m .temperature .schedule) ended-temperature y n in
+      rw (flight-schedule n m, temperature-schedule n m, f .starts, f .expires, t .starts, t .expires)
+
+module _ (m q : Model) (n : ℕ) where
+  started-flight :
+      (a b : Bool) →
+      FlightStarts m q a b →
+      Ended (m .flight .schedule) →
+      (u d : List ℕ) →
+      (map (registerWord (ticked n q)) (upwards 0xE4 3) ≡ map (registerWord m) (upwards 0xE4 3)) ×
+      (map (registerWord (acceptedModel (ticked n q) (flight u d))) (upwards 0xE4 3)
+      ≡ map (registerWord m) (upwards 0xE4 3))
+  started-flight a b f e u d =
+      let g : Ended (q .flight .schedule) =
+      record {
+        once = f .continuous ∙ e .once;
+        started = rw (f .planned, f .started) (e .started);
+        settled = rw (f .planned, f .settled) (e .settled);
+      }
+      in
+      let (x, y) = ended-sum n q g in
+      let l : Ended (ticked n q .flight .schedule) = rw (flight-schedule n q) (ended-ticked n (q .flight .schedule) g) in
+      let (v, w) = delivered-sum (ticked n q) u d (l .settled) in (
+        flight-counts m (ticked n q) (x ∙ f .sum) (y ∙ f .good),
+        flight-counts m (acceptedModel (ticked n q) (flight u d)) (v ∙ x ∙ f .sum) (w ∙ y ∙ f .good),
+      )
+
+  started-temperature :
+      TemperatureStarts m q →
+      Ended (m .temperature .schedule) →
+      (p : List ℕ) →
+      (map (registerWord (ticked n q)) (upwards 0xEF 9) ≡ map (registerWord m) (upwards 0xEF 9)) ×
+      (map (registerWord (acceptedModel (ticked n q) (temperature p))) (upwards 0xEF 9)
+      ≡ map (registerWord m) (upwards 0xEF 9))
+  started-temperature f e p =
+      let g : Ended (q .temperature .schedule) =
+      record {
+        once = f .continuous ∙ e .once;
+        started = rw (f .planned, f .started) (e .started);
+        settled = rw (f .planned, f .settled) (e .settled);
+      }
+      in
+      let (x, y) = ended-sums n q g in
+      let l : Ended (ticked n q .temperature .schedule) =
+      rw (temperature-schedule n q) (ended-ticked n (q .temperature .schedule) g)
+      in
+      let (v, w) = delivered-sums (ticked n q) p (l .settled) in (
+        temperature-counts m (ticked n q) (x ∙ f .sums) (y ∙ f .good),
+        temperature-counts m (acceptedModel (ticked n q) (temperature p)) (v ∙ x ∙ f .sums) (w ∙ y ∙ f .good),
+      )
+
+-- "a single one none", from its command on: however many ticks pass, and whether it is delivered, good or failed, or fails in a
+-- tick, E4h to E6h and EFh to F7h read what they read before the command.
+pub single-flight :
+    (m : Model) (op n : ℕ) (u d : List ℕ) →
+    sound m ≡ true →
+    busy m ≡ false →
+    op ≤ 2 →
+    (map (registerWord (ticked n (runModel m op))) (upwards 0xE4 3) ≡ map (registerWord m) (upwards 0xE4 3)) ×
+    (map (registerWord (acceptedModel (ticked n (runModel m op)) (flight u d))) (upwards 0xE4 3)
+    ≡ map (registerWord m) (upwards 0xE4 3))
+single-flight m zero n u d s i h =
+    started-flight m (runModel m 0) n true false (starts-up m) (ended-flight m s i) u d
+single-flight m (suc zero) n u d s i h =
+    started-flight m (runModel m 1) n false true (starts-down m) (ended-flight m s i) u d
+single-flight m (suc (suc zero)) n u d s i h =
+    started-flight m (runModel m 2) n true true (starts-both m) (ended-flight m s i) u d
+single-flight m (suc (suc (suc x))) n u d s i h = absurd (omega arith)
+
+pub single-temperature :
+    (m : Model) (n : ℕ) (p : List ℕ) →
+    sound m ≡ true →
+    busy m ≡ false →
+    (map (registerWord (ticked n (runModel m 3))) (upwards 0xEF 9) ≡ map (registerWord m) (upwards 0xEF 9)) ×
+    (map (registerWord (acceptedModel (ticked n (runModel m 3)) (temperature p))) (upwards 0xEF 9)
+    ≡ map (registerWord m) (upwards 0xEF 9))
+single-temperature m n p s i =
+    started-temperature m (runModel m 3) n (starts-temperature m) (ended-temperature m s i) p

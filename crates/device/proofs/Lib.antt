@@ -27,5 +27,7 @@ pub mod FlashRun
 pub mod Supply
 pub mod FlashMeaning
 pub mod Form
+pub mod Initialised
 pub mod Blank
 pub mod Probes
+pub mod StatusKept

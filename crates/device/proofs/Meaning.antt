@@ -221,7 +221,7 @@ unfolding settle
 settle-single k good h = rw (le-ltb (k .settled) (k .planned) h) (refl, refl, refl)
 
 -- One tick of a schedule: a start is awaited for 8,192 ticks, else one tick fewer is left; the next start comes one period
--- after the last; the plan and the count of good ones stay.
+-- after the last; the plan stays, and the count of good ones but at the first start of a group.
 pub left-started : (k : Schedule) → begins k ≡ true → tickSchedule k .left .0 ≡ 8192
 unfolding tickSchedule leftAfter
 left-started k e = rw e

@@ -178,7 +178,7 @@ turned : (b : Bool) → either b true ≡ true
 turned true = refl
 turned false = refl
 
--- A bit once set stays set until a read clears it, and none is set that neither side has.
+-- Bits of both sides are set, and none that neither side has.
 both-bits : (a b : Bool) → bit (either a b) ≡ max (bit a) (bit b)
 both-bits true true = refl
 both-bits true false = refl

@@ -1,7 +1,7 @@
 -- The third demand: what the calls after an accepted event command, and their answers, tell. Quotations are from 01, but for
 -- those beside the claims at the end, which are the demand's own words. One statement serves both sorts of event. What differs
 -- for a continuous one stands in two places: `opensGroup`, where the group begins that is told of "in place of since acceptance",
--- and `plannedStarts`, which has "every j in place of j below N" (Note 5).
+-- and `plannedStarts`, which has "every j in place of j below N" (Note 5); `unended` at the end is about it alone.
 use Prim.Native.Nat.{ℕ, zero, suc, _+_, _*_, _/_, _%_, _-_, _<_, _≤_}
 use mathlib.Core.Bool.{Bool, true, false}
 use mathlib.Core.List.{List, [], _∷_, _++_, map}
@@ -313,7 +313,8 @@ pub record Holds (m : Model) (int : ℕ) (w : ℕ) : Type 0 where
   pub low : registerWord m (int + 1) ≡ w % 65536
 
 -- "Each event average of the kind is the whole-number mean, rounded down, of exactly the differences or port words that 01
--- gives for its good deliveries since acceptance, 0 if none." "The averages are what E5h, E6h and F0h to F7h hold."
+-- gives for its good deliveries since acceptance, 0 if none.", or of the current group. "The averages are what E5h, E6h and F0h to
+-- F7h hold."
 abbrev pub AveragesHeld : Kind → List ℕ → List Call → Model → Type 0
 AveragesHeld differences s good m = Holds m 0xE5 (differenceBits (meanAverages (map (averagesOf s) good)))
 AveragesHeld temperatures s good m =

@@ -92,12 +92,13 @@ waitAfter k = pick (leb (k .wait .0) 1) (k .period .0) (k .wait .0 - 1)
 unfoldable pub startedAfter : Schedule → ℕ
 startedAfter k = pick (begins k) (pick (ltb (k .started) (k .planned)) (k .started + 1) 1) (k .started)
 
--- "at the first start of a group that kind's sums, count and averages go to 0" (Note 5)
+-- Of a new group none is settled.
 unfoldable pub settledAfter : Schedule → ℕ
 settledAfter k =
     pick (beginsGroup k) 0
     (pick (fails k) (pick (ltb (k .settled) (k .planned)) (k .settled + 1) (k .settled)) (k .settled))
 
+-- "at the first start of a group that kind's sums, count and averages go to 0" (Note 5)
 unfoldable pub goodAfter : Schedule → ℕ
 goodAfter k = pick (beginsGroup k) 0 (k .good)
 
@@ -161,8 +162,8 @@ countsSound k =
     (pick (ltb (k .planned) (k .started)) false
     (pick (ltb (k .started) (k .settled)) false (pick (ltb (k .settled) (k .good)) false true)))
 
--- The awaited one has at most 8,192 ticks left; a start to come is at most a period away, the period is one that the set-up can
--- name, and the awaited one fails at least 8,192 ticks before that start.
+-- The awaited one has at most 8,192 ticks left; a start to come is at most a period away, the period is 16,384 ticks or more, the
+-- least P, and the awaited one fails at least 8,192 ticks before that start.
 unfoldable pub waitSound : Schedule → Bool
 waitSound k =
     pick (ltb 8192 (k .left .0)) false

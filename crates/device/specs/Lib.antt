@@ -13,5 +13,6 @@ pub mod Claim
 pub mod FlashRun
 pub mod Supply
 pub mod Form
+pub mod Initialised
 pub mod Probes
 pub mod Bench

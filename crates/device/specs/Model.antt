@@ -104,8 +104,8 @@ freshModel = freshWith porBit
 unfoldable pub resetModel : Model
 resetModel = freshWith noBits
 
--- Sound: the clock is valid, the counts of each kind are in order, and each sum is at most the count times the largest
--- value. The calls need it so that no field leaves its range.
+-- Sound: the clock is valid, the schedule of each kind is one that the calls make, and each sum is at most the count times the
+-- largest value. The calls need it so that no field leaves its range.
 unfoldable pub sumFits : ℕ → ℕ → ℕ → Bool
 sumFits sum good most = pick (ltb (good * most) sum) false true
 

@@ -7,41 +7,41 @@ ghost use Rattle.frame.specs.declared.Decoded.{Decoded};
 ghost use Rattle.device.specs.Model.{freshModel, sound};
 ghost use Rattle.device.specs.Stretch.{quietFor};
 ghost use Rattle.device.specs.Call.{Call, reply, output, memory, commandReply, writeReply, readReply, readOutput, refusalNumber, readFits, frameFits, flashFrameReply, flashFrameOutput, flashFrameMemory, wordsReply};
-use access::read::fill_words;
-use access::write::write_invalid;
-use access::write::write_model;
-use command::answer::accepted;
-use command::answer::refused;
-use command::run::after_read;
-use command::run::command_busy;
-use command::run::command_unset;
-use command::run::not_ready;
-use command::run::run;
-use command::run::starts_flight;
-use command::run::starts_temperature;
-use command::state::fresh_with;
-use command::state::is_busy;
-use command::state::is_sound;
+use command::command_busy;
+use command::command_unset;
+use command::not_ready;
+use command::run;
+use command::starts_flight;
+use command::starts_temperature;
+use delivery::flight_miscounted;
+use delivery::flight_words;
+use delivery::temperature_words;
 use device::Answer;
 use device::Model;
 use device::Reply;
 use device::Report;
-use event::interrupt::por_bit;
-use event::schedule::is_awaited;
 use flash_access::flash_frame;
 use frame::Decoded;
-use measuring::delivery::flight_miscounted;
-use measuring::delivery::flight_words;
-use measuring::delivery::temperature_words;
-use measuring::stretch::next_is_quiet;
-use measuring::stretch::quiet_tick;
-use measuring::tick::report_of;
-use measuring::tick::tick_model;
+use model::reply::accepted;
+use model::reply::refused;
+use model::state::fresh_with;
+use model::state::is_busy;
+use model::state::is_sound;
 pub use question::flight_awaited;
 pub use question::interrupt_pending;
 pub use question::peek;
 pub use question::regulator_on;
 pub use question::temperature_awaited;
+use registers::read::after_read;
+use registers::read::fill_words;
+use registers::write::write_invalid;
+use registers::write::write_model;
+use schedule::is_awaited;
+use status::por_bit;
+use ticking::stretch::next_is_quiet;
+use ticking::stretch::quiet_tick;
+use ticking::tick::report_of;
+use ticking::tick::tick_model;
 
 pub fn fresh() -> Model
     ensures { λ r. ⌜ r ≡ freshModel ⌝ }
@@ -187,7 +187,7 @@ pub fn stretch(m: Model, n: u32) -> Reply
         if 16384 < n {
             return refused(m, 12);
         }
-        let end = measuring::stretch::run(m, n);
+        let end = ticking::stretch::run(m, n);
         let flight = end.flight;
         let temperature = end.temperature;
         let model = end.model;
@@ -208,7 +208,7 @@ pub fn flight_delivery(m: Model, up: &[u32], down: &[u32]) -> Reply
         let setup = m.setup;
         let k = f.schedule;
         if is_awaited(k) {
-            let hits = register::hits(setup);
+            let hits = setup::hits(setup);
             if flight_miscounted(f, hits, up.len(), down.len()) {
                 return refused(m, 11);
             }

@@ -3,11 +3,11 @@ use mathlib.Core.Path.{_≡_, refl}
 use Rattle.calendar.specs.Calendar.{leap, monthLength, dateFits, timeFits, clockValid, nextYear, nextMonth, nextWeekday}
 use Rattle.calendar.specs.Calendar.{nextDate, nextHour, nextMinute, nextSecond, tickClock}
 use Rattle.calendar.specs.Words.{hundredthsOf, minuteIn, twelveIn, hourNamed, hourIn, clockFrom, timeDigits, hourFits, digitsFit, wordsValid}
-use Rattle.register.specs.Setup.{factory, hitCount, differencePeriod, differenceCount, eventContinuous}
-use Rattle.measurement.specs.Limit.{lateFrom, openFrom, anyWord, anyFrom}
-use Rattle.measurement.specs.Words.{wordOrZero, six, sixTotal, average}
-use Rattle.measurement.specs.Difference.{differenceWord, biased, differenceMean}
-use Rattle.measurement.specs.Mean.{All}
+use Rattle.setup.specs.Setup.{factory, hitCount, differencePeriod, differenceCount, eventContinuous}
+use Rattle.hit.specs.Limit.{lateFrom, openFrom, anyWord, anyFrom}
+use Rattle.hit.specs.Words.{wordOrZero, six, sixTotal, average}
+use Rattle.hit.specs.Difference.{differenceWord, biased, differenceMean}
+use Rattle.hit.specs.Mean.{All}
 use Rattle.device.specs.Event.{noSchedule, single, eventStart, awaits, startsLeft, begins, beginsGroup, fails, settle, tickSchedule}
 use Rattle.device.specs.Event.{leftAfter, waitAfter, startedAfter, settledAfter, goodAfter}
 use Rattle.device.specs.Model.{freshModel, freshWith, noFlight}

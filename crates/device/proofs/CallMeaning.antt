@@ -10,8 +10,8 @@ use lib.Dec.{ltb, eqb}
 use Rattle.unit.specs.Choice.{pick}
 use Rattle.unit.specs.Cases.{by-test, by-ltb, by-eqb, holds, fails}
 use Rattle.unit.specs.declared.Quanta.{Quanta}
-use Rattle.register.specs.Setup.{hitCount}
-use Rattle.measurement.proofs.Ports.{all-open}
+use Rattle.setup.specs.Setup.{hitCount}
+use Rattle.hit.proofs.Ports.{all-open}
 use Rattle.device.specs.declared.Schedule.{Schedule}
 use Rattle.device.specs.declared.Flight.{Flight}
 use Rattle.device.specs.declared.Temperature.{Temperature}

@@ -9,11 +9,11 @@ use borrow.Author.Tests.{ltb-false, lt-ltb, le-ltb}
 use Rattle.unit.specs.Choice.{pick, either}
 use Rattle.unit.specs.Cases.{by-test}
 use Rattle.calendar.specs.Moment.{afterTicks}
-use Rattle.register.specs.Setup.{clockStands, hitCount, portCycle}
+use Rattle.setup.specs.Setup.{clockStands, hitCount, portCycle}
 use Rattle.frame.specs.Frame.{isCommand, isWrite, isRead, isFlash}
 use Rattle.frame.proofs.Laws.{read-alone}
-use Rattle.measurement.specs.Limit.{openFrom}
-use Rattle.measurement.specs.Words.{six, four}
+use Rattle.hit.specs.Limit.{openFrom}
+use Rattle.hit.specs.Words.{six, four}
 use Rattle.device.specs.declared.Status.{Status}
 use Rattle.device.specs.declared.Model.{Model}
 use Rattle.device.specs.declared.Reply.{Reply}

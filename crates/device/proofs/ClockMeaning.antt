@@ -12,7 +12,7 @@ use Rattle.calendar.specs.Moment.{moment}
 use Rattle.calendar.specs.Alarm.{alarmRings}
 use Rattle.calendar.proofs.Laws.{after-moment}
 use Rattle.calendar.proofs.AlarmModes.{AlarmTime, mode-00, mode-01, mode-10, mode-11, same-time}
-use Rattle.register.specs.Setup.{wordOf, clockStands, alarmWord, alarmMode}
+use Rattle.setup.specs.Setup.{wordOf, clockStands, alarmWord, alarmMode}
 use Rattle.device.specs.declared.Model.{Model}
 use Rattle.device.specs.Registers.{calendarWord, registerWord}
 use Rattle.device.specs.Tick.{clockTicked, alarmRaised, tickModel}

@@ -3,8 +3,8 @@ use Prim.Native.Nat.{ℕ}
 use mathlib.Core.List.{[], _∷_, map}
 use mathlib.Core.Path.{_≡_, refl}
 use Rattle.unit.specs.Cases.{by-test}
-use Rattle.register.specs.Setup.{differencePeriod, differenceCount, temperaturePeriod, temperatureCount, eventContinuous}
-use Rattle.measurement.specs.Difference.{differenceMean, portMean}
+use Rattle.setup.specs.Setup.{differencePeriod, differenceCount, temperaturePeriod, temperatureCount, eventContinuous}
+use Rattle.hit.specs.Difference.{differenceMean, portMean}
 use Rattle.device.specs.declared.Model.{Model}
 use Rattle.device.specs.Event.{single, eventStart}
 use Rattle.device.specs.Model.{resetModel, withFlight}

@@ -9,14 +9,14 @@ use lib.ListN.{length, getD, List·getD-eq-default}
 use Rattle.unit.specs.Choice.{either}
 use Rattle.unit.specs.Cases.{by-test, by-ltb}
 use Rattle.unit.specs.declared.Quanta.{Quanta}
-use Rattle.register.specs.Setup.{portCycle}
-use Rattle.measurement.specs.Limit.{openFrom, shortBelow, anyBelow, anyFault}
-use Rattle.measurement.specs.Difference.{differenceWord}
-use Rattle.measurement.specs.Mean.{sum}
-use Rattle.measurement.specs.Words.{wordOrZero, six, four, average, filled, lost, portPair, portPairs}
-use Rattle.measurement.proofs.Sum.{six-total, neither}
-use Rattle.measurement.proofs.Ports.{port-open, port-short, port-whole}
-use Rattle.measurement.proofs.Meaning.{short-not-open, whole-means}
+use Rattle.setup.specs.Setup.{portCycle}
+use Rattle.hit.specs.Limit.{openFrom, shortBelow, anyBelow, anyFault}
+use Rattle.hit.specs.Difference.{differenceWord}
+use Rattle.hit.specs.Mean.{sum}
+use Rattle.hit.specs.Words.{wordOrZero, six, four, average, filled, lost, portPair, portPairs}
+use Rattle.hit.proofs.Sum.{six-total, neither}
+use Rattle.hit.proofs.Ports.{port-open, port-short, port-whole}
+use Rattle.hit.proofs.Meaning.{short-not-open, whole-means}
 use Rattle.device.specs.declared.Flight.{Flight}
 use Rattle.device.specs.declared.Model.{Model}
 use Rattle.device.specs.Registers.{half, flightWord, registerWord, upwards}

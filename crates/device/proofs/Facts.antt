@@ -15,7 +15,7 @@ use Rattle.unit.specs.declared.Ticks.{Ticks}
 use Rattle.calendar.specs.declared.Clock.{Clock}
 use Rattle.calendar.specs.Words.{word30, word31, word32, word33, clockFrom, wordsValid, alarmValid}
 use Rattle.calendar.proofs.RoundTrip.{round-trip, words-valid}
-use Rattle.register.specs.Setup.{hitCount, alarmWord}
+use Rattle.setup.specs.Setup.{hitCount, alarmWord}
 use Rattle.frame.specs.Frame.{wordAt}
 use Rattle.device.specs.declared.Schedule.{Schedule}
 use Rattle.device.specs.declared.Flight.{Flight}

@@ -11,7 +11,7 @@ use Rattle.calendar.specs.Calendar.{start}
 use Rattle.calendar.specs.Words.{twelveIn, clockFrom}
 use Rattle.calendar.proofs.Laws.{tick-form}
 use Rattle.calendar.proofs.RoundTrip.{reads-form}
-use Rattle.register.specs.Setup.{clockStands}
+use Rattle.setup.specs.Setup.{clockStands}
 use Rattle.frame.specs.Frame.{isCommand, isWrite, wordAt, isFlash}
 use Rattle.device.specs.declared.Model.{Model}
 use Rattle.device.specs.Model.{sound, freshModel, freshWith, resetModel}

@@ -11,7 +11,7 @@ use borrow.Author.Tests.{lt-ltb, le-leb, lt-leb, eq-eqb, ne-eqb}
 use Rattle.unit.specs.Choice.{pick, both, negate}
 use Rattle.unit.specs.Cases.{by-test, by-ltb, by-eqb}
 use Rattle.unit.specs.declared.Ticks.{Ticks}
-use Rattle.measurement.specs.Mean.{All}
+use Rattle.hit.specs.Mean.{All}
 use Rattle.device.specs.declared.Schedule.{Schedule}
 use Rattle.device.specs.Event.{awaits, startsLeft, begins, beginsGroup, fails, eventStart, leftAfter, waitAfter, startedAfter}
 use Rattle.device.specs.Event.{settledAfter, goodAfter, tickSchedule, settle}

@@ -10,16 +10,16 @@ use borrow.Author.Tests.{ltb-true, lt-ltb, eqb-true}
 use Rattle.unit.specs.Choice.{pick, negate}
 use Rattle.unit.specs.Cases.{by-test}
 use Rattle.calendar.proofs.Laws.{held}
-use Rattle.register.specs.Setup.{hitCount, portCycle, differencePeriod, differenceCount, temperaturePeriod, temperatureCount}
-use Rattle.register.proofs.Laws.{hits-bounds}
-use Rattle.measurement.specs.Limit.{openFrom}
-use Rattle.measurement.specs.Words.{six, four, average, plusEach}
-use Rattle.measurement.specs.Difference.{biased, differenceMean, portMean}
-use Rattle.measurement.specs.Mean.{All, sum, Averages, InRange, biasedTotal, differenceBits, meanAverages, floorMeanWords}
-use Rattle.measurement.proofs.Limits.{quotient-below}
-use Rattle.measurement.proofs.Sum.{six-total}
-use Rattle.measurement.proofs.Mean.{mean-word, port-mean-words}
-use Rattle.measurement.proofs.Meaning.{whole-means}
+use Rattle.setup.specs.Setup.{hitCount, portCycle, differencePeriod, differenceCount, temperaturePeriod, temperatureCount}
+use Rattle.setup.proofs.Laws.{hits-bounds}
+use Rattle.hit.specs.Limit.{openFrom}
+use Rattle.hit.specs.Words.{six, four, average, plusEach}
+use Rattle.hit.specs.Difference.{biased, differenceMean, portMean}
+use Rattle.hit.specs.Mean.{All, sum, Averages, InRange, biasedTotal, differenceBits, meanAverages, floorMeanWords}
+use Rattle.hit.proofs.Limits.{quotient-below}
+use Rattle.hit.proofs.Sum.{six-total}
+use Rattle.hit.proofs.Mean.{mean-word, port-mean-words}
+use Rattle.hit.proofs.Meaning.{whole-means}
 use Rattle.device.specs.declared.Schedule.{Schedule}
 use Rattle.device.specs.declared.Flight.{Flight}
 use Rattle.device.specs.declared.Temperature.{Temperature}

@@ -10,7 +10,7 @@ use borrow.Author.Tests.{leb-true, leb-false, lt-ltb, le-ltb, le-leb, lt-leb}
 use Rattle.unit.specs.Choice.{pick, either}
 use Rattle.unit.specs.Cases.{by-test, by-ltb, by-eqb, holds, fails}
 use Rattle.unit.specs.declared.Ticks.{Ticks}
-use Rattle.register.specs.Setup.{flightUnset, temperatureUnset, clockStands}
+use Rattle.setup.specs.Setup.{flightUnset, temperatureUnset, clockStands}
 use Rattle.device.specs.declared.Schedule.{Schedule}
 use Rattle.device.specs.declared.Model.{Model}
 use Rattle.device.specs.Event.{awaits, inEvent, startsLeft, begins, beginsGroup, single, eventStart, settle}

@@ -12,7 +12,7 @@ use Rattle.unit.specs.Cases.{by-test, by-ltb, by-eqb}
 use Rattle.unit.specs.declared.Ticks.{Ticks}
 use Rattle.calendar.specs.Calendar.{withTime, tickClock}
 use Rattle.calendar.proofs.AlarmModes.{same-time}
-use Rattle.register.specs.Setup.{clockStands, alarmWord, alarmMode}
+use Rattle.setup.specs.Setup.{clockStands, alarmWord, alarmMode}
 use Rattle.device.specs.declared.Schedule.{Schedule}
 use Rattle.device.specs.declared.Model.{Model}
 use Rattle.device.specs.declared.Progress.{Progress}

@@ -11,9 +11,9 @@ use borrow.Author.Tests.{lt-ltb, le-ltb, ne-eqb}
 use Rattle.unit.specs.Cases.{by-ltb, by-eqb, holds, fails}
 use Rattle.calendar.specs.Calendar.{start}
 use Rattle.calendar.specs.Words.{bcd, hourDigits, hundredthsOf, word30, word31, word32, word33}
-use Rattle.register.specs.Setup.{factory, wordOf}
+use Rattle.setup.specs.Setup.{factory, wordOf}
 use Rattle.frame.specs.Frame.{wordAt}
-use Rattle.measurement.specs.Difference.{differenceMean, portMean}
+use Rattle.hit.specs.Difference.{differenceMean, portMean}
 use Rattle.device.specs.declared.Model.{Model}
 use Rattle.device.specs.Event.{noSchedule}
 use Rattle.device.specs.Status.{porBit, noBits, statusWord}

@@ -14,16 +14,16 @@ use Rattle.calendar.specs.Calendar.{clockValid}
 use Rattle.calendar.specs.Words.{clockFrom, hourFits, digitsFit, wordsValid}
 use Rattle.calendar.proofs.Laws.{passed, held, tick-valid}
 use Rattle.calendar.proofs.Facts.{start-valid}
-use Rattle.register.specs.Setup.{hitCount, timeout, portCycle, clockStands, eventContinuous, differencePeriod, differenceCount, temperaturePeriod, temperatureCount}
-use Rattle.register.proofs.Laws.{hits-bounds, cycle-below, difference-period-bounds, difference-count-bounds}
-use Rattle.register.proofs.Laws.{temperature-period-bounds, temperature-count-bounds}
+use Rattle.setup.specs.Setup.{hitCount, timeout, portCycle, clockStands, eventContinuous, differencePeriod, differenceCount, temperaturePeriod, temperatureCount}
+use Rattle.setup.proofs.Laws.{hits-bounds, cycle-below, difference-period-bounds, difference-count-bounds}
+use Rattle.setup.proofs.Laws.{temperature-period-bounds, temperature-count-bounds}
 use Rattle.frame.specs.Frame.{isCommand, isWrite, isFlash}
-use Rattle.measurement.specs.Limit.{lateFrom, openFrom, anyFrom}
-use Rattle.measurement.specs.Words.{six, four, average, sixTotal, plusEach}
-use Rattle.measurement.specs.Difference.{biased}
-use Rattle.measurement.proofs.Limits.{quotient-below}
-use Rattle.measurement.proofs.Sum.{neither, hits-fit}
-use Rattle.measurement.proofs.Ports.{Good, good-ports}
+use Rattle.hit.specs.Limit.{lateFrom, openFrom, anyFrom}
+use Rattle.hit.specs.Words.{six, four, average, sixTotal, plusEach}
+use Rattle.hit.specs.Difference.{biased}
+use Rattle.hit.proofs.Limits.{quotient-below}
+use Rattle.hit.proofs.Sum.{neither, hits-fit}
+use Rattle.hit.proofs.Ports.{Good, good-ports}
 use Rattle.device.specs.declared.Schedule.{Schedule}
 use Rattle.device.specs.declared.Status.{Status}
 use Rattle.device.specs.Status.{noBits, porBit}

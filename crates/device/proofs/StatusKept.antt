@@ -11,11 +11,11 @@ use borrow.Author.Tests.{leb-false, le-ltb, lt-leb}
 use Rattle.unit.specs.Choice.{pick, either, both, negate}
 use Rattle.unit.specs.Cases.{by-test, by-ltb, by-eqb}
 use Rattle.calendar.specs.Alarm.{alarmRings}
-use Rattle.register.specs.Setup.{wordOf, alarmWord, alarmMode, eachInterrupt, timeout, portCycle}
+use Rattle.setup.specs.Setup.{wordOf, alarmWord, alarmMode, eachInterrupt, timeout, portCycle}
 use Rattle.frame.specs.Frame.{isCommand, isWrite, isRead, isFlash}
 use Rattle.frame.proofs.Laws.{read-means, read-alone}
-use Rattle.measurement.specs.Limit.{lateFrom, openFrom, anyFrom, anyBelow, anyFault, shortBelow}
-use Rattle.measurement.proofs.Meaning.{from-means}
+use Rattle.hit.specs.Limit.{lateFrom, openFrom, anyFrom, anyBelow, anyFault, shortBelow}
+use Rattle.hit.proofs.Meaning.{from-means}
 use Rattle.device.specs.declared.Schedule.{Schedule}
 use Rattle.device.specs.declared.Status.{Status}
 use Rattle.device.specs.declared.Model.{Model}

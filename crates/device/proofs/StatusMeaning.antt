@@ -7,7 +7,7 @@ use mathlib.Core.Path.{_≡_, refl}
 use lib.Dec.{ltb}
 use Rattle.unit.specs.Choice.{pick, either}
 use Rattle.unit.specs.Cases.{by-test, by-ltb, by-eqb, holds, fails}
-use Rattle.register.specs.Setup.{wordOf, interruptEnabled}
+use Rattle.setup.specs.Setup.{wordOf, interruptEnabled}
 use Rattle.device.specs.declared.Schedule.{Schedule}
 use Rattle.device.specs.declared.Status.{Status}
 use Rattle.device.specs.declared.Model.{Model}

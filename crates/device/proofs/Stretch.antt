@@ -12,7 +12,7 @@ use Rattle.unit.specs.Cases.{by-test, by-ltb, by-eqb}
 use Rattle.calendar.specs.Calendar.{tickClock}
 use Rattle.calendar.specs.Moment.{afterTicks}
 use Rattle.calendar.proofs.Laws.{held}
-use Rattle.register.specs.Setup.{clockStands}
+use Rattle.setup.specs.Setup.{clockStands}
 use Rattle.unit.specs.declared.Ticks.{Ticks}
 use Rattle.device.specs.declared.Schedule.{Schedule}
 use Rattle.device.specs.declared.Model.{Model}

@@ -7,7 +7,7 @@ use mathlib.Core.Logic.{_↔_, _⊎_, inl, inr, ⊎-elim}
 use mathlib.Core.Path.{_≡_, refl, sym}
 use Rattle.unit.specs.Choice.{pick, negate}
 use Rattle.unit.specs.Cases.{by-test}
-use Rattle.measurement.specs.Mean.{All}
+use Rattle.hit.specs.Mean.{All}
 use Rattle.device.specs.declared.Model.{Model}
 use Rattle.device.specs.Model.{sound}
 use Rattle.device.specs.Call.{Call, Row, accepted, refused, verdict, firstOf, table, reply, replyBy, output, outputBy, bufferOf, memory, memoryBy, memoryOf}

@@ -17,10 +17,10 @@ use Rattle.calendar.specs.Moment.{moment, afterTicks}
 use Rattle.calendar.specs.Words.{clockFrom}
 use Rattle.calendar.proofs.Laws.{passed, after-moment, after-weekday, after-form}
 use Rattle.calendar.proofs.RoundTrip.{round-trip}
-use Rattle.register.specs.Setup.{wordOf, clockStands, eventContinuous, differencePeriod, differenceCount, temperaturePeriod, temperatureCount}
-use Rattle.register.proofs.Laws.{difference-period-bounds, difference-count-bounds, temperature-period-bounds, temperature-count-bounds}
+use Rattle.setup.specs.Setup.{wordOf, clockStands, eventContinuous, differencePeriod, differenceCount, temperaturePeriod, temperatureCount}
+use Rattle.setup.proofs.Laws.{difference-period-bounds, difference-count-bounds, temperature-period-bounds, temperature-count-bounds}
 use Rattle.frame.specs.Frame.{isCommand, isWrite, notWhole, pastEnd}
-use Rattle.measurement.specs.Mean.{sum, biasedTotal}
+use Rattle.hit.specs.Mean.{sum, biasedTotal}
 use Rattle.device.specs.declared.Model.{Model}
 use Rattle.device.specs.declared.Reply.{Reply}
 use Rattle.device.specs.declared.StretchReport.{StretchReport}

@@ -9,12 +9,12 @@ use Rattle.calendar.specs.Calendar.{leap, monthLength, dateFits, timeFits, cloc
 use Rattle.calendar.specs.Calendar.{tickClock}
 use Rattle.calendar.specs.Words.{bcd, hundredthsOf, word30, word31, hourDigits, word32, word33, minuteIn, twelveIn, hourNamed, hourIn, ticksIn, clockFrom}
 use Rattle.calendar.specs.Words.{timeDigits, hourFits, digitsFit, wordsValid, alarmValid}
-use Rattle.register.specs.Setup.{factory, alarmWord, flightUnset, temperatureUnset, clockStands, eventContinuous}
-use Rattle.register.specs.Setup.{differenceCount, temperatureCount, differencePeriod, temperaturePeriod, hitCount, timeout, portCycle}
+use Rattle.setup.specs.Setup.{factory, alarmWord, flightUnset, temperatureUnset, clockStands, eventContinuous}
+use Rattle.setup.specs.Setup.{differenceCount, temperatureCount, differencePeriod, temperaturePeriod, hitCount, timeout, portCycle}
 use Rattle.frame.specs.Frame.{isCommand, isWrite, isFlash, isRead, notWhole, pastEnd, wordAt}
-use Rattle.measurement.specs.Limit.{lateFrom, openFrom, shortBelow, anyWord, anyFrom, anyBelow, anyFault}
-use Rattle.measurement.specs.Words.{wordOrZero, six, four, sixTotal, average, filled, portPair, portPairs, plusEach}
-use Rattle.measurement.specs.Difference.{differenceWord, biased, differenceMean, portMean}
+use Rattle.hit.specs.Limit.{lateFrom, openFrom, shortBelow, anyWord, anyFrom, anyBelow, anyFault}
+use Rattle.hit.specs.Words.{wordOrZero, six, four, sixTotal, average, filled, portPair, portPairs, plusEach}
+use Rattle.hit.specs.Difference.{differenceWord, biased, differenceMean, portMean}
 use Rattle.device.specs.Event.{noSchedule, countsSound, waitSound, balanceSound, scheduleSound, awaits, inEvent, startsLeft, beginsGroup, fails, eventStart, tickSchedule, begins, leftAfter, waitAfter, startedAfter}
 use Rattle.device.specs.Event.{settledAfter, goodAfter, settle}
 use Rattle.device.specs.Status.{porBit, joined}

@@ -14,7 +14,7 @@ use Rattle.calendar.proofs.Laws.{bounds}
 use Rattle.calendar.proofs.Facts.{hundredthsIn, ticks-read, ticks-below}
 use Rattle.calendar.proofs.Validity.{CalendarValid, words-mean, AlarmValid, alarm-means}
 use Rattle.calendar.proofs.Places.{words-back, hundredths-held, own-words}
-use Rattle.register.specs.Setup.{alarmWord}
+use Rattle.setup.specs.Setup.{alarmWord}
 use Rattle.frame.specs.Frame.{wordAt}
 use Rattle.device.specs.declared.Model.{Model}
 use Rattle.device.specs.Model.{sound}

@@ -7,9 +7,9 @@ use Rattle.unit.specs.Choice.{pick}
 use Rattle.calendar.specs.declared.Clock.{Clock}
 use Rattle.calendar.specs.Calendar.{tickClock}
 use Rattle.calendar.specs.Words.{hundredthsOf, wordsValid}
-use Rattle.register.specs.Setup.{factory, hitCount}
-use Rattle.measurement.specs.Limit.{lateFrom, openFrom, anyFrom}
-use Rattle.measurement.specs.Words.{six}
+use Rattle.setup.specs.Setup.{factory, hitCount}
+use Rattle.hit.specs.Limit.{lateFrom, openFrom, anyFrom}
+use Rattle.hit.specs.Words.{six}
 use Rattle.device.specs.declared.Schedule.{Schedule}
 use Rattle.device.specs.declared.Model.{Model}
 use Rattle.device.specs.Event.{ticks, noSchedule, single, awaits, begins, fails, tickSchedule}

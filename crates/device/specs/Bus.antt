@@ -4,7 +4,7 @@ use mathlib.Core.Bool.{Bool, true, false}
 use mathlib.Core.List.{List, [], _∷_}
 use lib.Dec.{ltb, leb, eqb}
 use Rattle.unit.specs.Choice.{pick, negate}
-use Rattle.register.specs.Setup.{flightUnset, temperatureUnset, clockStands, eventContinuous, differencePeriod, differenceCount, temperaturePeriod, temperatureCount}
+use Rattle.setup.specs.Setup.{flightUnset, temperatureUnset, clockStands, eventContinuous, differencePeriod, differenceCount, temperaturePeriod, temperatureCount}
 use Rattle.device.specs.declared.Flight.{Flight}
 use Rattle.device.specs.declared.Temperature.{Temperature}
 use Rattle.device.specs.declared.Model.{Model}

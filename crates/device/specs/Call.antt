@@ -5,12 +5,12 @@ use mathlib.Core.List.{List, [], _∷_}
 use lib.ListN.{length, getD, drop}
 use lib.Dec.{ltb, leb, eqb}
 use Rattle.unit.specs.Choice.{pick, either, both, negate}
-use Rattle.register.specs.Setup.{hitCount, timeout, portCycle, interruptEnabled}
+use Rattle.setup.specs.Setup.{hitCount, timeout, portCycle, interruptEnabled}
 use Rattle.frame.specs.Frame.{isCommand, isWrite, isRead, isFlash, flashFurther, notWhole, pastEnd}
 use Rattle.frame.specs.declared.Decoded.{Decoded}
 use Rattle.frame.specs.declared.Decoded.the-variants.{Command, Read, Write, Flash, Refusal}
-use Rattle.measurement.specs.Limit.{lateFrom, openFrom, anyFrom, anyFault}
-use Rattle.measurement.specs.Words.{six, four}
+use Rattle.hit.specs.Limit.{lateFrom, openFrom, anyFrom, anyFault}
+use Rattle.hit.specs.Words.{six, four}
 use Rattle.device.specs.declared.Schedule.{Schedule}
 use Rattle.device.specs.declared.Model.{Model}
 use Rattle.device.specs.declared.Reply.{Reply}

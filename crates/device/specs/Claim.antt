@@ -12,10 +12,10 @@ use Rattle.unit.specs.Choice.{pick, both, either, negate}
 use Rattle.calendar.specs.Calendar.{clockValid}
 use Rattle.calendar.specs.Moment.{moment, century, midnights}
 use Rattle.calendar.specs.Words.{clockFrom}
-use Rattle.register.specs.Setup.{hitCount, timeout, portCycle, differencePeriod, differenceCount, temperaturePeriod, temperatureCount, eventContinuous}
+use Rattle.setup.specs.Setup.{hitCount, timeout, portCycle, differencePeriod, differenceCount, temperaturePeriod, temperatureCount, eventContinuous}
 use Rattle.frame.specs.Frame.{isRead}
-use Rattle.measurement.specs.Limit.{lateFrom, openFrom, anyFrom, anyFault}
-use Rattle.measurement.specs.Mean.{All, sum, Averages, differenceBits, meanAverages, floorMeanWords}
+use Rattle.hit.specs.Limit.{lateFrom, openFrom, anyFrom, anyFault}
+use Rattle.hit.specs.Mean.{All, sum, Averages, differenceBits, meanAverages, floorMeanWords}
 use Rattle.device.specs.declared.Schedule.{Schedule}
 use Rattle.device.specs.declared.Model.{Model}
 use Rattle.device.specs.declared.Reply.{Reply}

@@ -5,9 +5,9 @@ use mathlib.Core.List.{List}
 use lib.Dec.{ltb, eqb}
 use Rattle.unit.specs.Choice.{pick}
 use Rattle.unit.specs.declared.Quanta.{Quanta}
-use Rattle.register.specs.Setup.{eachInterrupt}
-use Rattle.measurement.specs.Words.{average, filled, portPairs, plusEach}
-use Rattle.measurement.specs.Difference.{differenceWord, biased}
+use Rattle.setup.specs.Setup.{eachInterrupt}
+use Rattle.hit.specs.Words.{average, filled, portPairs, plusEach}
+use Rattle.hit.specs.Difference.{differenceWord, biased}
 use Rattle.device.specs.declared.Status.{Status}
 use Rattle.device.specs.declared.Flight.{Flight}
 use Rattle.device.specs.declared.Temperature.{Temperature}

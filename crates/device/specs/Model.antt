@@ -7,7 +7,7 @@ use lib.Dec.{ltb}
 use Rattle.unit.specs.Choice.{pick}
 use Rattle.calendar.specs.declared.Clock.{Clock}
 use Rattle.calendar.specs.Calendar.{clockValid, start}
-use Rattle.register.specs.Setup.{factory}
+use Rattle.setup.specs.Setup.{factory}
 use Rattle.device.specs.declared.Schedule.{Schedule}
 use Rattle.device.specs.declared.Status.{Status}
 use Rattle.device.specs.declared.Flight.{Flight}

@@ -6,7 +6,7 @@ use lib.ListN.{getD, set}
 use lib.Dec.{ltb, eqb}
 use Rattle.unit.specs.Choice.{pick}
 use Rattle.calendar.specs.Words.{word30, word31, word32, word33}
-use Rattle.measurement.specs.Difference.{differenceMean, portMean}
+use Rattle.hit.specs.Difference.{differenceMean, portMean}
 use Rattle.device.specs.declared.Flight.{Flight}
 use Rattle.device.specs.declared.Temperature.{Temperature}
 use Rattle.device.specs.declared.Model.{Model}

@@ -6,8 +6,8 @@ use Rattle.unit.specs.Choice.{pick}
 use Rattle.calendar.specs.declared.Clock.{Clock}
 use Rattle.calendar.specs.Calendar.{tickClock}
 use Rattle.calendar.specs.Alarm.{alarmRings}
-use Rattle.register.specs.Setup.{clockStands, alarmWord, alarmMode, eachInterrupt}
-use Rattle.measurement.specs.Words.{lost, lostFour}
+use Rattle.setup.specs.Setup.{clockStands, alarmWord, alarmMode, eachInterrupt}
+use Rattle.hit.specs.Words.{lost, lostFour}
 use Rattle.device.specs.declared.Schedule.{Schedule}
 use Rattle.device.specs.declared.Status.{Status}
 use Rattle.device.specs.declared.Flight.{Flight}

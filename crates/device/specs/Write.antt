@@ -8,7 +8,7 @@ use Rattle.unit.specs.Choice.{pick}
 use Rattle.unit.specs.declared.Ticks.{Ticks}
 use Rattle.calendar.specs.declared.Clock.{Clock}
 use Rattle.calendar.specs.Words.{ticksIn, clockFrom, wordsValid, alarmValid}
-use Rattle.register.specs.Setup.{alarmWord}
+use Rattle.setup.specs.Setup.{alarmWord}
 use Rattle.frame.specs.Frame.{wordAt}
 use Rattle.device.specs.declared.Model.{Model}
 use Rattle.device.specs.Registers.{calendarWord}

@@ -5,13 +5,8 @@ ghost use Prim.Native.Nat.{_≤_};
 ghost use lib.ListN.{length};
 ghost use Rattle.device.specs.FlashFrame.{flashModel};
 ghost use Rattle.device.specs.Call.{eraseReply, eraseLeft, programReply, programLeft, loadReply, loadOut, flashReply, flashOut, flashLeft, flashFits};
-use command::answer::accepted;
-use command::answer::refused;
-use command::state::is_busy;
 use device::Model;
 use device::Reply;
-use event::interrupt::flash_bit;
-use event::interrupt::join;
 use flash::address_refused;
 use flash::erase_block;
 use flash::erase_refused;
@@ -19,6 +14,11 @@ use flash::not_erased;
 use flash::put_word;
 use flash::read_word;
 use flash::write_word;
+use model::reply::accepted;
+use model::reply::refused;
+use model::state::is_busy;
+use status::flash_bit;
+use status::join;
 
 // The model after a write or an erase.
 fn changed(m: Model) -> Model

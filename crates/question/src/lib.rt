@@ -1,12 +1,12 @@
 // Questions about a model: INT, what is awaited, the regulator of the user flash, and a register's word. They change nothing.
 ghost use mathlib.Core.Path.{_≡_};
 ghost use Rattle.device.specs.Call.{interruptTold, awaitedTold, regulatorTold, registerTold};
-use command::state::is_sound;
 use device::Model;
 use device::Schedule;
 use device::Told;
-use event::interrupt::status_word;
-use event::schedule::is_awaited;
+use model::state::is_sound;
+use schedule::is_awaited;
+use status::status_word;
 
 // The INT answer: 1 for yes, 0 for no.
 pub fn interrupt_pending(m: Model) -> Told
@@ -15,7 +15,7 @@ pub fn interrupt_pending(m: Model) -> Told
     if is_sound(m) {
         let setup = m.setup;
         let status = m.status;
-        if register::interrupt_enabled(setup) {
+        if setup::interrupt_enabled(setup) {
             if status_word(status) == 0 {
                 return Told::Value(0);
             }
@@ -78,7 +78,7 @@ pub fn peek(m: Model, a: u32) -> Told
         if 0xff < a {
             return Told::Refused(4);
         }
-        return Told::Value(access::read::register_word(m, a));
+        return Told::Value(registers::read::register_word(m, a));
     }
     Told::Refused(0)
 }

@@ -76,7 +76,7 @@ fn tell(m: Model, call: Call, counts: &mut [usize; 7], answers: &mut [u8]) {
         Call::Int => counts[USED] = registers::add_interrupt(answers, used, m),
         Call::Awaited => counts[USED] = registers::add_awaited(answers, used, m),
         Call::Regs => counts[USED] = registers::add_registers(answers, used, m),
-        Call::Show => counts[USED] = page::put_page(answers, used, m),
+        Call::Show => counts[USED] = show::put_page(answers, used, m),
         _ => bad(call, counts, answers),
     }
 }

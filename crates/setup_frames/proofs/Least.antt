@@ -12,7 +12,7 @@ use lib.Dec.{ltb, eqb}
 use borrow.Author.Tests.{eq-eqb, lt-ltb, le-ltb, eqb-false}
 use Rattle.unit.specs.Choice.{pick, both, negate}
 use Rattle.unit.specs.Cases.{by-test, by-ltb}
-use Rattle.register.specs.Setup.{factory}
+use Rattle.setup.specs.Setup.{factory}
 use Rattle.frame.specs.Frame.{isWrite, wordAt}
 use Rattle.frame.proofs.Laws.{write-alone, whole-means}
 use Rattle.device.specs.declared.Model.{Model}

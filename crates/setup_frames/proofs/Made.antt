@@ -8,7 +8,7 @@ use lib.Dec.{ltb, leb, eqb}
 use Rattle.unit.specs.Choice.{pick}
 use Rattle.unit.specs.Cases.{by-test}
 use Rattle.calendar.specs.Words.{alarmValid, wordsValid}
-use Rattle.register.specs.Setup.{factory, alarmWord}
+use Rattle.setup.specs.Setup.{factory, alarmWord}
 use Rattle.frame.specs.Frame.{isCommand, isWrite, isFlash}
 use Rattle.device.specs.declared.Model.{Model}
 use Rattle.device.specs.Model.{freshModel, freshWith, resetModel}

@@ -9,7 +9,7 @@ use lib.ListN.{length, getD, take, drop, set}
 use lib.Seq.{take-suc, drop-cons, set-at, length-take-le, take-all}
 use borrow.Author.Tests.{le-ltb, eqb-true}
 use Rattle.calendar.specs.Words.{timeDigits, minuteIn, hourFits, hourNamed, hourIn, twelveIn, alarmValid}
-use Rattle.register.specs.Setup.{factory, alarmWord}
+use Rattle.setup.specs.Setup.{factory, alarmWord}
 use Rattle.frame.specs.Frame.{wordAt}
 use Rattle.device.specs.Write.{withWord, setupAfter}
 use Rattle.device.proofs.Table.{negated}

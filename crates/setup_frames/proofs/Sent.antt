@@ -10,7 +10,7 @@ use borrow.Author.Tests.{ne-eqb}
 use Rattle.unit.specs.Choice.{pick}
 use Rattle.unit.specs.Cases.{by-test}
 use Rattle.calendar.specs.Words.{alarmValid}
-use Rattle.register.specs.Setup.{factory, alarmWord}
+use Rattle.setup.specs.Setup.{factory, alarmWord}
 use Rattle.frame.specs.Frame.{decodeFrame, writeFrame}
 use Rattle.frame.specs.declared.Decoded.the-variants.{Write}
 use Rattle.frame.proofs.Laws.{write-means, write-alone, whole-means, end-means}

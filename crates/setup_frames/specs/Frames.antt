@@ -7,7 +7,7 @@ use mathlib.Core.List.{List, [], _∷_, _++_, map}
 use lib.ListN.{length, getD, drop}
 use lib.Dec.{ltb, eqb}
 use Rattle.unit.specs.Choice.{pick, either, negate}
-use Rattle.register.specs.Setup.{factory}
+use Rattle.setup.specs.Setup.{factory}
 use Rattle.device.specs.declared.Model.{Model}
 use Rattle.device.specs.Model.{sound}
 use Rattle.device.specs.Call.{Verdict, accepted, refused, row, firstOf}

@@ -1,8 +1,8 @@
 // A model's set-up as the bus frames that bring a fresh model to it.
 ghost use lib.ListN.{length};
 ghost use Rattle.setup_frames.specs.Frames.{Written};
-use command::state::is_sound;
 use device::Model;
+use model::state::is_sound;
 
 mod put;
 mod run;

@@ -1,0 +1,26 @@
+-- `hit::difference::difference_mean` meets its contract.
+use Rattle.unit.specs.Tests.{tests}
+use Rattle.hit.specs.Difference.{differenceMean}
+use borrow.Author.Needs.{needs}
+use Rattle.hit.proofs.difference.difference_mean.Statement.{statement}
+use Rattle.hit.proofs.difference.difference_mean.Tie as tie
+
+returns : tie.Need-returns
+unfolding differenceMean
+returns c = search (needs, tests)
+
+div-mean : tie.Need-div-mean
+div-mean c = search needs
+
+add-result : tie.Need-add-result
+add-result c = search needs
+
+cast-result : tie.Need-cast-result
+cast-result c = search needs
+
+returns-2 : tie.Need-returns-2
+unfolding differenceMean
+returns-2 c = search (needs, tests)
+
+pub difference-mean-spec : {M : Type 1} → statement M
+difference-mean-spec = tie.close (tie.spec returns div-mean add-result cast-result returns-2)

@@ -1,0 +1,41 @@
+// Differences as two's complement words, and means. A sum of differences is kept with 2^31 added to each, so that it has
+// no sign: its quotient is then the floor.
+ghost use mathlib.Core.Path.{_≡_};
+ghost use Prim.Native.Nat.{_<_};
+ghost use Rattle.hit.specs.Difference.{differenceWord, biased, differenceMean, portMean};
+use unit::Quanta;
+
+pub fn difference_word(up: Quanta, down: Quanta) -> u32
+    requires { ⌜ (up .0 < 2147483648) × (down .0 < 2147483648) ⌝ }
+    ensures { λ r. ⌜ r ≡ differenceWord up down ⌝ }
+{
+    ((up.0 + 4294967296 - down.0) % 4294967296) as u32
+}
+
+pub fn biased_difference(up: Quanta, down: Quanta) -> u64
+    requires { ⌜ (up .0 < 2147483648) × (down .0 < 2147483648) ⌝ }
+    ensures { λ r. ⌜ (r ≡ biased up down) × (r < 4294967296) ⌝ }
+{
+    up.0 + 2147483648 - down.0
+}
+
+// The word of the mean of n differences, by their biased sum; 0 of none.
+pub fn difference_mean(sum: u64, n: u32) -> u32
+    ensures { λ r. ⌜ r ≡ differenceMean sum n ⌝ }
+{
+    if n == 0 {
+        return 0;
+    }
+    let mean = sum / (n as u64);
+    ((mean % 4294967296 + 2147483648) % 4294967296) as u32
+}
+
+// The mean of n port words by their sum; 0 of none.
+pub fn port_mean(sum: u64, n: u32) -> u32
+    ensures { λ r. ⌜ r ≡ portMean sum n ⌝ }
+{
+    if n == 0 {
+        return 0;
+    }
+    (sum / (n as u64) % 4294967296) as u32
+}

@@ -1,0 +1,3 @@
+// Fresh, sound and busy models, and the reply that hands a model back.
+pub mod reply;
+pub mod state;

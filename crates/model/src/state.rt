@@ -1,0 +1,131 @@
+// The fresh model, soundness, and what is busy.
+ghost use mathlib.Core.Path.{_≡_};
+ghost use Prim.Native.Nat.{_≤_, _*_};
+ghost use Rattle.device.specs.Model.{noFlight, noTemperature, freshWith, flightSound, temperatureSound, sumFits, sound, kindBusy, busy};
+use device::Flight;
+use device::Model;
+use device::Schedule;
+use device::Status;
+use device::Temperature;
+use schedule::in_event;
+use schedule::is_awaited;
+use schedule::no_schedule;
+use schedule::schedule_sound;
+
+pub fn no_flight() -> Flight
+    ensures { λ r. ⌜ r ≡ noFlight ⌝ }
+{
+    let schedule = no_schedule();
+    Flight {
+        schedule,
+        up: false,
+        down: false,
+        sum: 0,
+        ups: [0, 0, 0, 0, 0, 0, 0],
+        downs: [0, 0, 0, 0, 0, 0, 0],
+        difference: 0,
+    }
+}
+
+pub fn no_temperature() -> Temperature
+    ensures { λ r. ⌜ r ≡ noTemperature ⌝ }
+{
+    let schedule = no_schedule();
+    Temperature {
+        schedule,
+        sums: [0, 0, 0, 0],
+        ports: [0, 0, 0, 0],
+    }
+}
+
+pub fn fresh_with(status: Status) -> Model
+    ensures { λ r. ⌜ r ≡ freshWith status ⌝ }
+{
+    let clock = calendar::date::first();
+    let setup = setup::factory_setup();
+    let flight = no_flight();
+    let temperature = no_temperature();
+    Model {
+        clock,
+        setup,
+        status,
+        ready: false,
+        regulator: false,
+        flight,
+        temperature,
+    }
+}
+
+// Whether a sum of so many values below the largest one fits.
+fn sum_fits(sum: u64, good: u16, most: u64) -> bool
+    requires { ⌜ most ≤ 4294967296 ⌝ }
+    ensures { λ r. ⌜ r ≡ sumFits sum good most ⌝ }
+{
+    if good as u64 * most < sum {
+        false
+    } else {
+        true
+    }
+}
+
+fn flight_sound(f: Flight) -> bool
+    ensures { λ r. ⌜ r ≡ flightSound f ⌝ }
+{
+    let k = f.schedule;
+    if schedule_sound(k) {
+        return sum_fits(f.sum, k.good, 4294967296);
+    }
+    false
+}
+
+fn temperature_sound(t: Temperature) -> bool
+    ensures { λ r. ⌜ r ≡ temperatureSound t ⌝ }
+{
+    let k = t.schedule;
+    let sums = t.sums;
+    if schedule_sound(k) {
+        if sum_fits(sums[0], k.good, 2147483648) {
+            if sum_fits(sums[1], k.good, 2147483648) {
+                if sum_fits(sums[2], k.good, 2147483648) {
+                    return sum_fits(sums[3], k.good, 2147483648);
+                }
+                return false;
+            }
+            return false;
+        }
+        return false;
+    }
+    false
+}
+
+pub fn is_sound(m: Model) -> bool
+    ensures { λ r. ⌜ r ≡ sound m ⌝ }
+{
+    let clock = m.clock;
+    let flight = m.flight;
+    let temperature = m.temperature;
+    if calendar::date::valid(clock) {
+        if flight_sound(flight) {
+            return temperature_sound(temperature);
+        }
+        return false;
+    }
+    false
+}
+
+fn kind_busy(k: Schedule) -> bool
+    ensures { λ r. ⌜ r ≡ kindBusy k ⌝ }
+{
+    if is_awaited(k) { true } else { in_event(k) }
+}
+
+// Whether a measurement is awaited or an event runs.
+pub fn is_busy(m: Model) -> bool
+    ensures { λ r. ⌜ r ≡ busy m ⌝ }
+{
+    let flight = m.flight;
+    let temperature = m.temperature;
+    let f = flight.schedule;
+    let t = temperature.schedule;
+    if kind_busy(f) { true } else { kind_busy(t) }
+}

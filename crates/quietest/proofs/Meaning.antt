@@ -1,0 +1,200 @@
+-- What the definitions mean: the spread of a run, the quietest run, the number of a refusal, and the part. Assumes nothing.
+use Prim.Native.Nat.{ℕ, zero, suc, _+_, _-_, _≤_, _<_}
+use native.Mathlib.Nat.{add-zero, eq-or-lt-of-le, le-of-suc-le-suc}
+use native.Mathlib.Omega.{arith}
+use mathlib.Core.Path.{_≡_, sym, ap, _∙_}
+use mathlib.Core.Bool.{Bool, true, false}
+use mathlib.Core.Logic.{_↔_, _⊎_, inl, inr, ⊎-elim}
+use mathlib.Core.List.{List}
+use lib.IntN.{ℤ, _-ℤ_}
+use lib.Signed.{ltZ, _<ℤ_, _≤ℤ_, clashℤ}
+use lib.ListN.{length, length-take, length-drop}
+use lib.Seq.{getD-take, getD-drop}
+use denote.Ref.{RefT}
+use Rattle.unit.specs.Cases.{by-test, by-ltb, by-eqb}
+use Rattle.quietest.specs.Window.{valueAt, larger, smaller, extreme, largest, smallest, spread, quieter, quietestPlace, PartOf, Handed}
+use Rattle.quietest.specs.declared.Place.the-variants.{At, Refused}
+use Rattle.quietest.proofs.Order.{ge-trans, not-below-itself, one-way, below-at-most, less, at-most}
+use Rattle.quietest.proofs.Join.{further}
+use Rattle.quietest.proofs.Inside.{refused-zero, refused-long, accepted, place-within, apart, same-start}
+
+-- ---- an extreme is one of the run's values, and none of them is beyond it
+
+-- k is a place of the run whose value is the extreme x
+pub record Reached (values : List ℤ) (from n : ℕ) (x : ℤ) : Type 0 where
+  pub place : ℕ
+  pub inside : place < n
+  pub value : x ≡ valueAt values (from + place)
+
+module _ (beyond : ℤ → ℤ → Bool)
+    (itself : (a : ℤ) → beyond a a ≡ false)
+    (once : (a b : ℤ) → beyond a b ≡ true → beyond b a ≡ false)
+    (down : (a b c : ℤ) → beyond a b ≡ false → beyond b c ≡ false → beyond a c ≡ false) where
+  over-first : (a b : ℤ) → beyond (further beyond a b) a ≡ false
+  over-first a b = by-test (beyond a b) (λ e. rw e (once a b e)) (λ e. rw e (itself a))
+
+  over-second : (a b : ℤ) → beyond (further beyond a b) b ≡ false
+  over-second a b = by-test (beyond a b) (λ e. rw e (itself b)) (λ e. rw e e)
+
+  extreme-over : (values : List ℤ) (from n k : ℕ) → k < n → beyond (extreme (further beyond) values from n) (valueAt values (from + k)) ≡ false
+  unfolding extreme
+  extreme-over values from zero k h = absurd (omega arith)
+  extreme-over values from (suc n) k h =
+      let e = extreme (further beyond) values from n in
+      ⊎-elim
+      (λ s. rw s (over-second e (valueAt values (from + n))))
+      (λ l. down _ e _ (over-first e (valueAt values (from + n))) (extreme-over values from n k l))
+      (eq-or-lt-of-le (le-of-suc-le-suc h))
+
+  extreme-reached : (values : List ℤ) (from n : ℕ) → Reached values from (suc n) (extreme (further beyond) values from (suc n))
+  unfolding extreme
+  extreme-reached values from zero =
+      record { place = 0; inside = omega arith; value = by-test (beyond (valueAt values from) (valueAt values (from + 0))) (λ e. rw e) (λ e. rw (e, add-zero from)) }
+  extreme-reached values from (suc n) =
+      let e = extreme (further beyond) values from (suc n) in
+      let r = extreme-reached values from n in
+      by-test (beyond e (valueAt values (from + suc n)))
+      (λ t. record { place = suc n; inside = omega arith; value = rw t })
+      (λ t. record { place = r .place; inside = omega (arith, r .inside); value = rw t (r .value) })
+
+-- ---- the spread of a run of at least one value: its largest value less its smallest
+
+pub record LargestLessSmallest (values : List ℤ) (from n : ℕ) (d : ℤ) : Type 0 where
+  pub high : Reached values from n (largest values from n)
+  pub low : Reached values from n (smallest values from n)
+  pub difference : d ≡ valueAt values (from + high .place) -ℤ valueAt values (from + low .place)
+  pub highest : (k : ℕ) → k < n → valueAt values (from + k) ≤ℤ valueAt values (from + high .place)
+  pub lowest : (k : ℕ) → k < n → valueAt values (from + low .place) ≤ℤ valueAt values (from + k)
+
+largest-reached : (values : List ℤ) (from n : ℕ) → Reached values from (suc n) (largest values from (suc n))
+unfolding larger
+largest-reached = extreme-reached ltZ not-below-itself one-way ge-trans
+
+smallest-reached : (values : List ℤ) (from n : ℕ) → Reached values from (suc n) (smallest values from (suc n))
+unfolding smaller
+smallest-reached = extreme-reached (λ a b. ltZ b a) not-below-itself (λ a b. one-way b a) (λ a b c h k. ge-trans c b a k h)
+
+largest-over : (values : List ℤ) (from n k : ℕ) → k < n → ltZ (largest values from n) (valueAt values (from + k)) ≡ false
+unfolding larger
+largest-over = extreme-over ltZ not-below-itself one-way ge-trans
+
+smallest-under : (values : List ℤ) (from n k : ℕ) → k < n → ltZ (valueAt values (from + k)) (smallest values from n) ≡ false
+unfolding smaller
+smallest-under = extreme-over (λ a b. ltZ b a) not-below-itself (λ a b. one-way b a) (λ a b c h k. ge-trans c b a k h)
+
+pub spread-means : (values : List ℤ) (from n : ℕ) → LargestLessSmallest values from (suc n) (spread values from (suc n))
+unfolding spread
+spread-means values from n =
+    let high = largest-reached values from n in
+    let low = smallest-reached values from n in
+    record {
+      high = high;
+      low = low;
+      difference = ap (λ (x : ℤ). x -ℤ smallest values from (suc n)) (high .value) ∙ ap (λ (x : ℤ). valueAt values (from + high .place) -ℤ x) (low .value);
+      highest = λ k h. rw (← high .value) (at-most (valueAt values (from + k)) (largest values from (suc n)) (largest-over values from (suc n) k h));
+      lowest = λ k h. rw (← low .value) (at-most (smallest values from (suc n)) (valueAt values (from + k)) (smallest-under values from (suc n) k h));
+    }
+
+-- ---- the quietest run
+
+least-so-far :
+    (values : List ℤ) (w n other : ℕ) → other ≤ n → ltZ (spread values other w) (spread values (quieter values w 0 1 n) w) ≡ false
+unfolding quieter
+least-so-far values w zero other h = let z : other ≡ 0 = omega arith in rw z (not-below-itself (spread values 0 w))
+least-so-far values w (suc n) other h =
+    let best = quieter values w 0 1 n in
+    by-test (ltZ (spread values (1 + n) w) (spread values best w))
+    (λ t. rw t (⊎-elim
+    (λ e. let s : other ≡ 1 + n = omega arith in rw s (not-below-itself (spread values (1 + n) w)))
+    (λ l. one-way (spread values (1 + n) w) (spread values other w)
+    (below-at-most (spread values (1 + n) w) (spread values best w) (spread values other w) t (least-so-far values w n other (omega arith))))
+    (eq-or-lt-of-le h)))
+    (λ t. rw t (⊎-elim
+    (λ e. let s : other ≡ 1 + n = omega arith in rw s t)
+    (λ l. least-so-far values w n other (omega arith))
+    (eq-or-lt-of-le h)))
+
+earliest-so-far :
+    (values : List ℤ) (w n other : ℕ) → other < quieter values w 0 1 n
+    → ltZ (spread values (quieter values w 0 1 n) w) (spread values other w) ≡ true
+unfolding quieter
+earliest-so-far values w zero other = λ h. absurd (omega arith)
+earliest-so-far values w (suc n) other =
+    let best = quieter values w 0 1 n in
+    by-test (ltZ (spread values (1 + n) w) (spread values best w))
+    (λ t. rw t (λ h. below-at-most (spread values (1 + n) w) (spread values best w) (spread values other w) t (least-so-far values w n other (omega arith))))
+    (λ t. rw t (λ h. earliest-so-far values w n other h))
+
+pub record Quietest (values : List ℤ) (w start : ℕ) : Type 0 where
+  pub within : start + w ≤ length values
+  -- "Every other run of w has at least that spread"
+  pub least : (other : ℕ) → other + w ≤ length values → spread values start w ≤ℤ spread values other w
+  -- "the earliest among equals"
+  pub earliest : (other : ℕ) → other < start → spread values start w <ℤ spread values other w
+
+pub quietest-run : (values : List ℤ) (w start : ℕ) → quietestPlace values w ≡ At start → Quietest values w start
+quietest-run values w start e =
+    by-eqb w 0 (λ z t. apart (sym e ∙ refused-zero values w z))
+    (λ z t. by-ltb (length values) w (λ l u. apart (sym e ∙ refused-long values w l)) (λ l u. run (omega arith) l))
+  where
+    run : 1 ≤ w → w ≤ length values → Quietest values w start
+    run h k =
+        let n = length values - w in
+        let s : start ≡ quieter values w 0 1 n = same-start (sym e ∙ accepted values w h k) in
+        record {
+          within = place-within values w start e;
+          least = λ other i. rw s (at-most (spread values (quieter values w 0 1 n) w) (spread values other w) (least-so-far values w n other (omega arith)));
+          earliest = λ other i. rw s (less (spread values (quieter values w 0 1 n) w) (spread values other w) (earliest-so-far values w n other (omega arith)));
+        }
+
+-- these three facts leave one start
+pub quietest-only : (values : List ℤ) (w a b : ℕ) → Quietest values w a → Quietest values w b → a ≡ b
+quietest-only values w a b p q =
+    by-ltb a b (λ l t. clashℤ (q .earliest a l) (p .least b (q .within)))
+    (λ l t. by-ltb b a (λ m u. clashℤ (p .earliest b m) (q .least a (p .within))) (λ m u. omega arith))
+
+-- ---- number 18, exactly for a width of 0 or above the length
+
+pub refused-exactly : (values : List ℤ) (w : ℕ) → (quietestPlace values w ≡ Refused 18) ↔ ((w ≡ 0) ⊎ (length values < w))
+refused-exactly values w = (there, back)
+  where
+    there : quietestPlace values w ≡ Refused 18 → (w ≡ 0) ⊎ (length values < w)
+    there e =
+        by-eqb w 0 (λ z t. inl z)
+        (λ z t. by-ltb (length values) w (λ l u. inr l) (λ l u. apart (sym (accepted values w (omega arith) l) ∙ e)))
+
+    back : (w ≡ 0) ⊎ (length values < w) → quietestPlace values w ≡ Refused 18
+    back h = ⊎-elim (λ z. refused-zero values w z) (λ l. refused-long values w l) h
+
+pub only-number : (values : List ℤ) (w n : ℕ) → quietestPlace values w ≡ Refused n → n ≡ 18
+only-number values w n e =
+    by-eqb w 0 (λ z t. same (sym e ∙ refused-zero values w z))
+    (λ z t. by-ltb (length values) w (λ l u. same (sym e ∙ refused-long values w l))
+    (λ l u. apart (sym (accepted values w (omega arith) l) ∙ e)))
+  where
+    same : {a b : ℕ} → Refused a ≡ Refused b → a ≡ b
+    same f = cc
+
+-- ---- the part that is handed back: w values, the list's own; no value for a refusal alone
+
+module _ (s r : RefT (List ℤ)) (w : ℕ) (handed : Handed (quietestPlace (s .now) w) w s r) where
+  pub part-of : (start : ℕ) → quietestPlace (s .now) w ≡ At start → PartOf s r start w
+  part-of start e = rw e at handed
+
+  pub part-values : (start k : ℕ) → quietestPlace (s .now) w ≡ At start → k < w → valueAt (r .now) k ≡ valueAt (s .now) (start + k)
+  part-values start k e h = rw (part-of start e .elements, getD-take, getD-drop)
+
+  pub part-length : (start : ℕ) → quietestPlace (s .now) w ≡ At start → length (r .now) ≡ w
+  part-length start e = let i = place-within (s .now) w start e in rw (part-of start e .elements) (simp (length-take, length-drop) (omega arith))
+
+  pub empty-refused : (length (r .now) ≡ 0) ↔ (quietestPlace (s .now) w ≡ Refused 18)
+  empty-refused = (there, back)
+    where
+      there : length (r .now) ≡ 0 → quietestPlace (s .now) w ≡ Refused 18
+      there z =
+          by-eqb w 0 (λ e t. refused-zero (s .now) w e)
+          (λ e t. by-ltb (length (s .now)) w (λ l u. refused-long (s .now) w l)
+          (λ l u. absurd (omega (arith, part-length _ (accepted (s .now) w (omega arith) l)))))
+
+      back : quietestPlace (s .now) w ≡ Refused 18 → length (r .now) ≡ 0
+      back e = let p : PartOf s r 0 0 = rw e at handed in rw (p .elements)

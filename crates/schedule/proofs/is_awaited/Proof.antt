@@ -1,0 +1,17 @@
+-- `schedule::is_awaited` meets its contract.
+use borrow.Author.Needs.{needs}
+use Rattle.unit.specs.Tests.{tests}
+use Rattle.device.specs.Event.{awaits}
+use Rattle.schedule.proofs.is_awaited.Statement.{statement}
+use Rattle.schedule.proofs.is_awaited.Tie as tie
+
+returns : tie.Need-returns
+unfolding awaits
+returns c = search (needs, tests)
+
+returns-2 : tie.Need-returns-2
+unfolding awaits
+returns-2 c = search (needs, tests)
+
+pub is-awaited-spec : {M : Type 1} → statement M
+is-awaited-spec = tie.close (tie.spec returns returns-2)

@@ -1,0 +1,24 @@
+-- `schedule::is_last` meets its contract.
+use Rattle.unit.specs.Tests.{tests}
+use Rattle.device.specs.Event.{lastOne}
+use borrow.Author.Needs.{needs}
+use Rattle.schedule.proofs.is_last.Statement.{statement}
+use Rattle.schedule.proofs.is_last.Tie as tie
+
+add-if2 : tie.Need-add-if2
+add-if2 c = search needs
+
+returns : tie.Need-returns
+unfolding lastOne
+returns c = search (needs, tests)
+
+returns-2 : tie.Need-returns-2
+unfolding lastOne
+returns-2 c = search (needs, tests)
+
+returns-3 : tie.Need-returns-3
+unfolding lastOne
+returns-3 c = search (needs, tests)
+
+pub is-last-spec : {M : Type 1} → statement M
+is-last-spec = tie.close (tie.spec add-if2 returns returns-2 returns-3)

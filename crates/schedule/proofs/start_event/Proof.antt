@@ -1,0 +1,15 @@
+-- `schedule::start_event` meets its contract.
+use Rattle.device.specs.Event.{eventStart}
+use Rattle.unit.specs.Tests.{tests}
+use borrow.Author.Needs.{needs}
+use Rattle.schedule.proofs.start_event.Statement.{statement}
+use Rattle.schedule.proofs.start_event.Tie as tie
+use Rattle.schedule.proofs.start_event.Reads as reads
+use Rattle.schedule.proofs.start_event.Lts as lts
+
+returns : tie.Need-returns
+unfolding eventStart
+returns c = search (needs, tests)
+
+pub start-event-spec : {M : Type 1} → statement M
+start-event-spec = tie.close (tie.spec returns)

@@ -1,0 +1,20 @@
+-- `schedule::wait_after` meets its contract.
+use Rattle.unit.specs.Tests.{tests}
+use Rattle.device.specs.Event.{waitAfter}
+use borrow.Author.Needs.{needs}
+use Rattle.schedule.proofs.wait_after.Statement.{statement}
+use Rattle.schedule.proofs.wait_after.Tie as tie
+
+returns : tie.Need-returns
+unfolding waitAfter
+returns c = search (needs, tests)
+
+sub-result : tie.Need-sub-result
+sub-result c = search needs
+
+returns-2 : tie.Need-returns-2
+unfolding waitAfter
+returns-2 c = search (needs, tests)
+
+pub wait-after-spec : {M : Type 1} → statement M
+wait-after-spec = tie.close (tie.spec returns sub-result returns-2)

@@ -1,0 +1,20 @@
+-- `setup::event_continuous` meets its contract.
+use Rattle.unit.specs.Tests.{tests}
+use Rattle.setup.specs.Setup.{eventContinuous}
+use borrow.Author.Needs.{needs}
+use Rattle.setup.proofs.event_continuous.Statement.{statement}
+use Rattle.setup.proofs.event_continuous.Tie as tie
+
+word-requires : tie.Need-word-requires
+word-requires c κs = search needs
+
+returns : tie.Need-returns
+unfolding eventContinuous
+returns c = search (needs, tests, c .if1 .taken, ← c .before .word .ensures)
+
+returns-2 : tie.Need-returns-2
+unfolding eventContinuous
+returns-2 c = search (needs, tests, c .if1 .left, ← c .before .word .ensures)
+
+pub event-continuous-spec : {M : Type 1} → statement M
+event-continuous-spec = tie.close (tie.spec word-requires returns returns-2)

@@ -1,0 +1,24 @@
+-- `setup::flight_unset` meets its contract.
+use Rattle.unit.specs.Tests.{tests}
+use Rattle.setup.specs.Setup.{flightUnset}
+use borrow.Author.Needs.{needs}
+use Rattle.setup.proofs.flight_unset.Statement.{statement}
+use Rattle.setup.proofs.flight_unset.Tie as tie
+
+word-requires : tie.Need-word-requires
+word-requires c κs = search needs
+
+returns : tie.Need-returns
+unfolding flightUnset
+returns c = search (needs, tests, c .if1 .taken, ← c .before .word .ensures)
+
+returns-2 : tie.Need-returns-2
+unfolding flightUnset
+returns-2 c = search (needs, tests, c .if2 .taken, c .before .if1 .left, ← c .before .before .word .ensures)
+
+returns-3 : tie.Need-returns-3
+unfolding flightUnset
+returns-3 c = search (needs, tests, c .if2 .left, c .before .if1 .left, ← c .before .before .word .ensures)
+
+pub flight-unset-spec : {M : Type 1} → statement M
+flight-unset-spec = tie.close (tie.spec word-requires returns returns-2 returns-3)

@@ -1,0 +1,22 @@
+-- `setup::temperature_period` meets its contract.
+use Rattle.unit.specs.Tests.{tests}
+use Rattle.setup.specs.Setup.{temperaturePeriod}
+use borrow.Author.Needs.{needs}
+use Rattle.setup.proofs.temperature_period.Statement.{statement}
+use Rattle.setup.proofs.temperature_period.Tie as tie
+
+word-requires : tie.Need-word-requires
+word-requires c κs = search needs
+
+add-t5 : tie.Need-add-t5
+add-t5 c = search needs
+
+mul-t6 : tie.Need-mul-t6
+mul-t6 c = search needs
+
+returns : tie.Need-returns
+unfolding temperaturePeriod
+returns c = search (needs, tests, ← c .word .ensures)
+
+pub temperature-period-spec : {M : Type 1} → statement M
+temperature-period-spec = tie.close (tie.spec word-requires add-t5 mul-t6 returns)

@@ -1,0 +1,168 @@
+// The bit fields of the set-up registers 34h to 43h. A set-up is the sixteen words, 34h first.
+ghost use mathlib.Core.Path.{_≡_};
+ghost use Prim.Native.Nat.{_<_};
+ghost use lib.ListN.{getD};
+ghost use Rattle.setup.specs.Setup.{factory, alarmWord, hitCount, timeout, portCycle, flightUnset, temperatureUnset, eventContinuous, differencePeriod, differenceCount, temperaturePeriod, temperatureCount, interruptEnabled, eachInterrupt, clockStands, alarmMode};
+ghost use Rattle.setup.specs.Stop.{stopRow};
+use unit::Ticks;
+
+// The word at a place of the set-up.
+pub fn word(s: [u16; 16], i: usize) -> u32
+    requires { ⌜ i < 16 ⌝ }
+    ensures { λ r. ⌜ r ≡ getD s i 0 ⌝ }
+{
+    wide(s[i])
+}
+
+fn wide(x: u16) -> u32
+    ensures { λ r. ⌜ r ≡ x ⌝ }
+{
+    x as u32
+}
+
+// The factory values.
+pub fn factory_setup() -> [u16; 16]
+    ensures { λ r. ⌜ r ≡ factory ⌝ }
+{
+    [0, 0, 0, 0, 16, 0, 0, 0, 0, 0, 0, 0, 0, 0, 0, 0]
+}
+
+pub fn alarm_word(s: [u16; 16]) -> u32
+    ensures { λ r. ⌜ r ≡ alarmWord s ⌝ }
+{
+    word(s, 1)
+}
+
+// H, the number of hits of each measured direction.
+pub fn hits(s: [u16; 16]) -> u32
+    ensures { λ r. ⌜ r ≡ hitCount s ⌝ }
+{
+    stop_row(word(s, 5) / 8192 % 8)
+}
+
+// STOP[2:0] as data sheet 000's Table 11 prints it: the number of hits.
+pub fn stop_row(stop: u32) -> u32
+    ensures { λ r. ⌜ r ≡ stopRow stop ⌝ }
+{
+    match stop {
+        0b000 => 1,
+        0b001 => 2,
+        0b010 => 3,
+        0b011 => 4,
+        0b100 => 5,
+        0b101 => 6,
+        0b110 => 6,
+        _ => 6, // 111b
+    }
+}
+
+// TIMOUT.
+pub fn timeout_code(s: [u16; 16]) -> u32
+    ensures { λ r. ⌜ r ≡ timeout s ⌝ }
+{
+    word(s, 5) % 8
+}
+
+// PORTCYC.
+pub fn port_cycle(s: [u16; 16]) -> u32
+    ensures { λ r. ⌜ r ≡ portCycle s ⌝ }
+{
+    word(s, 12) % 4
+}
+
+// PL or DPL is zero.
+pub fn flight_unset(s: [u16; 16]) -> bool
+    ensures { λ r. ⌜ r ≡ flightUnset s ⌝ }
+{
+    let w = word(s, 4);
+    if w / 256 % 256 == 0 {
+        return true;
+    }
+    if w / 16 % 16 == 0 { true } else { false }
+}
+
+// TP does not select all four ports.
+pub fn temperature_unset(s: [u16; 16]) -> bool
+    ensures { λ r. ⌜ r ≡ temperatureUnset s ⌝ }
+{
+    if word(s, 12) / 32 % 4 == 3 {
+        false
+    } else {
+        true
+    }
+}
+
+// EOSC.
+pub fn clock_stands(s: [u16; 16]) -> bool
+    ensures { λ r. ⌜ r ≡ clockStands s ⌝ }
+{
+    if word(s, 15) / 16 % 2 == 1 {
+        true
+    } else {
+        false
+    }
+}
+
+// ET_CONT.
+pub fn event_continuous(s: [u16; 16]) -> bool
+    ensures { λ r. ⌜ r ≡ eventContinuous s ⌝ }
+{
+    if word(s, 14) / 256 % 2 == 1 {
+        true
+    } else {
+        false
+    }
+}
+
+pub fn difference_period(s: [u16; 16]) -> Ticks
+    ensures { λ r. ⌜ r ≡ differencePeriod s ⌝ }
+{
+    Ticks(16384 * (word(s, 11) / 4096 % 16 + 1))
+}
+
+pub fn difference_count(s: [u16; 16]) -> u8
+    ensures { λ r. ⌜ r ≡ differenceCount s ⌝ }
+{
+    (word(s, 11) / 128 % 32 + 1) as u8
+}
+
+pub fn temperature_period(s: [u16; 16]) -> Ticks
+    ensures { λ r. ⌜ r ≡ temperaturePeriod s ⌝ }
+{
+    Ticks(32768 * (word(s, 11) / 2 % 64 + 1))
+}
+
+pub fn temperature_count(s: [u16; 16]) -> u8
+    ensures { λ r. ⌜ r ≡ temperatureCount s ⌝ }
+{
+    (word(s, 12) / 2048 % 32 + 1) as u8
+}
+
+// INT_EN.
+pub fn interrupt_enabled(s: [u16; 16]) -> bool
+    ensures { λ r. ⌜ r ≡ interruptEnabled s ⌝ }
+{
+    if word(s, 14) / 512 % 2 == 1 {
+        true
+    } else {
+        false
+    }
+}
+
+// CONT_INT.
+pub fn each_interrupt(s: [u16; 16]) -> bool
+    ensures { λ r. ⌜ r ≡ eachInterrupt s ⌝ }
+{
+    if word(s, 14) / 128 % 2 == 1 {
+        true
+    } else {
+        false
+    }
+}
+
+// AM.
+pub fn alarm_mode(s: [u16; 16]) -> u32
+    ensures { λ r. ⌜ r ≡ alarmMode s ⌝ }
+{
+    word(s, 15) / 4 % 4
+}

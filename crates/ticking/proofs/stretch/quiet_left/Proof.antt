@@ -1,0 +1,20 @@
+-- `ticking::stretch::quiet_left` meets its contract.
+use Rattle.unit.specs.Tests.{tests}
+use Rattle.device.specs.Stretch.{quietLeft}
+use borrow.Author.Needs.{needs}
+use Rattle.ticking.proofs.stretch.quiet_left.Statement.{statement}
+use Rattle.ticking.proofs.stretch.quiet_left.Tie as tie
+
+sub-result : tie.Need-sub-result
+sub-result c = search needs
+
+returns : tie.Need-returns
+unfolding quietLeft
+returns c = search (needs, tests)
+
+returns-2 : tie.Need-returns-2
+unfolding quietLeft
+returns-2 c = search (needs, tests)
+
+pub quiet-left-spec : {M : Type 1} → statement M
+quiet-left-spec = tie.close (tie.spec sub-result returns returns-2)

@@ -1,0 +1,36 @@
+-- `ticking::tick::temperature_after` meets its contract.
+use Rattle.device.specs.Tick.{temperatureAfter}
+use borrow.Author.Needs.{needs}
+use Rattle.ticking.proofs.tick.temperature_after.Statement.{statement}
+use Rattle.ticking.proofs.tick.temperature_after.Tie as tie
+
+tick-schedule-requires : tie.Need-tick-schedule-requires
+tick-schedule-requires c κs = search needs
+
+sums-after-requires : tie.Need-sums-after-requires
+sums-after-requires c κs = search needs
+
+expires-requires : tie.Need-expires-requires
+expires-requires c κs = search needs
+
+lost-four-requires : tie.Need-lost-four-requires
+lost-four-requires c κs = search needs
+
+returns : tie.Need-returns
+unfolding temperatureAfter
+returns c = simp (← c .lost-four .ensures, c .before .if1 .taken, ← c .before .before .expires .ensures, ← c .before .before .before .sums-after .ensures, ← c .before .before .before .before .tick-schedule .ensures)
+
+returns-2 : tie.Need-returns-2
+unfolding temperatureAfter
+returns-2 c = simp (c .if1 .left, ← c .before .expires .ensures, ← c .before .before .sums-after .ensures, ← c .before .before .before .tick-schedule .ensures)
+
+pub temperature-after-spec : {M : Type 1} → statement M
+temperature-after-spec =
+    tie.close
+    (tie.spec
+    tick-schedule-requires
+    sums-after-requires
+    expires-requires
+    lost-four-requires
+    returns
+    returns-2)

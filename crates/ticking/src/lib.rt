@@ -1,0 +1,3 @@
+// One tick, and stretches of ticks.
+pub mod stretch;
+pub mod tick;

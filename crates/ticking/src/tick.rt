@@ -1,0 +1,147 @@
+// One tick of the clock, the awaited measurements and the events.
+ghost use mathlib.Core.Path.{_≡_};
+ghost use Rattle.device.specs.Tick.{sumAfter, sumsAfter, flightTicked, flightAfter, temperatureAfter, clockTicked, alarmRaised, tickStatus, tickModel, reportOf};
+use calendar::Clock;
+use device::Flight;
+use device::Model;
+use device::Report;
+use device::Schedule;
+use device::Status;
+use device::Temperature;
+use hit::words::lost_four;
+use results::lose_flight;
+use schedule::begins_group;
+use schedule::expires;
+use schedule::is_due;
+use schedule::tick_schedule;
+use status::alarm_bit;
+use status::flight_bits;
+use status::join;
+use status::temperature_bits;
+
+// The sums that the first start of a group sets to 0.
+fn sum_after(f: Flight) -> u64
+    ensures { λ r. ⌜ r ≡ sumAfter f ⌝ }
+{
+    let k = f.schedule;
+    if begins_group(k) {
+        return 0;
+    }
+    f.sum
+}
+
+fn sums_after(t: Temperature) -> [u64; 4]
+    ensures { λ r. ⌜ r ≡ sumsAfter t ⌝ }
+{
+    let k = t.schedule;
+    let sums = t.sums;
+    if begins_group(k) {
+        return [0, 0, 0, 0];
+    }
+    sums
+}
+
+fn flight_ticked(f: Flight) -> Flight
+    ensures { λ r. ⌜ r ≡ flightTicked f ⌝ }
+{
+    let k = f.schedule;
+    let next = tick_schedule(k);
+    let sum = sum_after(f);
+    let mut n = f;
+    n.schedule = next;
+    n.sum = sum;
+    n
+}
+
+fn flight_after(f: Flight) -> Flight
+    ensures { λ r. ⌜ r ≡ flightAfter f ⌝ }
+{
+    let k = f.schedule;
+    let n = flight_ticked(f);
+    if expires(k) {
+        let next = tick_schedule(k);
+        return lose_flight(n, next);
+    }
+    n
+}
+
+fn temperature_after(t: Temperature) -> Temperature
+    ensures { λ r. ⌜ r ≡ temperatureAfter t ⌝ }
+{
+    let k = t.schedule;
+    let next = tick_schedule(k);
+    let sums = sums_after(t);
+    let mut n = t;
+    n.schedule = next;
+    n.sums = sums;
+    if expires(k) {
+        let ports = lost_four();
+        n.ports = ports;
+        return n;
+    }
+    n
+}
+
+fn clock_ticked(m: Model) -> Clock
+    ensures { λ r. ⌜ r ≡ clockTicked m ⌝ }
+{
+    let clock = m.clock;
+    let setup = m.setup;
+    if setup::clock_stands(setup) {
+        return clock;
+    }
+    calendar::step::tick(clock)
+}
+
+fn alarm_raised(m: Model, after: Clock) -> bool
+    ensures { λ r. ⌜ r ≡ alarmRaised m after ⌝ }
+{
+    let before = m.clock;
+    let setup = m.setup;
+    let w = setup::alarm_word(setup);
+    let mode = setup::alarm_mode(setup);
+    calendar::alarm::rings(before, after, w, mode)
+}
+
+fn tick_status(m: Model, after: Clock) -> Status
+    ensures { λ r. ⌜ r ≡ tickStatus m after ⌝ }
+{
+    let setup = m.setup;
+    let flight = m.flight;
+    let temperature = m.temperature;
+    let f = flight.schedule;
+    let t = temperature.schedule;
+    let each = setup::each_interrupt(setup);
+    let f_failed = expires(f);
+    let t_failed = expires(t);
+    let old = m.status;
+    let with_alarm = join(old, alarm_bit(alarm_raised(m, after)));
+    let with_flight = join(with_alarm, flight_bits(f, each, f_failed, f_failed));
+    join(with_flight, temperature_bits(t, each, t_failed, t_failed))
+}
+
+pub fn tick_model(m: Model) -> Model
+    ensures { λ r. ⌜ r ≡ tickModel m ⌝ }
+{
+    let clock = clock_ticked(m);
+    let status = tick_status(m, clock);
+    let old_flight = m.flight;
+    let old_temperature = m.temperature;
+    let flight = flight_after(old_flight);
+    let temperature = temperature_after(old_temperature);
+    let mut next = m;
+    next.clock = clock;
+    next.status = status;
+    next.flight = flight;
+    next.temperature = temperature;
+    next
+}
+
+// What the next tick reports of a kind.
+pub fn report_of(k: Schedule) -> Report
+    ensures { λ r. ⌜ r ≡ reportOf k ⌝ }
+{
+    let started = is_due(k);
+    let failed = expires(k);
+    Report { started, failed }
+}

@@ -11,7 +11,8 @@ use Rattle.unit.specs.Choice.{pick}
 use Rattle.calendar.specs.declared.Clock.{Clock}
 use Rattle.calendar.specs.Calendar.{leap, monthLength, dateFits, timeFits, clockValid, nextYear, nextMonth, nextWeekday, nextDate}
 use Rattle.calendar.specs.Calendar.{nextHour, nextMinute, nextSecond, tickClock}
-use Rattle.calendar.specs.Moment.{firstMonths, dayNumber, dayTicks, century, timeTicks, moment, midnights, afterTicks, Bounds}
+use Rattle.calendar.specs.Moment.{firstMonths, dayNumber, dayTicks, century, timeTicks, moment, midnights}
+use Rattle.calendar.specs.Bounds.{afterTicks, Bounds}
 
 -- Where no test failed, each did not.
 pub passed : (t : Bool) {r : Bool} → pick t false r ≡ true → (t ≡ false) × (r ≡ true)
@@ -246,9 +247,9 @@ over c d e b n p q t u f =
       form = n .form ∙ f;
     }
 
-ticked : (c : Clock) → Bounds c → Ticked c (tickClock c)
+modelTicked : (c : Clock) → Bounds c → Ticked c (tickClock c)
 unfolding tickClock nextSecond nextMinute nextHour timeTicks
-ticked c b =
+modelTicked c b =
     by-leb 32767 (c .ticks .0)
     (λ h e.
     rw e
@@ -266,20 +267,20 @@ ticked c b =
     (λ h e. rw e (within c _ b (omega arith) refl (omega arith) refl refl))
 
 pub tick-valid : (c : Clock) → clockValid c ≡ true → clockValid (tickClock c) ≡ true
-tick-valid c v = valid (tickClock c) (ticked c (bounds c v) .bounds)
+tick-valid c v = valid (tickClock c) (modelTicked c (bounds c v) .bounds)
 
 pub tick-moment : (c : Clock) → clockValid c ≡ true → moment (tickClock c) ≡ (moment c + 1) % century
-tick-moment c v = ticked c (bounds c v) .adds
+tick-moment c v = modelTicked c (bounds c v) .adds
 
 -- "Weekday steps at midnight, 7 to 1"
 pub tick-weekday : (c : Clock) →
     clockValid c ≡ true →
     (tickClock c) .weekday ≡ pick (eqb ((moment c + 1) % dayTicks) 0) (nextWeekday (c .weekday)) (c .weekday)
-tick-weekday c v = ticked c (bounds c v) .weekday
+tick-weekday c v = modelTicked c (bounds c v) .weekday
 
 -- "A clock keeps the form it was last written in" (Note 2)
 pub tick-form : (c : Clock) → clockValid c ≡ true → (tickClock c) .twelve ≡ c .twelve
-tick-form c v = ticked c (bounds c v) .form
+tick-form c v = modelTicked c (bounds c v) .form
 
 pub moment-below : (c : Clock) → clockValid c ≡ true → moment c < century
 unfolding moment timeTicks

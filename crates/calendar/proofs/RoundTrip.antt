@@ -7,7 +7,7 @@ use Rattle.unit.specs.declared.Ticks.{Ticks}
 use Rattle.calendar.specs.declared.Clock.{Clock}
 use Rattle.calendar.specs.Calendar.{clockValid}
 use Rattle.calendar.specs.Words.{bcd, hundredthsOf, word30, word31, word32, word33, hourDigits, minuteIn, twelveIn, clockFrom, digitsFit, wordsValid}
-use Rattle.calendar.specs.Moment.{Bounds}
+use Rattle.calendar.specs.Bounds.{Bounds}
 use Rattle.calendar.proofs.Laws.{bounds, month-length}
 use Rattle.calendar.proofs.Hours.{bcd-digits, bcd-byte, hour-byte, Hour, hour-read, hour-back}
 use Rattle.calendar.proofs.Validity.{hour-means, digits-mean, words-mean}

@@ -2,3 +2,4 @@ pub mod Calendar
 pub mod Words
 pub mod Alarm
 pub mod Moment
+pub mod Bounds

@@ -6,7 +6,7 @@ use crate::words::hour_in;
 use crate::words::minute_in;
 
 // Whether a field changed to the target.
-fn changed_to(before: u32, after: u32, target: u32) -> bool
+fn reaches(before: u32, after: u32, target: u32) -> bool
     ensures { λ r. ⌜ r ≡ reaches before after target ⌝ }
 {
     if before == after {
@@ -16,16 +16,16 @@ fn changed_to(before: u32, after: u32, target: u32) -> bool
 }
 
 // Whether the tick from `before` to `after` rings the alarm of word `w` in this mode (AM).
-pub fn rings(before: Clock, after: Clock, w: u32, mode: u32) -> bool
+pub fn alarm_rings(before: Clock, after: Clock, w: u32, mode: u32) -> bool
     ensures { λ r. ⌜ r ≡ alarmRings before after w mode ⌝ }
 {
-    let minute = changed_to(before.minute, after.minute, minute_in(w));
+    let minute = reaches(before.minute, after.minute, minute_in(w));
     let alarm_hour = hour_in(w);
     if mode == 1 {
         return minute;
     }
     if mode == 2 {
-        return changed_to(before.hour, after.hour, alarm_hour);
+        return reaches(before.hour, after.hour, alarm_hour);
     }
     if mode == 3 {
         if after.hour == alarm_hour {

@@ -4,17 +4,17 @@ ghost use Rattle.calendar.specs.Calendar.{leap, monthLength, clockValid,
 use crate::Clock;
 use unit::Ticks;
 
-pub fn leap_year(year: u32) -> bool
+pub fn leap(year: u32) -> bool
     ensures { λ r. ⌜ r ≡ leap year ⌝ }
 {
     if year % 4 == 0 { true } else { false }
 }
 
-pub fn length_of_month(year: u32, month: u32) -> u32
+pub fn month_length(year: u32, month: u32) -> u32
     ensures { λ r. ⌜ r ≡ monthLength year month ⌝ }
 {
     if month == 2 {
-        if leap_year(year) {
+        if leap(year) {
             return 29;
         }
         return 28;
@@ -49,7 +49,7 @@ pub fn date_fits(c: Clock) -> bool
     if c.date < 1 {
         return false;
     }
-    let length = length_of_month(c.year, c.month);
+    let length = month_length(c.year, c.month);
     if length < c.date {
         return false;
     }
@@ -81,14 +81,14 @@ pub fn time_fits(c: Clock) -> bool
     true
 }
 
-pub fn valid(c: Clock) -> bool
+pub fn clock_valid(c: Clock) -> bool
     ensures { λ r. ⌜ r ≡ clockValid c ⌝ }
 {
     if date_fits(c) { time_fits(c) } else { false }
 }
 
 // The clock of a fresh model.
-pub fn first() -> Clock
+pub fn start() -> Clock
     ensures { λ r. ⌜ r ≡ start ⌝ }
 {
     Clock {

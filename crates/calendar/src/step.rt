@@ -2,7 +2,7 @@
 ghost use mathlib.Core.Path.{_≡_};
 ghost use Rattle.calendar.specs.Calendar.{tickClock, nextSecond, nextMinute, nextHour, nextDate, nextMonth, nextYear, nextWeekday};
 use crate::Clock;
-use crate::date::length_of_month;
+use crate::date::month_length;
 use unit::Ticks;
 
 fn next_year(c: Clock) -> Clock
@@ -34,7 +34,7 @@ fn next_date(c: Clock) -> Clock
 {
     let mut n = c;
     n.weekday = next_weekday(c.weekday);
-    let length = length_of_month(c.year, c.month);
+    let length = month_length(c.year, c.month);
     if length <= c.date {
         n.date = 1;
         return next_month(n);
@@ -85,7 +85,7 @@ fn next_second(c: Clock) -> Clock
     n
 }
 
-pub fn tick(c: Clock) -> Clock
+pub fn tick_clock(c: Clock) -> Clock
     ensures { λ r. ⌜ r ≡ tickClock c ⌝ }
 {
     let t = c.ticks;

@@ -4,28 +4,28 @@ ghost use Prim.Native.Nat.{_<_};
 ghost use Rattle.calendar.specs.Words.{bcd, hundredthsOf, word30, word31, word32, word33, minuteIn, ticksIn, clockFrom, timeDigits, digitsFit, wordsValid, alarmValid};
 ghost use Rattle.calendar.specs.Words.{twelveHour, hourDigits, twelveIn, hourNamed, hourIn, hourFits};
 use crate::Clock;
-use crate::date::valid;
+use crate::date::clock_valid;
 use unit::Ticks;
 
 // The two decimal digits of a number below 100, four bits each.
-pub fn two_digits(n: u32) -> u8
+pub fn bcd(n: u32) -> u8
     ensures { λ r. ⌜ r ≡ bcd n ⌝ }
 {
     (n / 10 % 10 * 16 + n % 10) as u8
 }
 
-pub fn hundredths(t: Ticks) -> u32
+pub fn hundredths_of(t: Ticks) -> u32
     ensures { λ r. ⌜ r ≡ hundredthsOf t ⌝ }
 {
     ((t.0 as u64) * 100 / 32768) as u32
 }
 
-pub fn seconds_word(c: Clock) -> u32
+pub fn word30(c: Clock) -> u32
     ensures { λ r. ⌜ r ≡ word30 c ⌝ }
 {
     let t = c.ticks;
-    let parts = hundredths(t);
-    (two_digits(parts) as u32) * 256 + (two_digits(c.second) as u32)
+    let parts = hundredths_of(t);
+    (bcd(parts) as u32) * 256 + (bcd(c.second) as u32)
 }
 
 // The hour that a clock of twelve hours shows.
@@ -40,31 +40,31 @@ fn hour_digits(twelve: bool, hour: u32) -> u32
     ensures { λ r. ⌜ (r ≡ hourDigits twelve hour) × (r < 512) ⌝ }
 {
     if twelve {
-        let digits = two_digits(twelve_hour(hour)) as u32;
+        let digits = bcd(twelve_hour(hour)) as u32;
         if 12 <= hour {
             return 0x60 + digits;
         }
         return 0x40 + digits;
     }
-    two_digits(hour) as u32
+    bcd(hour) as u32
 }
 
-pub fn time_word(c: Clock) -> u32
+pub fn word31(c: Clock) -> u32
     ensures { λ r. ⌜ r ≡ word31 c ⌝ }
 {
-    (two_digits(c.minute) as u32) * 256 + hour_digits(c.twelve, c.hour)
+    (bcd(c.minute) as u32) * 256 + hour_digits(c.twelve, c.hour)
 }
 
-pub fn date_word(c: Clock) -> u32
+pub fn word32(c: Clock) -> u32
     ensures { λ r. ⌜ r ≡ word32 c ⌝ }
 {
-    c.weekday % 8 * 256 + (two_digits(c.date) as u32)
+    c.weekday % 8 * 256 + (bcd(c.date) as u32)
 }
 
-pub fn year_word(c: Clock) -> u32
+pub fn word33(c: Clock) -> u32
     ensures { λ r. ⌜ r ≡ word33 c ⌝ }
 {
-    (two_digits(c.month) as u32) * 256 + (two_digits(c.year) as u32)
+    (bcd(c.month) as u32) * 256 + (bcd(c.year) as u32)
 }
 
 pub fn minute_in(w: u32) -> u32
@@ -197,7 +197,7 @@ pub fn words_valid(w30: u32, w31: u32, w32: u32, w33: u32, ticks: Ticks) -> bool
 {
     if digits_fit(w30, w31, w32, w33) {
         if hour_fits(w31) {
-            return valid(clock_from(w30, w31, w32, w33, ticks));
+            return clock_valid(clock_from(w30, w31, w32, w33, ticks));
         }
         return false;
     }

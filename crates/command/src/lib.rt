@@ -2,7 +2,7 @@
 ghost use mathlib.Core.Path.{_≡_};
 ghost use lib.Dec.{eqb};
 ghost use Rattle.unit.specs.Choice.{negate};
-ghost use Rattle.device.specs.Bus.{mustBeIdle, startsFlight, startsTemperature, isEvent, commandBusy, notReady, commandUnset, flightStarted, flightEvent, temperatureEvent, startedEvent, initialised, haltedModel, runModel, eventFlight, eventSideUnset, eventTemperature, flightSideUnset, singleStarted, supplied, unsupplied, temperatureSideUnset};
+ghost use Rattle.device.specs.Bus.{mustBeIdle, startsFlight, startsTemperature, isEvent, commandBusy, beforeInitialize, commandUnset, flightStarted, flightEvent, temperatureEvent, startedEvent, initialisedModel, haltedModel, runModel, eventFlight, eventSideUnset, eventTemperature, flightSideUnset, singleStarted, supplied, unsupplied, temperatureSideUnset};
 use device::Flight;
 use device::Model;
 use device::Temperature;
@@ -13,7 +13,7 @@ use schedule::start_event;
 use schedule::start_single;
 use status::halt_bit;
 use status::init_bit;
-use status::join;
+use status::joined;
 use status::ldo_bit;
 use status::no_bits;
 use status::without_ldo;
@@ -66,10 +66,10 @@ pub fn command_busy(m: Model, op: u32) -> bool
     if must_be_idle(op) { is_busy(m) } else { false }
 }
 
-pub fn not_ready(m: Model, op: u32) -> bool
-    ensures { λ r. ⌜ r ≡ notReady m op ⌝ }
+pub fn before_initialize(m: Model, op: u32) -> bool
+    ensures { λ r. ⌜ r ≡ beforeInitialize m op ⌝ }
 {
-    if m.ready {
+    if m.initialised {
         return false;
     }
     if starts_flight(op) {
@@ -199,18 +199,18 @@ fn started_event(m: Model, op: u32) -> Model
     next
 }
 
-fn initialised(m: Model) -> Model
-    ensures { λ r. ⌜ r ≡ initialised m ⌝ }
+fn initialised_model(m: Model) -> Model
+    ensures { λ r. ⌜ r ≡ initialisedModel m ⌝ }
 {
     let old = m.status;
-    let status = join(old, init_bit());
+    let status = joined(old, init_bit());
     let mut next = m;
     next.status = status;
-    next.ready = true;
+    next.initialised = true;
     next
 }
 
-fn halted(m: Model) -> Model
+fn halted_model(m: Model) -> Model
     ensures { λ r. ⌜ r ≡ haltedModel m ⌝ }
 {
     let old = m.status;
@@ -220,7 +220,7 @@ fn halted(m: Model) -> Model
     let t = halt_schedule(temperature.schedule);
     flight.schedule = f;
     temperature.schedule = t;
-    let status = join(old, halt_bit());
+    let status = joined(old, halt_bit());
     let mut next = m;
     next.status = status;
     next.flight = flight;
@@ -250,7 +250,7 @@ fn supplied(m: Model) -> Model
     ensures { λ r. ⌜ r ≡ supplied m ⌝ }
 {
     let old = m.status;
-    let status = join(old, ldo_bit());
+    let status = joined(old, ldo_bit());
     let mut next = m;
     next.status = status;
     next.regulator = true;
@@ -269,17 +269,17 @@ fn unsupplied(m: Model) -> Model
 }
 
 // The model after an accepted command.
-pub fn run(m: Model, op: u32) -> Model
+pub fn run_model(m: Model, op: u32) -> Model
     ensures { λ r. ⌜ r ≡ runModel m op ⌝ }
 {
     if op == 4 {
         return fresh_with(no_bits());
     }
     if op == 5 {
-        return initialised(m);
+        return initialised_model(m);
     }
     if op == 10 {
-        return halted(m);
+        return halted_model(m);
     }
     if op == 12 {
         return supplied(m);

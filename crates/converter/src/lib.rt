@@ -4,26 +4,28 @@ ghost use mathlib.Core.Bool.{true};
 ghost use Prim.Native.Nat.{_≤_, _+_, _*_};
 ghost use lib.ListN.{length};
 ghost use Rattle.frame.specs.declared.Decoded.{Decoded};
-ghost use Rattle.device.specs.Model.{freshModel, sound};
-ghost use Rattle.device.specs.Stretch.{quietFor};
-ghost use Rattle.device.specs.Call.{Call, reply, output, memory, commandReply, writeReply, readReply, readOutput, refusalNumber, readFits, frameFits, flashFrameReply, flashFrameOutput, flashFrameMemory, wordsReply};
+ghost use Rattle.device.specs.Model.{freshModel, isSound};
+ghost use Rattle.device.specs.StretchSteps.{quietFor};
+ghost use Rattle.device.specs.Call.{Call};
+ghost use Rattle.device.specs.Reply.{reply, output, memory};
+ghost use Rattle.device.specs.Parts.{commandReply, writeReply, readReply, readOutput, refusalNumber, readFits, frameFits, flashFrameReply, flashFrameOutput, flashFrameMemory, wordsReply};
+use command::before_initialize;
 use command::command_busy;
 use command::command_unset;
-use command::not_ready;
-use command::run;
+use command::run_model;
 use command::starts_flight;
 use command::starts_temperature;
 use delivery::flight_miscounted;
-use delivery::flight_words;
-use delivery::temperature_words;
+use delivery::flight_reply;
+use delivery::temperature_reply;
 use device::Answer;
 use device::Model;
 use device::Reply;
 use device::Report;
-use flash_access::flash_frame;
+use flash_access::flash_reply;
 use frame::Decoded;
-use model::reply::accepted;
-use model::reply::refused;
+use model::reply::accept;
+use model::reply::refuse;
 use model::state::fresh_with;
 use model::state::is_busy;
 use model::state::is_sound;
@@ -32,8 +34,8 @@ pub use question::interrupt_pending;
 pub use question::peek;
 pub use question::regulator_on;
 pub use question::temperature_awaited;
-use registers::read::after_read;
 use registers::read::fill_words;
+use registers::read::read_model;
 use registers::write::write_invalid;
 use registers::write::write_model;
 use schedule::is_awaited;
@@ -49,32 +51,32 @@ pub fn fresh() -> Model
     fresh_with(por_bit())
 }
 
-fn command(m: Model, op: u32) -> Reply
+fn command_reply(m: Model, op: u32) -> Reply
     ensures { λ r. ⌜ r ≡ commandReply m op ⌝ }
 {
     if command_busy(m, op) {
-        return refused(m, 6);
+        return refuse(m, 6);
     }
-    if not_ready(m, op) {
-        return refused(m, 8);
+    if before_initialize(m, op) {
+        return refuse(m, 8);
     }
     if command_unset(m, op) {
-        return refused(m, 9);
+        return refuse(m, 9);
     }
-    accepted(run(m, op), starts_flight(op), starts_temperature(op))
+    accept(run_model(m, op), starts_flight(op), starts_temperature(op))
 }
 
-fn write(m: Model, words: &[u8], op: u32, n: usize) -> Reply
-    requires { ⌜ (sound m ≡ true) × (48 ≤ op) × (op + n ≤ 68) × (2 * n ≤ length (now words)) ⌝ }
+fn write_reply(m: Model, words: &[u8], op: u32, n: usize) -> Reply
+    requires { ⌜ (isSound m ≡ true) × (48 ≤ op) × (op + n ≤ 68) × (2 * n ≤ length (now words)) ⌝ }
     ensures { λ r. ⌜ r ≡ writeReply m (now (words .entry)) op n ⌝ }
 {
     if is_busy(m) {
-        return refused(m, 6);
+        return refuse(m, 6);
     }
     if write_invalid(m, words, op, n) {
-        return refused(m, 7);
+        return refuse(m, 7);
     }
-    accepted(write_model(m, words, op, n), false, false)
+    accept(write_model(m, words, op, n), false, false)
 }
 
 fn refusal_number(d: Decoded) -> u32
@@ -87,37 +89,37 @@ fn refusal_number(d: Decoded) -> u32
 }
 
 // A read, or the refusal that decoding found.
-fn read(m: Model, d: Decoded, out: &mut [u8]) -> Reply
+fn read_reply(m: Model, d: Decoded, out: &mut [u8]) -> Reply
     requires { ⌜ readFits d (length (now out)) ≡ true ⌝ }
     ensures { λ r. ⌜ (r ≡ readReply m d) × (now (out .exit) ≡ readOutput m d (now (out .entry))) ⌝ }
 {
     let Decoded::Read(op, n) = d else {
-        return refused(m, refusal_number(d));
+        return refuse(m, refusal_number(d));
     };
     fill_words(m, op, n, out);
-    accepted(after_read(m, op, n), false, false)
+    accept(read_model(m, op, n), false, false)
 }
 
 // A flash frame, else a read or a refusal. `b` is the frame from its second byte.
-fn flash(m: Model, d: Decoded, b: &[u8], out: &mut [u8], mem: &mut [u8]) -> Reply
+fn flash_frame_reply(m: Model, d: Decoded, b: &[u8], out: &mut [u8], mem: &mut [u8]) -> Reply
     requires { ⌜ (readFits d (length (now out)) ≡ true) × (frameFits d (length (now b)) (length (now out)) ≡ true) ⌝ }
     ensures { λ r. ⌜ (r ≡ flashFrameReply m (now (b .entry)) (now (mem .entry)) d) × (now (out .exit) ≡ flashFrameOutput m (now (b .entry)) (now (out .entry)) (now (mem .entry)) d) × (now (mem .exit) ≡ flashFrameMemory m (now (b .entry)) (now (mem .entry)) d) ⌝ }
 {
     let Decoded::Flash(op) = d else {
-        return read(m, d, out);
+        return read_reply(m, d, out);
     };
-    flash_frame(m, op, b, out, mem)
+    flash_reply(m, op, b, out, mem)
 }
 
 // A write, else a flash frame, a read or a refusal.
-fn words(m: Model, d: Decoded, b: &[u8], out: &mut [u8], mem: &mut [u8]) -> Reply
-    requires { ⌜ (sound m ≡ true) × (readFits d (length (now out)) ≡ true) × (frameFits d (length (now b)) (length (now out)) ≡ true) ⌝ }
+fn words_reply(m: Model, d: Decoded, b: &[u8], out: &mut [u8], mem: &mut [u8]) -> Reply
+    requires { ⌜ (isSound m ≡ true) × (readFits d (length (now out)) ≡ true) × (frameFits d (length (now b)) (length (now out)) ≡ true) ⌝ }
     ensures { λ r. ⌜ (r ≡ wordsReply m (now (b .entry)) (now (mem .entry)) d) × (now (out .exit) ≡ flashFrameOutput m (now (b .entry)) (now (out .entry)) (now (mem .entry)) d) × (now (mem .exit) ≡ flashFrameMemory m (now (b .entry)) (now (mem .entry)) d) ⌝ }
 {
     let Decoded::Write(op, n) = d else {
-        return flash(m, d, b, out, mem);
+        return flash_frame_reply(m, d, b, out, mem);
     };
-    write(m, b, op, n)
+    write_reply(m, b, op, n)
 }
 
 // One bus transaction: the bytes of a chip-enable window, the output buffer, and the user flash.
@@ -126,15 +128,15 @@ pub fn transaction(m: Model, frame: &[u8], out: &mut [u8], mem: &mut [u8]) -> Re
 {
     if is_sound(m) {
         if frame.len() == 0 {
-            return refused(m, 1);
+            return refuse(m, 1);
         }
-        let d = frame::decode(frame, out.len());
+        let d = frame::decode_frame(frame, out.len());
         let Decoded::Command(op) = d else {
-            return words(m, d, &frame[1..], out, mem);
+            return words_reply(m, d, &frame[1..], out, mem);
         };
-        return command(m, op);
+        return command_reply(m, op);
     }
-    refused(m, 0)
+    refuse(m, 0)
 }
 
 // One period of the 32,768 Hz clock.
@@ -147,12 +149,12 @@ pub fn tick(m: Model) -> Reply
         }
         return tick_reply(m);
     }
-    refused(m, 0)
+    refuse(m, 0)
 }
 
 // Nothing happens in it.
 fn quiet_reply(m: Model) -> Reply
-    requires { ⌜ (sound m ≡ true) × (1 ≤ quietFor m) ⌝ }
+    requires { ⌜ (isSound m ≡ true) × (1 ≤ quietFor m) ⌝ }
     ensures { λ r. ⌜ r ≡ reply m Call.tick ⌝ }
 {
     let none = Report {
@@ -167,7 +169,7 @@ fn quiet_reply(m: Model) -> Reply
 }
 
 fn tick_reply(m: Model) -> Reply
-    requires { ⌜ sound m ≡ true ⌝ }
+    requires { ⌜ isSound m ≡ true ⌝ }
     ensures { λ r. ⌜ r ≡ reply m Call.tick ⌝ }
 {
     let flight = m.flight;
@@ -185,7 +187,7 @@ pub fn stretch(m: Model, n: u32) -> Reply
 {
     if is_sound(m) {
         if 16384 < n {
-            return refused(m, 12);
+            return refuse(m, 12);
         }
         let end = ticking::stretch::run(m, n);
         let flight = end.flight;
@@ -196,7 +198,7 @@ pub fn stretch(m: Model, n: u32) -> Reply
             model,
         };
     }
-    refused(m, 0)
+    refuse(m, 0)
 }
 
 // The hit words of an awaited flight measurement: the up list and the down list.
@@ -208,15 +210,15 @@ pub fn flight_delivery(m: Model, up: &[u32], down: &[u32]) -> Reply
         let setup = m.setup;
         let k = f.schedule;
         if is_awaited(k) {
-            let hits = setup::hits(setup);
+            let hits = setup::hit_count(setup);
             if flight_miscounted(f, hits, up.len(), down.len()) {
-                return refused(m, 11);
+                return refuse(m, 11);
             }
-            return flight_words(m, up, down);
+            return flight_reply(m, up, down);
         }
-        return refused(m, 10);
+        return refuse(m, 10);
     }
-    refused(m, 0)
+    refuse(m, 0)
 }
 
 // The words of an awaited temperature measurement, T1 to T4.
@@ -228,11 +230,11 @@ pub fn temperature_delivery(m: Model, words: &[u32]) -> Reply
         let k = t.schedule;
         if is_awaited(k) {
             if words.len() == 4 {
-                return temperature_words(m, words);
+                return temperature_reply(m, words);
             }
-            return refused(m, 11);
+            return refuse(m, 11);
         }
-        return refused(m, 10);
+        return refuse(m, 10);
     }
-    refused(m, 0)
+    refuse(m, 0)
 }

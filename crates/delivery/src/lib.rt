@@ -3,9 +3,9 @@ ghost use mathlib.Core.Path.{_≡_};
 ghost use mathlib.Core.Bool.{true};
 ghost use Prim.Native.Nat.{_<_, _*_};
 ghost use Rattle.hit.specs.Words.{sixTotal};
-ghost use Rattle.device.specs.Model.{sound, flightSound, temperatureSound};
-ghost use Rattle.device.specs.Call.{flightFits, flightReply, temperatureReply};
-ghost use Rattle.device.specs.Delivery.{flightMiscounted, flightStatus, temperatureStatus, flightFailed, flightGood, sameCount, temperatureFailed, temperatureGood};
+ghost use Rattle.device.specs.Model.{isSound, flightSound, temperatureSound};
+ghost use Rattle.device.specs.Parts.{flightFits, flightReply, temperatureReply};
+ghost use Rattle.device.specs.Delivery.{flightMiscounted, flightStatus, temperatureStatus, failedFlightModel, goodFlightModel, sameCount, failedTemperatureModel, goodTemperatureModel};
 use device::Answer;
 use device::Flight;
 use device::Model;
@@ -20,12 +20,12 @@ use hit::limit::short_below;
 use hit::words::four_words;
 use hit::words::port_pairs;
 use hit::words::six_words;
+use results::failed_flight;
 use results::good_flight;
 use results::good_sums;
-use results::lose_flight;
-use schedule::settle_one;
+use schedule::settle;
 use status::flight_bits;
-use status::join;
+use status::joined;
 use status::temperature_bits;
 use unit::Quanta;
 use unit::any_of;
@@ -63,18 +63,18 @@ fn flight_status(m: Model, failed: bool) -> Status
     let k = flight.schedule;
     let old = m.status;
     let each = setup::each_interrupt(setup);
-    join(old, flight_bits(k, each, true, failed))
+    joined(old, flight_bits(k, each, true, failed))
 }
 
 // The model after a flight delivery of the right counts.
-fn flight_failed(m: Model) -> Model
+fn failed_flight_model(m: Model) -> Model
     requires { ⌜ flightSound (m .flight) ≡ true ⌝ }
-    ensures { λ r. ⌜ r ≡ flightFailed m ⌝ }
+    ensures { λ r. ⌜ r ≡ failedFlightModel m ⌝ }
 {
     let f = m.flight;
     let k = f.schedule;
-    let settled = settle_one(k, false);
-    let flight = lose_flight(f, settled);
+    let settled = settle(k, false);
+    let flight = failed_flight(f, settled);
     let status = flight_status(m, true);
     let mut next = m;
     next.status = status;
@@ -82,9 +82,9 @@ fn flight_failed(m: Model) -> Model
     next
 }
 
-fn flight_good(m: Model, hits: u32, ups: [u32; 6], downs: [u32; 6]) -> Model
+fn good_flight_model(m: Model, hits: u32, ups: [u32; 6], downs: [u32; 6]) -> Model
     requires { ⌜ (sixTotal ups < hits * 2147483648) × (sixTotal downs < hits * 2147483648) × (flightSound (m .flight) ≡ true) ⌝ }
-    ensures { λ r. ⌜ r ≡ flightGood m hits ups downs ⌝ }
+    ensures { λ r. ⌜ r ≡ goodFlightModel m hits ups downs ⌝ }
 {
     let f = m.flight;
     let flight = good_flight(f, hits, ups, downs);
@@ -103,18 +103,18 @@ fn temperature_status(m: Model, opened: bool) -> Status
     let k = temperature.schedule;
     let old = m.status;
     let each = setup::each_interrupt(setup);
-    join(old, temperature_bits(k, each, true, opened))
+    joined(old, temperature_bits(k, each, true, opened))
 }
 
 // A port is open or short; `opened` says whether one is open.
-fn temperature_failed(m: Model, limit: Quanta, opened: bool, w: [u32; 4]) -> Model
+fn failed_temperature_model(m: Model, limit: Quanta, opened: bool, w: [u32; 4]) -> Model
     requires { ⌜ temperatureSound (m .temperature) ≡ true ⌝ }
-    ensures { λ r. ⌜ r ≡ temperatureFailed m limit opened w ⌝ }
+    ensures { λ r. ⌜ r ≡ failedTemperatureModel m limit opened w ⌝ }
 {
     let t = m.temperature;
     let k = t.schedule;
     let sums = t.sums;
-    let schedule = settle_one(k, false);
+    let schedule = settle(k, false);
     let ports = port_pairs(limit, w);
     let temperature = Temperature {
         schedule,
@@ -128,13 +128,13 @@ fn temperature_failed(m: Model, limit: Quanta, opened: bool, w: [u32; 4]) -> Mod
     next
 }
 
-fn temperature_good(m: Model, w: [u32; 4]) -> Model
+fn good_temperature_model(m: Model, w: [u32; 4]) -> Model
     requires { ⌜ temperatureSound (m .temperature) ≡ true ⌝ }
-    ensures { λ r. ⌜ r ≡ temperatureGood m w ⌝ }
+    ensures { λ r. ⌜ r ≡ goodTemperatureModel m w ⌝ }
 {
     let t = m.temperature;
     let k = t.schedule;
-    let schedule = settle_one(k, true);
+    let schedule = settle(k, true);
     let sums = good_sums(t, w);
     let temperature = Temperature {
         schedule,
@@ -149,28 +149,28 @@ fn temperature_good(m: Model, w: [u32; 4]) -> Model
 }
 
 // A flight delivery of the right counts.
-pub fn flight_words(m: Model, up: &[u32], down: &[u32]) -> Reply
+pub fn flight_reply(m: Model, up: &[u32], down: &[u32]) -> Reply
     requires { ⌜ flightFits m (now up) (now down) ≡ true ⌝ }
     ensures { λ r. ⌜ r ≡ flightReply m (now (up .entry)) (now (down .entry)) ⌝ }
 {
     let setup = m.setup;
-    let limit = late_from(setup::timeout_code(setup));
+    let limit = late_from(setup::timeout(setup));
     if any_from(limit, up) {
-        let model = flight_failed(m);
+        let model = failed_flight_model(m);
         return Reply {
             answer: Answer::Failed,
             model,
         };
     }
     if any_from(limit, down) {
-        let model = flight_failed(m);
+        let model = failed_flight_model(m);
         return Reply {
             answer: Answer::Failed,
             model,
         };
     }
-    let hits = setup::hits(setup);
-    let model = flight_good(m, hits, six_words(up), six_words(down));
+    let hits = setup::hit_count(setup);
+    let model = good_flight_model(m, hits, six_words(up), six_words(down));
     Reply {
         answer: Answer::Good,
         model,
@@ -178,8 +178,8 @@ pub fn flight_words(m: Model, up: &[u32], down: &[u32]) -> Reply
 }
 
 // A temperature delivery of four words.
-pub fn temperature_words(m: Model, words: &[u32]) -> Reply
-    requires { ⌜ sound m ≡ true ⌝ }
+pub fn temperature_reply(m: Model, words: &[u32]) -> Reply
+    requires { ⌜ isSound m ≡ true ⌝ }
     ensures { λ r. ⌜ r ≡ temperatureReply m (now (words .entry)) ⌝ }
 {
     let setup = m.setup;
@@ -187,13 +187,13 @@ pub fn temperature_words(m: Model, words: &[u32]) -> Reply
     let w = four_words(words);
     let opened = any_from(limit, words);
     if any_of(opened, any_below(short_below(), words)) {
-        let model = temperature_failed(m, limit, opened, w);
+        let model = failed_temperature_model(m, limit, opened, w);
         return Reply {
             answer: Answer::Failed,
             model,
         };
     }
-    let model = temperature_good(m, w);
+    let model = good_temperature_model(m, w);
     Reply {
         answer: Answer::Good,
         model,

@@ -15,22 +15,22 @@ use Rattle.device.specs.declared.Temperature.{Temperature}
 use Rattle.device.specs.declared.Model.{Model}
 use Rattle.device.specs.declared.Answer.{Answer}
 use Rattle.device.specs.declared.Answer.the-variants.{Good, Failed}
-use Rattle.device.specs.Event.{awaits, inEvent, startsLeft, begins, beginsGroup, fails, single, leftAfter, waitAfter, startedAfter, settledAfter, goodAfter, tickSchedule, settle, halted}
+use Rattle.device.specs.Event.{isAwaited, inEvent, startsLeft, begins, beginsGroup, fails, startSingle, leftAfter, waitAfter, startedAfter, settledAfter, goodAfter, tickSchedule, settle, haltSchedule}
 use Rattle.device.specs.Status.{noBits}
-use Rattle.device.specs.Model.{kindBusy, busy, withTemperature}
+use Rattle.device.specs.Model.{kindBusy, isBusy, withTemperature}
 use Rattle.device.specs.Registers.{calendarWord}
 use Rattle.device.specs.Write.{ticksAfter, clockAfter, writeInvalid, writeModel}
 use Rattle.device.specs.Tick.{sumsAfter, temperatureAfter, clockTicked, tickModel}
-use Rattle.device.specs.Stretch.{ticked}
-use Rattle.device.specs.Delivery.{flightGood, flightFailed, temperatureGood, temperatureFailed}
-use Rattle.device.specs.Bus.{startsTemperature, isEvent, commandBusy, notReady, commandUnset, temperatureEvent, eventFlight, eventTemperature}
-use Rattle.device.specs.Bus.{startedEvent, initialised, haltedModel, singleStarted, supplied, unsupplied, runModel, readModel}
+use Rattle.device.specs.Stretch.{modelTicked}
+use Rattle.device.specs.Delivery.{goodFlightModel, failedFlightModel, goodTemperatureModel, failedTemperatureModel}
+use Rattle.device.specs.Bus.{startsTemperature, isEvent, commandBusy, beforeInitialize, commandUnset, temperatureEvent, eventFlight, eventTemperature}
+use Rattle.device.specs.Bus.{startedEvent, initialisedModel, haltedModel, singleStarted, supplied, unsupplied, runModel, readModel}
 use Rattle.device.specs.FlashFrame.{flashModel}
 use Rattle.device.specs.Call.{Call, transaction, tick, flight, temperature, stretch, opcode, words, Row, table}
 use Rattle.device.specs.Call.{noFrame, notCarried, wrongLength, pastRegisters, shortOutput, whileBusy, supplyOff, unreachable, unerased}
 use Rattle.device.specs.Call.{badCalendar, notInitialised, badSetup, notAwaited, miscounted, tooLong}
-use Rattle.device.specs.Call.{anyLate, portFault, acceptedAnswer, acceptedModel}
-use Rattle.device.specs.Claim.{differences, startReported, named}
+use Rattle.device.specs.Reply.{anyLate, portFault, acceptedAnswer, acceptedModel}
+use Rattle.device.specs.History.{differences, startReported, named}
 use Rattle.device.specs.Probes.{OtherProbes, same, values, buffer}
 
 -- The count of good temperatures, the sums, the ports and the status.
@@ -56,7 +56,7 @@ blank m =
       clock = m .clock;
       setup = m .setup;
       status = noBits;
-      ready = m .ready;
+      initialised = m .initialised;
       regulator = m .regulator;
       flight = m .flight;
       temperature = unmeasured (m .temperature);
@@ -67,15 +67,15 @@ tick-same : (m : Model) → blank (tickModel m) ≡ blank (tickModel (blank m))
 unfolding blank unmeasured uncounted tickModel clockTicked temperatureAfter tickSchedule leftAfter waitAfter startedAfter settledAfter goodAfter beginsGroup begins startsLeft fails
 tick-same m = by-test (eqb (m .temperature .schedule .left .0) 1) (λ e. rw e) (λ e. rw e)
 
-stretch-same : (n : ℕ) (m : Model) → blank (ticked n m) ≡ blank (ticked n (blank m))
-unfolding ticked
+stretch-same : (n : ℕ) (m : Model) → blank (modelTicked n m) ≡ blank (modelTicked n (blank m))
+unfolding modelTicked
 stretch-same zero m = unfold blank unmeasured uncounted in refl
 stretch-same (suc n) m =
-    tick-same (ticked n m) ∙ ap (λ (p : Model). blank (tickModel p)) (stretch-same n m) ∙
-    sym (tick-same (ticked n (blank m)))
+    tick-same (modelTicked n m) ∙ ap (λ (p : Model). blank (tickModel p)) (stretch-same n m) ∙
+    sym (tick-same (modelTicked n (blank m)))
 
 single-same : (m : Model) (op : ℕ) → blank (singleStarted m op) ≡ blank (singleStarted (blank m) op)
-unfolding blank unmeasured uncounted singleStarted single
+unfolding blank unmeasured uncounted singleStarted startSingle
 single-same m op = by-test (eqb op 3) (λ e. rw e) (λ e. rw e)
 
 event-same : (m : Model) (op : ℕ) → blank (startedEvent m op) ≡ blank (startedEvent (blank m) op)
@@ -87,9 +87,9 @@ unfolding runModel
 command-same m op =
     by-test (eqb op 4) (λ e. rw e)
     (λ e. rw e
-    (by-test (eqb op 5) (λ f. rw f (unfold blank unmeasured uncounted initialised in refl))
+    (by-test (eqb op 5) (λ f. rw f (unfold blank unmeasured uncounted initialisedModel in refl))
     (λ f. rw f
-    (by-test (eqb op 10) (λ g. rw g (unfold blank unmeasured uncounted haltedModel halted in refl))
+    (by-test (eqb op 10) (λ g. rw g (unfold blank unmeasured uncounted haltedModel haltSchedule in refl))
     (λ g. rw g
     (by-test (eqb op 12) (λ i. rw i (unfold blank unmeasured uncounted supplied in refl))
     (λ i. rw i
@@ -127,7 +127,7 @@ transaction-same m f o x =
 flight-same :
     (m : Model) (u d : List ℕ) →
     blank (acceptedModel m (flight u d)) ≡ blank (acceptedModel (blank m) (flight u d))
-unfolding acceptedModel blank unmeasured uncounted flightFailed flightGood anyLate
+unfolding acceptedModel blank unmeasured uncounted failedFlightModel goodFlightModel anyLate
 flight-same m u d = by-test (anyLate m u d) (λ e. rw e) (λ e. rw e)
 
 -- A delivery of temperatures settles one, whatever its words are, and whether they are good or not.
@@ -139,14 +139,14 @@ unfoldable settledOne : Model → Model
 settledOne m =
     blank (withTemperature m (record { schedule = settle (m .temperature .schedule) true; sums = []; ports = [] }))
 
-good-settles : (m : Model) (w : List ℕ) → blank (temperatureGood m w) ≡ settledOne (blank m)
-unfolding temperatureGood settledOne blank unmeasured
+good-settles : (m : Model) (w : List ℕ) → blank (goodTemperatureModel m w) ≡ settledOne (blank m)
+unfolding goodTemperatureModel settledOne blank unmeasured
 good-settles m w = rw (settled-same (m .temperature .schedule) true true)
 
 failed-settles :
     (m : Model) (limit : Quanta) (opened : Bool) (w : List ℕ) →
-    blank (temperatureFailed m limit opened w) ≡ settledOne (blank m)
-unfolding temperatureFailed settledOne blank unmeasured
+    blank (failedTemperatureModel m limit opened w) ≡ settledOne (blank m)
+unfolding failedTemperatureModel settledOne blank unmeasured
 failed-settles m limit opened w = rw (settled-same (m .temperature .schedule) false true)
 
 settles : (m : Model) (w : List ℕ) → blank (acceptedModel m (temperature w)) ≡ settledOne (blank m)
@@ -234,7 +234,7 @@ abbrev pub otherRows : Model → Call → List Row
 otherRows m c = drop 1 (table m c)
 
 rows-same : (m : Model) (c : Call) → otherRows m c ≡ otherRows (blank m) c
-unfolding table whileBusy supplyOff unreachable unerased badCalendar notInitialised badSetup notAwaited miscounted blank unmeasured uncounted commandBusy busy kindBusy awaits inEvent notReady commandUnset writeInvalid ticksAfter calendarWord
+unfolding table whileBusy supplyOff unreachable unerased badCalendar notInitialised badSetup notAwaited miscounted blank unmeasured uncounted commandBusy isBusy kindBusy isAwaited inEvent beforeInitialize commandUnset writeInvalid ticksAfter calendarWord
 rows-same m (transaction f o x) = refl
 rows-same m tick = refl
 rows-same m (flight u d) = refl

@@ -17,16 +17,17 @@ use Rattle.device.specs.declared.Flight.{Flight}
 use Rattle.device.specs.declared.Temperature.{Temperature}
 use Rattle.device.specs.declared.Model.{Model}
 use Rattle.device.specs.declared.Told.the-variants.{Value}
-use Rattle.device.specs.Event.{awaits, beginsGroup, fails as expires, tickSchedule, settledAfter, goodAfter, settle}
+use Rattle.device.specs.Event.{isAwaited, beginsGroup, fails as expires, tickSchedule, settledAfter, goodAfter, settle}
 use Rattle.device.specs.declared.Status.{Status}
 use Rattle.device.specs.Status.{noBits, joined, alarmBit, flightBits, temperatureBits}
-use Rattle.device.specs.Model.{sound}
-use Rattle.device.specs.Tick.{lostDifference, lostFlight, sumAfter, sumsAfter, flightTicked, flightAfter, temperatureAfter, clockTicked, alarmRaised, tickStatus, tickModel}
-use Rattle.device.specs.Delivery.{sameCount, flightMiscounted, flightStatus, flightFailed, temperatureStatus, temperatureFailed}
+use Rattle.device.specs.Model.{isSound}
+use Rattle.device.specs.Tick.{failedDifference, failedFlight, sumAfter, sumsAfter, flightTicked, flightAfter, temperatureAfter, clockTicked, tickRings, tickStatus, tickModel}
+use Rattle.device.specs.Delivery.{sameCount, flightMiscounted, flightStatus, failedFlightModel, temperatureStatus, failedTemperatureModel}
 use Rattle.device.specs.Bus.{flightStarted, flightEvent}
 use Rattle.device.proofs.Sound.{bounds-of, fails-alone}
 use Rattle.device.proofs.StatusMeaning.{kept}
-use Rattle.device.specs.Call.{flight, temperature, refused, verdict, table, firstOf, awaitedTold}
+use Rattle.device.specs.Call.{flight, temperature, refused, verdict, table, firstOf}
+use Rattle.device.specs.Question.{awaitedTold}
 use Rattle.device.specs.Call.{noFrame, notCarried, wrongLength, pastRegisters, shortOutput, whileBusy, supplyOff, unreachable, unerased, badCalendar}
 use Rattle.device.specs.Call.{notInitialised, badSetup, notAwaited, miscounted, tooLong}
 
@@ -67,13 +68,13 @@ event-directions f setup = (refl, refl)
 -- "Awaited is then 1, exactly when number 10 would not be given for it, else 0."
 pub awaited-flight :
     (m : Model) →
-    sound m ≡ true →
+    isSound m ≡ true →
     (u d : List ℕ) →
     (awaitedTold m (m .flight .schedule) ≡ Value 0) ↔ (verdict m (flight u d) ≡ refused 10)
 unfolding awaitedTold verdict table firstOf noFrame notCarried wrongLength pastRegisters shortOutput whileBusy supplyOff unreachable unerased badCalendar notInitialised badSetup notAwaited miscounted tooLong
 awaited-flight m s u d =
     rw s
-    (by-test (awaits (m .flight .schedule))
+    (by-test (isAwaited (m .flight .schedule))
     (λ a. by-test (flightMiscounted (m .flight) (hitCount (m .setup)) (length u) (length d))
     (λ c. rw (a, c) (λ e. let z : _≡_ {A = ℕ} 0 1 = cc in absurd (omega arith), λ e. let z : _≡_ {A = ℕ} 11 10 = cc in absurd (omega arith)))
     (λ c. rw (a, c) (λ e. let z : _≡_ {A = ℕ} 0 1 = cc in absurd (omega arith), λ e. let z : _≡_ {A = ℕ} 0 1 = cc in absurd (omega arith))))
@@ -81,20 +82,20 @@ awaited-flight m s u d =
 
 pub awaited-temperature :
     (m : Model) →
-    sound m ≡ true →
+    isSound m ≡ true →
     (w : List ℕ) →
     (awaitedTold m (m .temperature .schedule) ≡ Value 0) ↔ (verdict m (temperature w) ≡ refused 10)
 unfolding awaitedTold verdict table firstOf noFrame notCarried wrongLength pastRegisters shortOutput whileBusy supplyOff unreachable unerased badCalendar notInitialised badSetup notAwaited miscounted tooLong
 awaited-temperature m s w =
     rw s
-    (by-test (awaits (m .temperature .schedule))
+    (by-test (isAwaited (m .temperature .schedule))
     (λ a. by-test (eqb (length w) 4)
     (λ c. rw (a, c) (λ e. let z : _≡_ {A = ℕ} 0 1 = cc in absurd (omega arith), λ e. let z : _≡_ {A = ℕ} 0 1 = cc in absurd (omega arith)))
     (λ c. rw (a, c) (λ e. let z : _≡_ {A = ℕ} 0 1 = cc in absurd (omega arith), λ e. let z : _≡_ {A = ℕ} 11 10 = cc in absurd (omega arith))))
     (λ a. rw a (λ e. refl, λ e. refl)))
 
-pub awaited-one : (m : Model) (k : Schedule) → sound m ≡ true → (awaitedTold m k ≡ Value 1) ↔ (0 < k .left .0)
-unfolding awaitedTold awaits
+pub awaited-one : (m : Model) (k : Schedule) → isSound m ≡ true → (awaitedTold m k ≡ Value 1) ↔ (0 < k .left .0)
+unfolding awaitedTold isAwaited
 awaited-one m k s =
     rw s
     (by-ltb 0 (k .left .0)
@@ -125,10 +126,10 @@ pub record SameFlight (f g : Flight) : Type 0 where
 
 pub flight-expires :
     (m : Model) →
-    sound m ≡ true →
+    isSound m ≡ true →
     expires (m .flight .schedule) ≡ true →
-    SameFlight (tickModel m .flight) (flightFailed m .flight)
-unfolding tickModel flightAfter flightTicked sumAfter flightFailed lostFlight lostDifference
+    SameFlight (tickModel m .flight) (failedFlightModel m .flight)
+unfolding tickModel flightAfter flightTicked sumAfter failedFlightModel failedFlight failedDifference
 flight-expires m s e =
     let n = fails-alone (m .flight .schedule) (bounds-of m s .flight .schedule) e in
     rw (e, n)
@@ -149,14 +150,14 @@ pub record SameTemperature (f g : Temperature) : Type 0 where
 
 pub temperature-expires :
     (m : Model) (limit : Quanta) (w : List ℕ) →
-    sound m ≡ true →
+    isSound m ≡ true →
     limit .0 ≤ getD w 0 0 →
     limit .0 ≤ getD w 1 0 →
     limit .0 ≤ getD w 2 0 →
     limit .0 ≤ getD w 3 0 →
     expires (m .temperature .schedule) ≡ true →
-    SameTemperature (tickModel m .temperature) (temperatureFailed m limit true w .temperature)
-unfolding tickModel temperatureAfter sumsAfter temperatureFailed
+    SameTemperature (tickModel m .temperature) (failedTemperatureModel m limit true w .temperature)
+unfolding tickModel temperatureAfter sumsAfter failedTemperatureModel
 temperature-expires m limit w s h i j k e =
     let n = fails-alone (m .temperature .schedule) (bounds-of m s .temperature .schedule) e in
     rw (e, n)
@@ -176,18 +177,18 @@ pub no-alarm : (s : Status) → joined s (alarmBit false) ≡ s
 unfolding joined alarmBit
 no-alarm s = simp kept
 
-module _ (m : Model) (a : alarmRaised m (clockTicked m) ≡ false) where
+module _ (m : Model) (a : tickRings m (clockTicked m) ≡ false) where
   pub flight-expiry-bits :
       expires (m .flight .schedule) ≡ true →
       expires (m .temperature .schedule) ≡ false →
-      tickModel m .status ≡ flightFailed m .status
-  unfolding tickModel tickStatus flightFailed flightStatus temperatureBits
+      tickModel m .status ≡ failedFlightModel m .status
+  unfolding tickModel tickStatus failedFlightModel flightStatus temperatureBits
   flight-expiry-bits e f = rw (a, e, f) (simp (no-alarm, no-bits))
 
   pub temperature-expiry-bits :
       (limit : Quanta) (w : List ℕ) →
       expires (m .temperature .schedule) ≡ true →
       expires (m .flight .schedule) ≡ false →
-      tickModel m .status ≡ temperatureFailed m limit true w .status
-  unfolding tickModel tickStatus temperatureFailed temperatureStatus flightBits
+      tickModel m .status ≡ failedTemperatureModel m limit true w .status
+  unfolding tickModel tickStatus failedTemperatureModel temperatureStatus flightBits
   temperature-expiry-bits limit w e f = rw (a, e, f) (simp (no-alarm, no-bits))

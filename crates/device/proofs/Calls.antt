@@ -8,28 +8,31 @@ use lib.Dec.{ltb, leb}
 use borrow.Author.Tests.{ltb-false, lt-ltb, le-ltb}
 use Rattle.unit.specs.Choice.{pick, either}
 use Rattle.unit.specs.Cases.{by-test}
-use Rattle.calendar.specs.Moment.{afterTicks}
+use Rattle.calendar.specs.Bounds.{afterTicks}
 use Rattle.setup.specs.Setup.{clockStands, hitCount, portCycle}
 use Rattle.frame.specs.Frame.{isCommand, isWrite, isRead, isFlash}
 use Rattle.frame.proofs.Laws.{read-alone}
 use Rattle.hit.specs.Limit.{openFrom}
-use Rattle.hit.specs.Words.{six, four}
+use Rattle.hit.specs.Words.{sixWords, fourWords}
 use Rattle.device.specs.declared.Status.{Status}
 use Rattle.device.specs.declared.Model.{Model}
 use Rattle.device.specs.declared.Reply.{Reply}
 use Rattle.device.specs.declared.Answer.the-variants.{Ticked, Stretched, Good, Failed}
 use Rattle.device.specs.Status.{noBits}
-use Rattle.device.specs.Model.{sound, withStatus}
+use Rattle.device.specs.Model.{isSound, withStatus}
 use Rattle.device.specs.Tick.{clockTicked, tickModel, reportOf}
-use Rattle.device.specs.Stretch.{ticked, stretchReport}
-use Rattle.device.specs.Delivery.{flightGood, flightFailed, temperatureGood, temperatureFailed}
+use Rattle.device.specs.Stretch.{modelTicked, stretchReport}
+use Rattle.device.specs.Delivery.{goodFlightModel, failedFlightModel, goodTemperatureModel, failedTemperatureModel}
 use Rattle.device.specs.Bus.{readModel}
 use Rattle.device.specs.Call.{Call, transaction, tick, flight, temperature, stretch, opcode, words}
 use Rattle.device.specs.Call.{noFrame, notCarried, wrongLength, pastRegisters, shortOutput, whileBusy, supplyOff, unreachable, unerased}
 use Rattle.device.specs.Call.{badCalendar, notInitialised, badSetup, notAwaited, miscounted, tooLong}
-use Rattle.device.specs.Call.{table, Verdict, accepted, refused, firstOf, verdict, anyLate, anyOpen, portFault}
-use Rattle.device.specs.Call.{acceptedAnswer, acceptedModel, refuse, accept, replyBy, reply}
-use Rattle.device.specs.Claim.{isRefusal, isReading, isTick, spanOf, stretchIn, ticksIn}
+use Rattle.device.specs.Call.{table, Verdict, accepted, refused, firstOf, verdict}
+use Rattle.device.specs.Reply.{anyLate, anyOpen, portFault}
+use Rattle.device.specs.Reply.{acceptedAnswer, acceptedModel, refuse, replyBy, reply}
+use Rattle.device.specs.Parts.{accept}
+use Rattle.device.specs.History.{isRefusal, mayFollow, isTick, spanOf, stretchIn}
+use Rattle.device.specs.Claim.{ticksIn}
 use Rattle.device.proofs.Table.{NoneHolds, none-holds}
 use Rattle.device.proofs.Stretch.{setup-ticked, clock-ticked}
 
@@ -47,30 +50,30 @@ pub data Step (m : Model) : Call → Reply → Type 0 where
       (u d : List ℕ) →
       NoneHolds m (flight u d) →
       anyLate m u d ≡ true →
-      Step m (flight u d) (record { answer = Failed; model = flightFailed m })
+      Step m (flight u d) (record { answer = Failed; model = failedFlightModel m })
   flight-good :
       (u d : List ℕ) →
       NoneHolds m (flight u d) →
       anyLate m u d ≡ false →
-      Step m (flight u d) (record { answer = Good; model = flightGood m (hitCount (m .setup)) (six u) (six d) })
+      Step m (flight u d) (record { answer = Good; model = goodFlightModel m (hitCount (m .setup)) (sixWords u) (sixWords d) })
   ports-failed :
       (w : List ℕ) →
       NoneHolds m (temperature w) →
       portFault m w ≡ true →
       Step m (temperature w)
-      (record { answer = Failed; model = temperatureFailed m (openFrom (portCycle (m .setup))) (anyOpen m w) (four w) })
+      (record { answer = Failed; model = failedTemperatureModel m (openFrom (portCycle (m .setup))) (anyOpen m w) (fourWords w) })
   ports-good :
       (w : List ℕ) →
       NoneHolds m (temperature w) →
       portFault m w ≡ false →
-      Step m (temperature w) (record { answer = Good; model = temperatureGood m (four w) })
+      Step m (temperature w) (record { answer = Good; model = goodTemperatureModel m (fourWords w) })
   stretching :
       (n : ℕ) →
       n ≤ 16384 →
       Step m (stretch n)
       (record {
         answer = Stretched (stretchReport (m .flight .schedule) n) (stretchReport (m .temperature .schedule) n);
-        model = ticked n m;
+        model = modelTicked n m;
       })
 
 -- an accepted transaction is no refusal
@@ -92,9 +95,9 @@ read-step m f o x =
 accepted-step :
     (m : Model) (c : Call) →
     NoneHolds m c →
-    either (isRefusal (acceptedAnswer m c)) (isReading c) ≡ true →
+    either (isRefusal (acceptedAnswer m c)) (mayFollow c) ≡ true →
     Step m c (record { answer = acceptedAnswer m c; model = acceptedModel m c })
-unfolding acceptedAnswer acceptedModel isReading tooLong
+unfolding acceptedAnswer acceptedModel mayFollow tooLong
 accepted-step m (transaction f o x) n p =
     let (c, w, u) = read-alone (opcode f) (rw (no-refusal m f o x) at p) in rw (c, w, u) (read-step m f o x)
 accepted-step m tick n p = ticking
@@ -105,11 +108,11 @@ accepted-step m (temperature w) n p =
 accepted-step m (stretch k) n p = stretching k (ltb-false 16384 k (n .row12))
 
 -- a sound model refuses no tick
-tick-accepted : (m : Model) → sound m ≡ true → verdict m tick ≡ accepted
+tick-accepted : (m : Model) → isSound m ≡ true → verdict m tick ≡ accepted
 unfolding verdict firstOf table noFrame notCarried wrongLength pastRegisters shortOutput whileBusy supplyOff unreachable unerased badCalendar notInitialised badSetup notAwaited miscounted tooLong
 tick-accepted m v = rw v
 
-refused-other : (m : Model) (c : Call) (n : ℕ) → sound m ≡ true → verdict m c ≡ refused n → isTick c ≡ false
+refused-other : (m : Model) (c : Call) (n : ℕ) → isSound m ≡ true → verdict m c ≡ refused n → isTick c ≡ false
 unfolding isTick
 refused-other m (transaction f o x) n v e = refl
 refused-other m tick n v e = cc (tick-accepted m v)
@@ -119,8 +122,8 @@ refused-other m (stretch k) n v e = refl
 
 pub stepped :
     (m : Model) (c : Call) →
-    sound m ≡ true →
-    either (isRefusal (reply m c .answer)) (isReading c) ≡ true →
+    isSound m ≡ true →
+    either (isRefusal (reply m c .answer)) (mayFollow c) ≡ true →
     Step m c (reply m c)
 unfolding reply replyBy
 stepped m c v = go (verdict m c) refl
@@ -128,14 +131,14 @@ stepped m c v = go (verdict m c) refl
     go :
         (t : Verdict) →
         verdict m c ≡ t →
-        either (isRefusal (replyBy t m c .answer)) (isReading c) ≡ true →
+        either (isRefusal (replyBy t m c .answer)) (mayFollow c) ≡ true →
         Step m c (replyBy t m c)
     go accepted e p = accepted-step m c (none-holds m c e) p
     go (refused n) e p = refusal c n (refused-other m c n v e)
 
 -- no such call changes the set-up, and only ticks move the clock
 pub setup-kept : (m : Model) {c : Call} {r : Reply} → Step m c r → r .model .setup ≡ m .setup
-unfolding tickModel flightFailed flightGood temperatureFailed temperatureGood
+unfolding tickModel failedFlightModel goodFlightModel failedTemperatureModel goodTemperatureModel
 setup-kept m (refusal c n t) = refl
 setup-kept m (reading f o x s) = refl
 setup-kept m ticking = refl
@@ -150,7 +153,7 @@ pub clock-step :
     Step m c r →
     clockStands (m .setup) ≡ false →
     r .model .clock ≡ afterTicks (ticksIn (record { call = c; answer = r .answer })) (m .clock)
-unfolding tickModel clockTicked flightFailed flightGood temperatureFailed temperatureGood isTick ticksIn stretchIn spanOf isRefusal afterTicks
+unfolding tickModel clockTicked failedFlightModel goodFlightModel failedTemperatureModel goodTemperatureModel isTick ticksIn stretchIn spanOf isRefusal afterTicks
 clock-step m (refusal c n t) e = rw t
 clock-step m (reading f o x s) e = refl
 clock-step m ticking e = rw e

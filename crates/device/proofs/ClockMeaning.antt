@@ -15,8 +15,8 @@ use Rattle.calendar.proofs.AlarmModes.{AlarmTime, mode-00, mode-01, mode-10, mo
 use Rattle.setup.specs.Setup.{wordOf, clockStands, alarmWord, alarmMode}
 use Rattle.device.specs.declared.Model.{Model}
 use Rattle.device.specs.Registers.{calendarWord, registerWord}
-use Rattle.device.specs.Tick.{clockTicked, alarmRaised, tickModel}
-use Rattle.device.specs.Stretch.{ticked}
+use Rattle.device.specs.Tick.{clockTicked, tickRings, tickModel}
+use Rattle.device.specs.Stretch.{modelTicked}
 use Rattle.device.proofs.StatusMeaning.{kept, alarm-set}
 use Rattle.device.proofs.Stretch.{setup-ticked, clock-ticked}
 
@@ -37,8 +37,8 @@ module _ (m : Model) (clear : m .status .alarm ≡ false) where
   by-rings :
       (tickModel m) .status .alarm
       ≡ alarmRings (m .clock) ((tickModel m) .clock) (wordOf (m .setup) 0x35) (modeOf m)
-  unfolding alarmRaised alarmWord alarmMode
-  by-rings = alarm-set m ∙ ap (λ b. either b (alarmRaised m ((tickModel m) .clock))) clear
+  unfolding tickRings alarmWord alarmMode
+  by-rings = alarm-set m ∙ ap (λ b. either b (tickRings m ((tickModel m) .clock))) clear
 
   -- 00b is none of "01b .., 10b .., 11b": no tick sets AF
   pub alarm-00 : modeOf m ≡ 0 → (tickModel m) .status .alarm ≡ false
@@ -70,29 +70,29 @@ module _ (m : Model) (clear : m .status .alarm ≡ false) where
 
 -- "The clock stands while EOSC (bit 4 of 43h) is 1": over any number of ticks the clock stays, AF too, and B0h to B3h read the same
 module _ (m : Model) (e : eoscOf m ≡ 1) where
-  pub clock-stands : (n : ℕ) → (ticked n m) .clock ≡ m .clock
-  unfolding ticked tickModel clockTicked clockStands
+  pub clock-stands : (n : ℕ) → (modelTicked n m) .clock ≡ m .clock
+  unfolding modelTicked tickModel clockTicked clockStands
   clock-stands zero = refl
   clock-stands (suc n) = rw (setup-ticked n m, e) (clock-stands n)
 
   pub reads-stand :
       (n : ℕ) →
-      map (registerWord (ticked n m)) (0xB0 ∷ 0xB1 ∷ 0xB2 ∷ 0xB3 ∷ [])
+      map (registerWord (modelTicked n m)) (0xB0 ∷ 0xB1 ∷ 0xB2 ∷ 0xB3 ∷ [])
       ≡ map (registerWord m) (0xB0 ∷ 0xB1 ∷ 0xB2 ∷ 0xB3 ∷ [])
   unfolding registerWord calendarWord
   reads-stand n = rw (clock-stands n)
 
-  tick-stands : (n : ℕ) → (tickModel (ticked n m)) .clock ≡ (ticked n m) .clock
+  tick-stands : (n : ℕ) → (tickModel (modelTicked n m)) .clock ≡ (modelTicked n m) .clock
   unfolding tickModel clockTicked clockStands
   tick-stands n = rw (setup-ticked n m, e)
 
-  pub alarm-stands : (n : ℕ) → (ticked n m) .status .alarm ≡ m .status .alarm
-  unfolding ticked alarmRaised
+  pub alarm-stands : (n : ℕ) → (modelTicked n m) .status .alarm ≡ m .status .alarm
+  unfolding modelTicked tickRings
   alarm-stands zero = refl
   alarm-stands (suc n) =
-      alarm-set (ticked n m)
-      ∙ rw (tick-stands n, same-time ((ticked n m) .clock) ((ticked n m) .clock) _ _ refl refl)
-      (kept ((ticked n m) .status .alarm) ∙ alarm-stands n)
+      alarm-set (modelTicked n m)
+      ∙ rw (tick-stands n, same-time ((modelTicked n m) .clock) ((modelTicked n m) .clock) _ _ refl refl)
+      (kept ((modelTicked n m) .status .alarm) ∙ alarm-stands n)
 
 -- and while it is 0 each tick moves the moment by one, "compared modulo 36,525 days"
 pub clock-moves :
@@ -100,7 +100,7 @@ pub clock-moves :
     clockValid (m .clock) ≡ true →
     eoscOf m ≡ 0 →
     (n : ℕ) →
-    moment ((ticked n m) .clock) ≡ (moment (m .clock) + n) % (36525 * 86400 * 32768)
+    moment ((modelTicked n m) .clock) ≡ (moment (m .clock) + n) % (36525 * 86400 * 32768)
 unfolding clockStands
 clock-moves m v e n =
     rw (clock-ticked n m (rw (ne-eqb (eoscOf m) 1 (omega arith)))) (after-moment n (m .clock) v)

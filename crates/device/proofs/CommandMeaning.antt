@@ -6,15 +6,15 @@ use Rattle.unit.specs.Cases.{by-test}
 use Rattle.setup.specs.Setup.{differencePeriod, differenceCount, temperaturePeriod, temperatureCount, eventContinuous}
 use Rattle.hit.specs.Difference.{differenceMean, portMean}
 use Rattle.device.specs.declared.Model.{Model}
-use Rattle.device.specs.Event.{single, eventStart}
+use Rattle.device.specs.Event.{startSingle, startEvent}
 use Rattle.device.specs.Model.{resetModel, withFlight}
 use Rattle.device.specs.Registers.{half, flightWord, temperatureWord, registerWord, upwards}
 use Rattle.device.specs.Bus.{startsFlight, startsTemperature, isEvent, flightStarted, flightEvent, temperatureEvent}
-use Rattle.device.specs.Bus.{eventFlight, eventTemperature, startedEvent, initialised, haltedModel, singleStarted, runModel}
+use Rattle.device.specs.Bus.{eventFlight, eventTemperature, startedEvent, initialisedModel, haltedModel, singleStarted, runModel}
 
 module _ (m : Model) where
   -- "04h Reset", "05h Initialize", "0Ah HALT"
-  pub run-others : (runModel m 4 ≡ resetModel) × (runModel m 5 ≡ initialised m) × (runModel m 10 ≡ haltedModel m)
+  pub run-others : (runModel m 4 ≡ resetModel) × (runModel m 5 ≡ initialisedModel m) × (runModel m 10 ≡ haltedModel m)
   unfolding runModel
   run-others = (refl, refl, refl)
 
@@ -30,14 +30,14 @@ module _ (m : Model) where
 
   -- "Temperature (03h) a temperature one"
   pub run-temperature :
-      (runModel m 3 .temperature .schedule ≡ single (m .temperature .schedule)) ×
+      (runModel m 3 .temperature .schedule ≡ startSingle (m .temperature .schedule)) ×
       (runModel m 3 .temperature .sums ≡ m .temperature .sums) ×
       (runModel m 3 .temperature .ports ≡ m .temperature .ports) ×
       (runModel m 3 .flight ≡ m .flight) ×
       (runModel m 3 .clock ≡ m .clock) ×
       (runModel m 3 .setup ≡ m .setup) ×
       (runModel m 3 .status ≡ m .status) ×
-      (runModel m 3 .ready ≡ m .ready) ×
+      (runModel m 3 .initialised ≡ m .initialised) ×
       (runModel m 3 .regulator ≡ m .regulator)
   unfolding runModel isEvent singleStarted
   run-temperature = (refl, refl, refl, refl, refl, refl, refl, refl, refl)
@@ -45,8 +45,8 @@ module _ (m : Model) where
   -- "07h runs both kinds, 08h differences, 09h temperatures.", with P and N of the set-up
   pub runs-differences :
       map (λ (op : ℕ). runModel m op .flight .schedule) (7 ∷ 8 ∷ 9 ∷ [])
-      ≡ eventStart (differencePeriod (m .setup)) (differenceCount (m .setup)) (eventContinuous (m .setup)) ∷
-      eventStart (differencePeriod (m .setup)) (differenceCount (m .setup)) (eventContinuous (m .setup)) ∷
+      ≡ startEvent (differencePeriod (m .setup)) (differenceCount (m .setup)) (eventContinuous (m .setup)) ∷
+      startEvent (differencePeriod (m .setup)) (differenceCount (m .setup)) (eventContinuous (m .setup)) ∷
       m .flight .schedule ∷
       []
   unfolding runModel isEvent startedEvent eventFlight startsFlight flightEvent
@@ -54,9 +54,9 @@ module _ (m : Model) where
 
   pub runs-temperatures :
       map (λ (op : ℕ). runModel m op .temperature .schedule) (7 ∷ 8 ∷ 9 ∷ [])
-      ≡ eventStart (temperaturePeriod (m .setup)) (temperatureCount (m .setup)) (eventContinuous (m .setup)) ∷
+      ≡ startEvent (temperaturePeriod (m .setup)) (temperatureCount (m .setup)) (eventContinuous (m .setup)) ∷
       m .temperature .schedule ∷
-      eventStart (temperaturePeriod (m .setup)) (temperatureCount (m .setup)) (eventContinuous (m .setup)) ∷
+      startEvent (temperaturePeriod (m .setup)) (temperatureCount (m .setup)) (eventContinuous (m .setup)) ∷
       []
   unfolding runModel isEvent startedEvent eventTemperature startsTemperature temperatureEvent
   runs-temperatures = refl
@@ -66,14 +66,14 @@ module _ (m : Model) where
       (map (registerWord (runModel m 7)) (upwards 0xE4 3) ≡ 0 ∷ 0 ∷ 0 ∷ []) ×
       (map (registerWord (runModel m 8)) (upwards 0xE4 3) ≡ 0 ∷ 0 ∷ 0 ∷ []) ×
       (map (registerWord (runModel m 9)) (upwards 0xE4 3) ≡ map (registerWord m) (upwards 0xE4 3))
-  unfolding runModel isEvent startedEvent eventFlight startsFlight flightEvent eventStart registerWord flightWord half differenceMean
+  unfolding runModel isEvent startedEvent eventFlight startsFlight flightEvent startEvent registerWord flightWord half differenceMean
   zeroed-differences = (refl, refl, refl)
 
   pub zeroed-temperatures :
       (map (registerWord (runModel m 7)) (upwards 0xEF 9) ≡ 0 ∷ 0 ∷ 0 ∷ 0 ∷ 0 ∷ 0 ∷ 0 ∷ 0 ∷ 0 ∷ []) ×
       (map (registerWord (runModel m 8)) (upwards 0xEF 9) ≡ map (registerWord m) (upwards 0xEF 9)) ×
       (map (registerWord (runModel m 9)) (upwards 0xEF 9) ≡ 0 ∷ 0 ∷ 0 ∷ 0 ∷ 0 ∷ 0 ∷ 0 ∷ 0 ∷ 0 ∷ [])
-  unfolding runModel isEvent startedEvent eventTemperature startsTemperature temperatureEvent eventStart registerWord temperatureWord half portMean
+  unfolding runModel isEvent startedEvent eventTemperature startsTemperature temperatureEvent startEvent registerWord temperatureWord half portMean
   zeroed-temperatures = (refl, refl, refl)
 
   -- an event's start leaves the results of single measurements

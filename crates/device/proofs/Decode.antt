@@ -10,19 +10,22 @@ use lib.Dec.{ltb, leb, eqb}
 use borrow.Author.Tests.{ltb-false, le-leb, leb-true, eqb-true, eq-eqb, ne-eqb}
 use Rattle.unit.specs.Choice.{pick, both}
 use Rattle.unit.specs.Cases.{by-test}
-use Rattle.frame.specs.Frame.{isCommand, isWrite, isRead, isFlash, flashFurther, notWhole, pastEnd, writeFrame, readFrame, flashFrame, decodeFrame}
+use Rattle.frame.specs.Frame.{isCommand, isWrite, isRead, isFlash, flashFurther, notWhole, pastEnd}
+use Rattle.frame.specs.Decoding.{writeFrame, readFrame, flashFrame, decodeFrame}
 use Rattle.frame.specs.declared.Decoded.{Decoded}
 use Rattle.frame.specs.declared.Decoded.the-variants.{Command, Read, Write, Flash, Refusal}
 use Rattle.frame.proofs.Laws.{write-means, read-means, whole-means, end-means}
 use Rattle.device.specs.declared.Model.{Model}
 use Rattle.device.specs.declared.Reply.{Reply}
-use Rattle.device.specs.Model.{sound, busy}
+use Rattle.device.specs.Model.{isSound, isBusy}
 use Rattle.device.specs.Write.{writeInvalid}
-use Rattle.device.specs.Bus.{commandBusy, notReady, commandUnset}
-use Rattle.device.specs.Call.{Call, transaction, opcode, further, words, refuse, bufferOf, memoryOf, reply, replyBy, output, outputBy, memory, memoryBy, verdict, table, firstOf}
+use Rattle.device.specs.Bus.{commandBusy, beforeInitialize, commandUnset}
+use Rattle.device.specs.Call.{Call, transaction, opcode, further, words, verdict, table, firstOf}
+use Rattle.device.specs.Reply.{refuse, bufferOf, memoryOf, reply, replyBy, output, outputBy, memory, memoryBy}
 use Rattle.device.specs.Call.{noFrame, notCarried, wrongLength, pastRegisters, shortOutput, whileBusy, supplyOff, unreachable, unerased, badCalendar, notInitialised, badSetup, notAwaited, miscounted, tooLong}
-use Rattle.device.specs.Call.{acceptedAnswer, acceptedModel, acceptedOutput, acceptedMemory, commandReply, writeReply, readReply, readOutput, readFits, frameFits}
-use Rattle.device.specs.Call.{eraseReply, eraseLeft, programReply, programLeft, loadReply, loadOut, flashReply, flashOut, flashLeft, flashFits, flashFrameReply, flashFrameOutput, flashFrameMemory, wordsReply}
+use Rattle.device.specs.Reply.{acceptedAnswer, acceptedModel, acceptedOutput, acceptedMemory}
+use Rattle.device.specs.Parts.{commandReply, writeReply, readReply, readOutput, readFits, frameFits}
+use Rattle.device.specs.Parts.{eraseReply, eraseLeft, programReply, programLeft, loadReply, loadOut, flashReply, flashOut, flashLeft, flashFits, flashFrameReply, flashFrameOutput, flashFrameMemory, wordsReply}
 use Rattle.flash.specs.Flash.{addressRefused, eraseRefused, notErased}
 use Rattle.device.specs.FlashFrame.{flashAddress, flashUnreachable, flashUnerased, flashModel, flashOutput, flashMemory}
 use Rattle.device.proofs.Table.{picked}
@@ -181,14 +184,14 @@ Answers m f o x d =
     (flashFrameOutput m (drop 1 f) o x d ≡ output m (transaction f o x)) ×
     (flashFrameMemory m (drop 1 f) x d ≡ memory m (transaction f o x))
 
-module _ (m : Model) (f o x : List ℕ) (s : sound m ≡ true) (z : eqb (length f) 0 ≡ false) where
+module _ (m : Model) (f o x : List ℕ) (s : isSound m ≡ true) (z : eqb (length f) 0 ≡ false) where
   command-answers : isCommand (opcode f) ≡ true → Answers m f o x (decodeFrame f (length o))
   unfolding replyOf decodeFrame reply replyBy output outputBy bufferOf memory memoryBy memoryOf verdict table firstOf noFrame notCarried wrongLength pastRegisters shortOutput whileBusy supplyOff unreachable unerased badCalendar notInitialised badSetup notAwaited miscounted tooLong acceptedAnswer acceptedModel acceptedOutput acceptedMemory commandReply wordsReply flashFrameReply flashFrameOutput flashFrameMemory readReply readOutput
   command-answers c =
       by-test (eqb (further f) 0)
       (λ l. by-test (commandBusy m (opcode f))
       (λ b. simp (s, z, c, l, b) (refl, refl, refl))
-      (λ b. by-test (notReady m (opcode f))
+      (λ b. by-test (beforeInitialize m (opcode f))
       (λ r. simp (s, z, c, l, b, r) (refl, refl, refl))
       (λ r. by-test (commandUnset m (opcode f))
       (λ u. simp (s, z, c, l, b, r, u) (refl, refl, refl))
@@ -203,7 +206,7 @@ module _ (m : Model) (f o x : List ℕ) (s : sound m ≡ true) (z : eqb (length 
         (λ l. simp (s, z, c, w, l) (refl, refl, refl))
         (λ l. by-test (pastEnd (opcode f) (words f) 0x44)
         (λ p. simp (s, z, c, w, l, p) (refl, refl, refl))
-        (λ p. by-test (busy m)
+        (λ p. by-test (isBusy m)
         (λ b. simp (s, z, c, w, l, p, b) (refl, refl, refl))
         (λ b. by-test (writeInvalid (drop 1 f) (opcode f) (words f) m)
         (λ v. simp (s, z, c, w, l, p, b, v) (refl, refl, refl))
@@ -232,7 +235,7 @@ module _ (m : Model) (f o x : List ℕ) (s : sound m ≡ true) (z : eqb (length 
             Answers m f o x (decodeFrame f (length o))
         unfolding replyOf reply replyBy output outputBy bufferOf memory memoryBy memoryOf verdict table firstOf noFrame notCarried wrongLength pastRegisters shortOutput whileBusy supplyOff unreachable unerased badCalendar notInitialised badSetup notAwaited miscounted tooLong acceptedAnswer acceptedModel acceptedOutput acceptedMemory wordsReply flashFrameReply flashFrameOutput flashFrameMemory flashReply eraseReply eraseLeft programReply programLeft loadReply loadOut flashOut flashLeft flashUnreachable flashUnerased flashModel flashOutput flashMemory
         flash-answers l t d =
-            by-test (busy m)
+            by-test (isBusy m)
             (λ b. simp (s, z, c, w, u, l, t, d, b) (refl, refl, refl))
             (λ b. by-test (m .regulator)
             (λ g. by-test (eqb (opcode f) 0x13)
@@ -281,11 +284,11 @@ module _ (m : Model) (f o x : List ℕ) (s : sound m ≡ true) (z : eqb (length 
         unfolding replyOf decodeFrame flashFrame reply replyBy output outputBy bufferOf memory memoryBy memoryOf verdict table firstOf noFrame notCarried wrongLength wordsReply flashFrameReply flashFrameOutput flashFrameMemory readReply readOutput
         long-answers l = simp (s, z, c, w, u, l) (refl, refl, refl)
 
-no-bytes : (m : Model) (f o x : List ℕ) → sound m ≡ true → eqb (length f) 0 ≡ true → Answers m f o x (decodeFrame f (length o))
+no-bytes : (m : Model) (f o x : List ℕ) → isSound m ≡ true → eqb (length f) 0 ≡ true → Answers m f o x (decodeFrame f (length o))
 unfolding replyOf decodeFrame reply replyBy output outputBy bufferOf memory memoryBy memoryOf verdict table firstOf noFrame wordsReply flashFrameReply flashFrameOutput flashFrameMemory readReply readOutput
 no-bytes m f o x s z = simp (s, z) (refl, refl, refl)
 
-pub answers : (m : Model) (f o x : List ℕ) → sound m ≡ true → Answers m f o x (decodeFrame f (length o))
+pub answers : (m : Model) (f o x : List ℕ) → isSound m ≡ true → Answers m f o x (decodeFrame f (length o))
 answers m f o x s =
     by-test (eqb (length f) 0) (no-bytes m f o x s)
     (λ z. by-test (isCommand (opcode f)) (command-answers m f o x s z)
@@ -298,7 +301,7 @@ answers m f o x s =
     (read-answers m f o x s z c w))))
 
 -- The reply, the output and the memory of a sound model: of no bytes, of a command, and of any other frame.
-module _ (m : Model) (f o x : List ℕ) (s : sound m ≡ true) where
+module _ (m : Model) (f o x : List ℕ) (s : isSound m ≡ true) where
   pub reply-empty :
       length f ≡ 0 →
       (refuse 1 m ≡ reply m (transaction f o x)) ×
@@ -340,7 +343,7 @@ module _ (m : Model) (f o x : List ℕ) (s : sound m ≡ true) where
 -- "a call of any sort is handed a model that isn't sound"
 pub reply-unsound :
     (m : Model) (c : Call) →
-    sound m ≡ false →
+    isSound m ≡ false →
     (refuse 0 m ≡ reply m c) × (bufferOf c ≡ output m c) × (memoryOf c ≡ memory m c)
 unfolding reply replyBy output outputBy memory memoryBy verdict table firstOf
 reply-unsound m c s = rw s (refl, refl, refl)

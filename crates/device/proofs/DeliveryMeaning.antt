@@ -13,19 +13,20 @@ use Rattle.setup.specs.Setup.{portCycle}
 use Rattle.hit.specs.Limit.{openFrom, shortBelow, anyBelow, anyFault}
 use Rattle.hit.specs.Difference.{differenceWord}
 use Rattle.hit.specs.Mean.{sum}
-use Rattle.hit.specs.Words.{wordOrZero, six, four, average, filled, lost, portPair, portPairs}
+use Rattle.hit.specs.Words.{wordOrZero, sixWords, fourWords, average, filled, failedPairs, portPair, portPairs}
 use Rattle.hit.proofs.Sum.{six-total, neither}
 use Rattle.hit.proofs.Ports.{port-open, port-short, port-whole}
 use Rattle.hit.proofs.Meaning.{short-not-open, whole-means}
 use Rattle.device.specs.declared.Flight.{Flight}
 use Rattle.device.specs.declared.Model.{Model}
 use Rattle.device.specs.Registers.{half, flightWord, registerWord, upwards}
-use Rattle.device.specs.Tick.{lostDifference, lostFlight}
+use Rattle.device.specs.Tick.{failedDifference, failedFlight}
 use Rattle.device.specs.declared.Answer.the-variants.{Good}
 use Rattle.device.specs.Event.{settle}
 use Rattle.device.specs.Status.{joined, temperatureBits}
-use Rattle.device.specs.Delivery.{goodDifference, goodFlight, flightFailed, temperatureStatus, temperatureGood, temperatureFailed}
-use Rattle.device.specs.Call.{temperature, miscounted, anyOpen, portFault, acceptedAnswer, acceptedModel}
+use Rattle.device.specs.Delivery.{goodDifference, goodFlight, failedFlightModel, temperatureStatus, goodTemperatureModel, failedTemperatureModel}
+use Rattle.device.specs.Call.{temperature, miscounted}
+use Rattle.device.specs.Reply.{anyOpen, portFault, acceptedAnswer, acceptedModel}
 use Rattle.device.specs.Claim.{Holds, Whole}
 use Rattle.device.proofs.Sound.{ports-good}
 use Rattle.device.proofs.RegisterMeaning.{reads-ports}
@@ -35,8 +36,8 @@ unfolding wordOrZero
 word-or-zero ws i =
     by-ltb i (length ws) (λ h e. rw e) (λ h e. rw e (sym (List·getD-eq-default ws 0 h)))
 
-pub six-means : (ws : List ℕ) (i : ℕ) → i < 6 → getD (six ws) i 0 ≡ getD ws i 0
-unfolding six
+pub six-means : (ws : List ℕ) (i : ℕ) → i < 6 → getD (sixWords ws) i 0 ≡ getD ws i 0
+unfolding sixWords
 six-means ws zero h = word-or-zero ws 0
 six-means ws (suc zero) h = word-or-zero ws 1
 six-means ws (suc (suc zero)) h = word-or-zero ws 2
@@ -45,8 +46,8 @@ six-means ws (suc (suc (suc (suc zero)))) h = word-or-zero ws 4
 six-means ws (suc (suc (suc (suc (suc zero))))) h = word-or-zero ws 5
 six-means ws (suc (suc (suc (suc (suc (suc i)))))) h = absurd (omega arith)
 
-pub four-means : (ws : List ℕ) (i : ℕ) → i < 4 → getD (four ws) i 0 ≡ getD ws i 0
-unfolding four
+pub four-means : (ws : List ℕ) (i : ℕ) → i < 4 → getD (fourWords ws) i 0 ≡ getD ws i 0
+unfolding fourWords
 four-means ws zero h = word-or-zero ws 0
 four-means ws (suc zero) h = word-or-zero ws 1
 four-means ws (suc (suc zero)) h = word-or-zero ws 2
@@ -57,7 +58,7 @@ four-means ws (suc (suc (suc (suc i)))) h = absurd (omega arith)
 filled-means :
     (ws : List ℕ) (n : ℕ) →
     length ws ≤ 6 →
-    filled (six ws) (average (six ws) n)
+    filled (sixWords ws) (average (sixWords ws) n)
     ≡ getD ws 0 0 ∷ getD ws 1 0 ∷ getD ws 2 0 ∷ getD ws 3 0 ∷ getD ws 4 0 ∷ getD ws 5 0 ∷ sum ws / n ∷ []
 unfolding filled average
 filled-means ws n h =
@@ -75,7 +76,7 @@ module _ (f : Flight) (n : ℕ) (u d : List ℕ) where
   pub good-ups :
       f .up ≡ true →
       length u ≤ 6 →
-      goodFlight f n (six u) (six d) .ups
+      goodFlight f n (sixWords u) (sixWords d) .ups
       ≡ getD u 0 0 ∷ getD u 1 0 ∷ getD u 2 0 ∷ getD u 3 0 ∷ getD u 4 0 ∷ getD u 5 0 ∷ sum u / n ∷ []
   unfolding goodFlight
   good-ups e h = rw e (filled-means u n h)
@@ -83,16 +84,16 @@ module _ (f : Flight) (n : ℕ) (u d : List ℕ) where
   pub good-downs :
       f .down ≡ true →
       length d ≤ 6 →
-      goodFlight f n (six u) (six d) .downs
+      goodFlight f n (sixWords u) (sixWords d) .downs
       ≡ getD d 0 0 ∷ getD d 1 0 ∷ getD d 2 0 ∷ getD d 3 0 ∷ getD d 4 0 ∷ getD d 5 0 ∷ sum d / n ∷ []
   unfolding goodFlight
   good-downs e h = rw e (filled-means d n h)
 
-  pub good-ups-kept : f .up ≡ false → goodFlight f n (six u) (six d) .ups ≡ f .ups
+  pub good-ups-kept : f .up ≡ false → goodFlight f n (sixWords u) (sixWords d) .ups ≡ f .ups
   unfolding goodFlight
   good-ups-kept e = rw e
 
-  pub good-downs-kept : f .down ≡ false → goodFlight f n (six u) (six d) .downs ≡ f .downs
+  pub good-downs-kept : f .down ≡ false → goodFlight f n (sixWords u) (sixWords d) .downs ≡ f .downs
   unfolding goodFlight
   good-downs-kept e = rw e
 
@@ -102,13 +103,13 @@ module _ (f : Flight) (n : ℕ) (u d : List ℕ) where
       f .down ≡ true →
       length u ≤ 6 →
       length d ≤ 6 →
-      goodFlight f n (six u) (six d) .difference
+      goodFlight f n (sixWords u) (sixWords d) .difference
       ≡ differenceWord (record { 0 = sum u / n }) (record { 0 = sum d / n })
   unfolding goodFlight goodDifference average
   good-difference e g h i = rw (e, g, six-total u h, six-total d i)
 
   pub good-difference-kept :
-      (f .up ≡ false) ⊎ (f .down ≡ false) → goodFlight f n (six u) (six d) .difference ≡ f .difference
+      (f .up ≡ false) ⊎ (f .down ≡ false) → goodFlight f n (sixWords u) (sixWords d) .difference ≡ f .difference
   unfolding goodFlight goodDifference
   good-difference-kept = ⊎-elim (λ e. rw e) (λ e. by-test (f .up) (λ g. rw (g, e)) (λ g. rw g))
 
@@ -117,37 +118,37 @@ module _ (f : Flight) (n : ℕ) (u d : List ℕ) where
 module _ (m : Model) where
   pub failed-ups :
       m .flight .up ≡ true →
-      map (registerWord (flightFailed m)) (upwards 0xC5 14)
+      map (registerWord (failedFlightModel m)) (upwards 0xC5 14)
       ≡ 0xFFFF ∷ 0xFFFF ∷ 0xFFFF ∷ 0xFFFF ∷ 0xFFFF ∷ 0xFFFF ∷ 0xFFFF ∷ 0xFFFF ∷ 0xFFFF ∷ 0xFFFF ∷ 0xFFFF ∷ 0xFFFF ∷ 0xFFFF ∷ 0xFFFF ∷ []
-  unfolding registerWord flightWord half flightFailed lostFlight lost
+  unfolding registerWord flightWord half failedFlightModel failedFlight failedPairs
   failed-ups e = rw e
 
   pub failed-downs :
       m .flight .down ≡ true →
-      map (registerWord (flightFailed m)) (upwards 0xD4 14)
+      map (registerWord (failedFlightModel m)) (upwards 0xD4 14)
       ≡ 0xFFFF ∷ 0xFFFF ∷ 0xFFFF ∷ 0xFFFF ∷ 0xFFFF ∷ 0xFFFF ∷ 0xFFFF ∷ 0xFFFF ∷ 0xFFFF ∷ 0xFFFF ∷ 0xFFFF ∷ 0xFFFF ∷ 0xFFFF ∷ 0xFFFF ∷ []
-  unfolding registerWord flightWord half flightFailed lostFlight lost
+  unfolding registerWord flightWord half failedFlightModel failedFlight failedPairs
   failed-downs e = rw e
 
   pub failed-difference :
       m .flight .up ≡ true →
       m .flight .down ≡ true →
-      map (registerWord (flightFailed m)) (0xE2 ∷ 0xE3 ∷ []) ≡ 0xFFFF ∷ 0xFFFF ∷ []
-  unfolding registerWord flightWord half flightFailed lostFlight lostDifference
+      map (registerWord (failedFlightModel m)) (0xE2 ∷ 0xE3 ∷ []) ≡ 0xFFFF ∷ 0xFFFF ∷ []
+  unfolding registerWord flightWord half failedFlightModel failedFlight failedDifference
   failed-difference e g = rw (e, g)
 
-  pub failed-ups-kept : m .flight .up ≡ false → flightFailed m .flight .ups ≡ m .flight .ups
-  unfolding flightFailed lostFlight
+  pub failed-ups-kept : m .flight .up ≡ false → failedFlightModel m .flight .ups ≡ m .flight .ups
+  unfolding failedFlightModel failedFlight
   failed-ups-kept e = rw e
 
-  pub failed-downs-kept : m .flight .down ≡ false → flightFailed m .flight .downs ≡ m .flight .downs
-  unfolding flightFailed lostFlight
+  pub failed-downs-kept : m .flight .down ≡ false → failedFlightModel m .flight .downs ≡ m .flight .downs
+  unfolding failedFlightModel failedFlight
   failed-downs-kept e = rw e
 
   pub failed-difference-kept :
       (m .flight .up ≡ false) ⊎ (m .flight .down ≡ false) →
-      flightFailed m .flight .difference ≡ m .flight .difference
-  unfolding flightFailed lostFlight lostDifference
+      failedFlightModel m .flight .difference ≡ m .flight .difference
+  unfolding failedFlightModel failedFlight failedDifference
   failed-difference-kept = ⊎-elim (λ e. rw e) (λ e. by-test (m .flight .up) (λ g. rw (g, e)) (λ g. rw g))
 
 -- "An open port reads FFFFh FFFFh, the others their words"; "A word below 32 × 65,536 now reads 0000h 0000h for that port"
@@ -161,8 +162,8 @@ port-at limit w (suc (suc (suc zero))) h = refl
 port-at limit w (suc (suc (suc (suc i)))) h = absurd (omega arith)
 
 module _ (m : Model) (w : List ℕ) (e : miscounted m (temperature w) ≡ false) where
-  ports-left : acceptedModel m (temperature w) .temperature .ports ≡ portPairs (openFrom (portCycle (m .setup))) (four w)
-  unfolding acceptedModel temperatureFailed temperatureGood
+  ports-left : acceptedModel m (temperature w) .temperature .ports ≡ portPairs (openFrom (portCycle (m .setup))) (fourWords w)
+  unfolding acceptedModel failedTemperatureModel goodTemperatureModel
   ports-left = by-test (portFault m w) (λ f. rw f) (λ f. rw f (sym (ports-good m w e f .kept)))
 
   port-reads :
@@ -170,7 +171,7 @@ module _ (m : Model) (w : List ℕ) (e : miscounted m (temperature w) ≡ false)
       i < 4 →
       Holds (acceptedModel m (temperature w)) (0xE7 + 2 * i) (portPair (openFrom (portCycle (m .setup))) (getD w i 0))
   port-reads i h =
-      rw (← four-means w i h, ← port-at (openFrom (portCycle (m .setup))) (four w) i h, ← ports-left)
+      rw (← four-means w i h, ← port-at (openFrom (portCycle (m .setup))) (fourWords w) i h, ← ports-left)
       (reads-ports (acceptedModel m (temperature w)) i h)
 
   module _ (i : ℕ) (h : i < 4) where
@@ -210,13 +211,13 @@ module _ (m : Model) (w : List ℕ) where
       portFault m w ≡ true →
       (acceptedModel m (temperature w) .temperature .schedule ≡ settle (m .temperature .schedule) false) ×
       (acceptedModel m (temperature w) .temperature .sums ≡ m .temperature .sums)
-  unfolding acceptedModel temperatureFailed
+  unfolding acceptedModel failedTemperatureModel
   fault-settles f = rw f (refl, refl)
 
   -- "A short alone does not set TO; an open port in the same delivery still does."
   pub open-sets-timeout :
       acceptedModel m (temperature w) .status .timeout ≡ either (m .status .timeout) (anyOpen m w)
-  unfolding acceptedModel temperatureFailed temperatureGood temperatureStatus temperatureBits joined portFault anyFault anyOpen
+  unfolding acceptedModel failedTemperatureModel goodTemperatureModel temperatureStatus temperatureBits joined portFault anyFault anyOpen
   open-sets-timeout =
       by-test (portFault m w)
       (λ f. rw f)

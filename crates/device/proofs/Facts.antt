@@ -21,36 +21,39 @@ use Rattle.device.specs.declared.Schedule.{Schedule}
 use Rattle.device.specs.declared.Flight.{Flight}
 use Rattle.device.specs.declared.Model.{Model}
 use Rattle.device.specs.declared.Answer.the-variants.{Ticked, Stretched}
-use Rattle.device.specs.Event.{awaits, inEvent, single, eventStart, halted}
+use Rattle.device.specs.Event.{isAwaited, inEvent, startSingle, startEvent, haltSchedule}
 use Rattle.device.specs.Status.{noBits, porBit, statusWord, joined, flightBits}
-use Rattle.device.specs.Model.{sound, kindBusy, busy, withStatus, freshWith, freshModel, resetModel}
-use Rattle.device.specs.Registers.{half, calendarWord, flightWord, temperatureWord, registerWord, putWord, fill}
+use Rattle.device.specs.Model.{isSound, kindBusy, isBusy, withStatus, freshWith, freshModel, resetModel}
+use Rattle.device.specs.Registers.{half, calendarWord, flightWord, temperatureWord, registerWord, putWord, fillWords}
 use Rattle.device.specs.Write.{covers, written, withWord, setupAfter, ticksAfter, clockAfter, writeInvalid, writeModel}
 use Rattle.device.specs.Tick.{tickModel, reportOf}
-use Rattle.device.specs.Delivery.{flightMiscounted, flightStatus, flightGood, flightFailed}
+use Rattle.device.specs.Delivery.{flightMiscounted, flightStatus, goodFlightModel, failedFlightModel}
 use Rattle.device.specs.Bus.{flightStarted, flightEvent, haltedModel, readModel}
 use Rattle.device.proofs.Sound.{bounds-of}
-use Rattle.device.specs.Stretch.{progress}
-use Rattle.device.specs.Call.{tick, flight, temperature, stretch, refuse, flightReply, temperatureReply, reply, replyBy, verdict, table, firstOf}
+use Rattle.device.specs.StretchSteps.{progress}
+use Rattle.device.specs.Call.{tick, flight, temperature, stretch, verdict, table, firstOf}
+use Rattle.device.specs.Reply.{refuse, reply, replyBy}
+use Rattle.device.specs.Parts.{flightReply, temperatureReply}
 use Rattle.device.specs.Call.{noFrame, notCarried, wrongLength, pastRegisters, shortOutput, whileBusy, supplyOff, unreachable, unerased, badCalendar}
-use Rattle.device.specs.Call.{notInitialised, badSetup, notAwaited, miscounted, tooLong, acceptedAnswer, acceptedModel}
+use Rattle.device.specs.Call.{notInitialised, badSetup, notAwaited, miscounted, tooLong}
+use Rattle.device.specs.Reply.{acceptedAnswer, acceptedModel}
 
 -- "A kind is awaited from its start"
-pub single-awaited : (k : Schedule) → awaits (single k) ≡ true
-unfolding awaits single
+pub single-awaited : (k : Schedule) → isAwaited (startSingle k) ≡ true
+unfolding isAwaited startSingle
 single-awaited k = refl
 
-pub start-awaited : (p : Ticks) (n : ℕ) (c : Bool) → awaits (eventStart p n c) ≡ true
-unfolding awaits eventStart
+pub start-awaited : (p : Ticks) (n : ℕ) (c : Bool) → isAwaited (startEvent p n c) ≡ true
+unfolding isAwaited startEvent
 start-awaited p n c = refl
 
 -- "HALT drops awaited measurements, ends the event"
-pub halted-idle : (k : Schedule) → kindBusy (halted k) ≡ false
-unfolding kindBusy awaits inEvent halted
-halted-idle k = rw (le-ltb (halted k .settled) (halted k .planned) (omega arith))
+pub halted-idle : (k : Schedule) → kindBusy (haltSchedule k) ≡ false
+unfolding kindBusy isAwaited inEvent haltSchedule
+halted-idle k = rw (le-ltb (haltSchedule k .settled) (haltSchedule k .planned) (omega arith))
 
-pub halt-idle : (m : Model) → busy (haltedModel m) ≡ false
-unfolding busy haltedModel
+pub halt-idle : (m : Model) → isBusy (haltedModel m) ≡ false
+unfolding isBusy haltedModel
 halt-idle m = rw (halted-idle (m .flight .schedule)) (halted-idle (m .temperature .schedule))
 
 -- "FEh is the interrupt status; reading it clears it": a read of n registers from a on, over FEh, before it and past it
@@ -93,13 +96,13 @@ unfolding statusWord resetModel freshWith noBits
 reset-status = refl
 
 -- "A word late: the measurement fails, .. TO is set": a failed delivery sets TO, a good one leaves it, whatever it holds.
-pub failed-timeout : (m : Model) → flightFailed m .status .timeout ≡ true
-unfolding flightFailed flightStatus joined flightBits
+pub failed-timeout : (m : Model) → failedFlightModel m .status .timeout ≡ true
+unfolding failedFlightModel flightStatus joined flightBits
 failed-timeout m = by-test (m .status .timeout) (λ e. rw e) (λ e. rw e)
 
 pub good-timeout :
-    (m : Model) (hits : ℕ) (u d : List ℕ) → flightGood m hits u d .status .timeout ≡ m .status .timeout
-unfolding flightGood flightStatus joined flightBits
+    (m : Model) (hits : ℕ) (u d : List ℕ) → goodFlightModel m hits u d .status .timeout ≡ m .status .timeout
+unfolding goodFlightModel flightStatus joined flightBits
 good-timeout m hits u d = by-test (m .status .timeout) (λ e. rw e) (λ e. rw e)
 
 -- "cycle counts (E4h, EFh)"; "FEh is the interrupt status"
@@ -221,8 +224,8 @@ put-high l n w h =
 put-low : (l : List ℕ) (n w : ℕ) → 2 * n + 1 < length l → getD (putWord l n w) (2 * n + 1) 0 ≡ w % 256
 put-low l n w h = getD-set-same (set l (2 * n) (w / 256 % 256)) (2 * n + 1) (w % 256) 0 (rw length-set h)
 
-filled-length : (m : Model) (a : ℕ) (out : List ℕ) (n : ℕ) → length (fill m a out n) ≡ length out
-unfolding fill
+filled-length : (m : Model) (a : ℕ) (out : List ℕ) (n : ℕ) → length (fillWords m a out n) ≡ length out
+unfolding fillWords
 filled-length m a out zero = refl
 filled-length m a out (suc n) = rw (length-set, length-set) (filled-length m a out n)
 
@@ -230,9 +233,9 @@ pub filled-from :
     (m : Model) (a : ℕ) (out : List ℕ) (n i : ℕ) →
     i < n →
     2 * n ≤ length out →
-    (getD (fill m a out n) (2 * i) 0 ≡ registerWord m (a + i) / 256 % 256) ×
-    (getD (fill m a out n) (2 * i + 1) 0 ≡ registerWord m (a + i) % 256)
-unfolding fill
+    (getD (fillWords m a out n) (2 * i) 0 ≡ registerWord m (a + i) / 256 % 256) ×
+    (getD (fillWords m a out n) (2 * i + 1) 0 ≡ registerWord m (a + i) % 256)
+unfolding fillWords
 filled-from m a out zero i h l = absurd (omega arith)
 filled-from m a out (suc n) i h l =
     let w = registerWord m (a + n) in
@@ -240,18 +243,18 @@ filled-from m a out (suc n) i h l =
     by-ltb i n
     (λ b e.
     let g = filled-from m a out n i b (omega arith) in (
-      put-other (fill m a out n) n w (2 * i) (λ x. omega arith) (λ x. omega arith) ∙ g .0,
-      put-other (fill m a out n) n w (2 * i + 1) (λ x. omega arith) (λ x. omega arith) ∙ g .1,
+      put-other (fillWords m a out n) n w (2 * i) (λ x. omega arith) (λ x. omega arith) ∙ g .0,
+      put-other (fillWords m a out n) n w (2 * i + 1) (λ x. omega arith) (λ x. omega arith) ∙ g .1,
     ))
     (λ b e.
     let s : i ≡ n = omega arith in
-    rw s (put-high (fill m a out n) n w (omega arith), put-low (fill m a out n) n w (omega arith)))
+    rw s (put-high (fillWords m a out n) n w (omega arith), put-low (fillWords m a out n) n w (omega arith)))
 
-pub rest-stays : (m : Model) (a : ℕ) (out : List ℕ) (n j : ℕ) → 2 * n ≤ j → getD (fill m a out n) j 0 ≡ getD out j 0
-unfolding fill
+pub rest-stays : (m : Model) (a : ℕ) (out : List ℕ) (n j : ℕ) → 2 * n ≤ j → getD (fillWords m a out n) j 0 ≡ getD out j 0
+unfolding fillWords
 rest-stays m a out zero j h = refl
 rest-stays m a out (suc n) j h =
-    put-other (fill m a out n) n (registerWord m (a + n)) j (λ e. omega arith) (λ e. omega arith) ∙
+    put-other (fillWords m a out n) n (registerWord m (a + n)) j (λ e. omega arith) (λ e. omega arith) ∙
     rest-stays m a out n j (omega arith)
 
 -- "Reserved bits are kept as written": a word written to 34h to 43h is what its register reads
@@ -274,7 +277,7 @@ written-reads m bytes i h l =
 -- "30h to 33h are judged together after the whole write": a write from 34h on leaves the clock, and one of 32h and 33h is
 -- judged, and taken, on both its words
 pub keeps-clock :
-    (m : Model) (bytes : List ℕ) (op n : ℕ) → sound m ≡ true → 0x34 ≤ op → clockAfter bytes op n m ≡ m .clock
+    (m : Model) (bytes : List ℕ) (op n : ℕ) → isSound m ≡ true → 0x34 ≤ op → clockAfter bytes op n m ≡ m .clock
 unfolding clockAfter written covers ticksAfter calendarWord
 keeps-clock m bytes op n s h =
     rw (
@@ -287,7 +290,7 @@ keeps-clock m bytes op n s h =
 
 pub judged-by-alarm :
     (m : Model) (bytes : List ℕ) (op n : ℕ) →
-    sound m ≡ true →
+    isSound m ≡ true →
     0x34 ≤ op →
     writeInvalid bytes op n m ≡ pick (alarmValid (alarmWord (setupAfter bytes op (m .setup) n))) false true
 unfolding writeInvalid written covers ticksAfter calendarWord
@@ -318,7 +321,7 @@ unfolding clockAfter written covers ticksAfter calendarWord
 taken-together m bytes = refl
 
 -- The replies of a sound model to the calls that are no transactions.
-module _ (m : Model) (s : sound m ≡ true) where
+module _ (m : Model) (s : isSound m ≡ true) where
   pub reply-tick :
       reply m tick
       ≡ record {
@@ -342,12 +345,12 @@ module _ (m : Model) (s : sound m ≡ true) where
   pub reply-flight :
       (u d : List ℕ) →
       reply m (flight u d)
-      ≡ pick (awaits (m .flight .schedule))
+      ≡ pick (isAwaited (m .flight .schedule))
       (pick (flightMiscounted (m .flight) (hitCount (m .setup)) (length u) (length d)) (refuse 11 m) (flightReply m u d))
       (refuse 10 m)
   unfolding reply replyBy verdict table firstOf noFrame notCarried wrongLength pastRegisters shortOutput whileBusy supplyOff unreachable unerased badCalendar notInitialised badSetup notAwaited miscounted tooLong flightReply
   reply-flight u d =
-      by-test (awaits (m .flight .schedule))
+      by-test (isAwaited (m .flight .schedule))
       (λ a. by-test (flightMiscounted (m .flight) (hitCount (m .setup)) (length u) (length d))
       (λ c. rw (s, a, c))
       (λ c. rw (s, a, c)))
@@ -356,11 +359,11 @@ module _ (m : Model) (s : sound m ≡ true) where
   pub reply-temperature :
       (w : List ℕ) →
       reply m (temperature w)
-      ≡ pick (awaits (m .temperature .schedule))
+      ≡ pick (isAwaited (m .temperature .schedule))
       (pick (eqb (length w) 4) (temperatureReply m w) (refuse 11 m))
       (refuse 10 m)
   unfolding reply replyBy verdict table firstOf noFrame notCarried wrongLength pastRegisters shortOutput whileBusy supplyOff unreachable unerased badCalendar notInitialised badSetup notAwaited miscounted tooLong temperatureReply
   reply-temperature w =
-      by-test (awaits (m .temperature .schedule))
+      by-test (isAwaited (m .temperature .schedule))
       (λ a. by-test (eqb (length w) 4) (λ c. rw (s, a, c)) (λ c. rw (s, a, c)))
       (λ a. rw (s, a))

@@ -17,15 +17,16 @@ use Rattle.flash.proofs.Bytes.{written-high, written-low, written-kept, erased-
 use Rattle.device.specs.declared.Status.{Status}
 use Rattle.device.specs.declared.Model.{Model}
 use Rattle.device.specs.declared.Told.the-variants.{Value}
-use Rattle.device.specs.Event.{awaits, inEvent, noSchedule}
+use Rattle.device.specs.Event.{isAwaited, inEvent, noSchedule}
 use Rattle.device.specs.Status.{joined, ldoBit, flashBit, withoutLdo, porBit, noBits}
-use Rattle.device.specs.Model.{sound, busy, kindBusy, freshModel, freshWith, noFlight, noTemperature, resetModel}
+use Rattle.device.specs.Model.{isSound, isBusy, kindBusy, freshModel, freshWith, noFlight, noTemperature, resetModel}
 use Rattle.device.specs.FlashFrame.{flashAddress, flashData, flashUnreachable, flashUnerased, flashModel, flashOutput, flashMemory}
-use Rattle.device.specs.Bus.{mustBeIdle, startsFlight, startsTemperature, isEvent, commandBusy, notReady, commandUnset, eventSideUnset, flightSideUnset, temperatureSideUnset}
-use Rattle.device.specs.Bus.{initialised, haltedModel, supplied, unsupplied, runModel}
-use Rattle.device.specs.Call.{Call, transaction, opcode, Verdict, refused, accepted, verdict, table, firstOf, regulatorTold}
+use Rattle.device.specs.Bus.{mustBeIdle, startsFlight, startsTemperature, isEvent, commandBusy, beforeInitialize, commandUnset, eventSideUnset, flightSideUnset, temperatureSideUnset}
+use Rattle.device.specs.Bus.{initialisedModel, haltedModel, supplied, unsupplied, runModel}
+use Rattle.device.specs.Call.{Call, transaction, opcode, Verdict, refused, accepted, verdict, table, firstOf}
+use Rattle.device.specs.Question.{regulatorOn}
 use Rattle.device.specs.Call.{noFrame, notCarried, wrongLength, pastRegisters, shortOutput, whileBusy, supplyOff, unreachable, unerased, badCalendar, notInitialised, badSetup, notAwaited, miscounted, tooLong}
-use Rattle.device.specs.Call.{reply, replyBy, acceptedAnswer, acceptedModel, output, outputBy, acceptedOutput, bufferOf, memory, memoryBy, memoryOf, acceptedMemory}
+use Rattle.device.specs.Reply.{reply, replyBy, acceptedAnswer, acceptedModel, output, outputBy, acceptedOutput, bufferOf, memory, memoryBy, memoryOf, acceptedMemory}
 use Rattle.flash.proofs.Refusal.{address-accepted, erase-accepted}
 use Rattle.device.proofs.Table.{none-holds}
 use Rattle.device.proofs.StatusMeaning.{kept}
@@ -53,7 +54,7 @@ onlyThese m s on =
       clock = m .clock;
       setup = m .setup;
       status = s;
-      ready = m .ready;
+      initialised = m .initialised;
       regulator = on;
       flight = m .flight;
       temperature = m .temperature;
@@ -86,11 +87,11 @@ module _ (m : Model) where
       (runModel m 0x04 .regulator ≡ false) ×
       (runModel m 0x05 .regulator ≡ m .regulator) ×
       (runModel m 0x0A .regulator ≡ m .regulator)
-  unfolding freshModel freshWith runModel resetModel initialised haltedModel
+  unfolding freshModel freshWith runModel resetModel initialisedModel haltedModel
   regulator-kept = (refl, refl, refl, refl)
 
-  pub regulator-told : sound m ≡ true → (regulatorTold m ≡ Value 1) ↔ (m .regulator ≡ true)
-  unfolding regulatorTold
+  pub regulator-told : isSound m ≡ true → (regulatorOn m ≡ Value 1) ↔ (m .regulator ≡ true)
+  unfolding regulatorOn
   regulator-told s =
       rw s
       (by-test (m .regulator)
@@ -132,10 +133,10 @@ module _ (m : Model) where
         by-verdict (refused k) = unfold memoryBy memoryOf in refl
 
 -- The numbers in their order: 6, 15, 16, and 17 for a write alone; 5 before them for a read.
-module _ (m : Model) (s : sound m ≡ true) (high low first second : ℕ) (o x : List ℕ) where
+module _ (m : Model) (s : isSound m ≡ true) (high low first second : ℕ) (o x : List ℕ) where
   pub write-verdict :
       verdict m (transaction (0x10 ∷ high ∷ low ∷ first ∷ second ∷ []) o x)
-      ≡ pick (busy m) (refused 6)
+      ≡ pick (isBusy m) (refused 6)
       (pick (m .regulator)
       (pick (addressRefused (length x) (high * 256 + low)) (refused 16)
       (pick (notErased x (high * 256 + low)) (refused 17) accepted))
@@ -143,7 +144,7 @@ module _ (m : Model) (s : sound m ≡ true) (high low first second : ℕ) (o x :
   unfolding verdict table firstOf noFrame notCarried wrongLength pastRegisters shortOutput whileBusy supplyOff unreachable unerased badCalendar notInitialised badSetup notAwaited miscounted tooLong isCommand isWrite isFlash flashFurther flashUnreachable flashUnerased flashAddress wordAt
   write-verdict =
       rw s
-      (by-test (busy m) (λ b. rw b)
+      (by-test (isBusy m) (λ b. rw b)
       (λ b. rw b
       (by-test (m .regulator)
       (λ r. rw r)
@@ -152,31 +153,31 @@ module _ (m : Model) (s : sound m ≡ true) (high low first second : ℕ) (o x :
   pub read-verdict :
       verdict m (transaction (0x90 ∷ high ∷ low ∷ first ∷ second ∷ []) o x)
       ≡ pick (ltb (length o) 2) (refused 5)
-      (pick (busy m) (refused 6)
+      (pick (isBusy m) (refused 6)
       (pick (m .regulator) (pick (addressRefused (length x) (high * 256 + low)) (refused 16) accepted) (refused 15)))
   unfolding verdict table firstOf noFrame notCarried wrongLength pastRegisters shortOutput whileBusy supplyOff unreachable unerased badCalendar notInitialised badSetup notAwaited miscounted tooLong isCommand isWrite isFlash flashFurther flashUnreachable flashUnerased flashAddress wordAt
   read-verdict =
       rw s
       (by-test (ltb (length o) 2) (λ t. rw t)
       (λ t. rw t
-      (by-test (busy m) (λ b. rw b)
+      (by-test (isBusy m) (λ b. rw b)
       (λ b. rw b
       (by-test (m .regulator) (λ r. rw r) (λ r. rw r))))))
 
   pub erase-verdict :
       verdict m (transaction (0x13 ∷ high ∷ low ∷ []) o x)
-      ≡ pick (busy m) (refused 6)
+      ≡ pick (isBusy m) (refused 6)
       (pick (m .regulator) (pick (eraseRefused (length x) (high * 256 + low)) (refused 16) accepted) (refused 15))
   unfolding verdict table firstOf noFrame notCarried wrongLength pastRegisters shortOutput whileBusy supplyOff unreachable unerased badCalendar notInitialised badSetup notAwaited miscounted tooLong isCommand isWrite isFlash flashFurther flashUnreachable flashUnerased flashAddress wordAt
   erase-verdict =
       rw s
-      (by-test (busy m) (λ b. rw b)
+      (by-test (isBusy m) (λ b. rw b)
       (λ b. rw b (by-test (m .regulator) (λ r. rw r) (λ r. rw r))))
 
 -- "3 is given exactly for a length other than five bytes, for erase three"
 pub flash-length :
     (m : Model) (f o x : List ℕ) →
-    sound m ≡ true →
+    isSound m ≡ true →
     isFlash (opcode f) ≡ true →
     ¬ (length f ≡ 0) →
     ¬ (length f ≡ pick (eqb (opcode f) 0x13) 3 5) →
@@ -270,17 +271,17 @@ module _ (m : Model) (high low first second : ℕ) (o x : List ℕ) where
 -- The commands of the regulator: accepted while the model is idle, number 6 else; one byte, else number 3.
 pub ldo-verdict :
     (m : Model) (o x : List ℕ) →
-    sound m ≡ true →
+    isSound m ≡ true →
     map (λ (op : ℕ). verdict m (transaction (op ∷ []) o x)) (0x0C ∷ 0x0D ∷ [])
-    ≡ pick (busy m) (refused 6) accepted ∷ pick (busy m) (refused 6) accepted ∷ []
-unfolding verdict table firstOf noFrame notCarried wrongLength pastRegisters shortOutput whileBusy supplyOff unreachable unerased badCalendar notInitialised badSetup notAwaited miscounted tooLong isCommand commandBusy mustBeIdle notReady commandUnset eventSideUnset flightSideUnset temperatureSideUnset startsFlight startsTemperature isEvent
+    ≡ pick (isBusy m) (refused 6) accepted ∷ pick (isBusy m) (refused 6) accepted ∷ []
+unfolding verdict table firstOf noFrame notCarried wrongLength pastRegisters shortOutput whileBusy supplyOff unreachable unerased badCalendar notInitialised badSetup notAwaited miscounted tooLong isCommand commandBusy mustBeIdle beforeInitialize commandUnset eventSideUnset flightSideUnset temperatureSideUnset startsFlight startsTemperature isEvent
 ldo-verdict m o x s =
     rw s
-    (by-test (busy m) (λ b. rw b) (λ b. rw b (by-test (m .ready) (λ r. rw r) (λ r. rw r))))
+    (by-test (isBusy m) (λ b. rw b) (λ b. rw b (by-test (m .initialised) (λ r. rw r) (λ r. rw r))))
 
 pub ldo-length :
     (m : Model) (b : ℕ) (rest o x : List ℕ) →
-    sound m ≡ true →
+    isSound m ≡ true →
     map (λ (op : ℕ). verdict m (transaction (op ∷ b ∷ rest) o x)) (0x0C ∷ 0x0D ∷ []) ≡ refused 3 ∷ refused 3 ∷ []
 unfolding verdict table firstOf noFrame notCarried wrongLength isCommand
 ldo-length m b rest o x s =

@@ -15,11 +15,11 @@ use Rattle.flash.proofs.Refusal.{address-accepted, erase-accepted}
 use Rattle.flash.proofs.Words.{reads-last, length-after}
 use Rattle.device.specs.declared.Model.{Model}
 use Rattle.device.specs.declared.Answer.the-variants.{Refused}
-use Rattle.device.specs.Model.{sound, freshModel}
+use Rattle.device.specs.Model.{isSound, freshModel}
 use Rattle.device.specs.FlashFrame.{flashAddress, flashData, flashUnreachable, flashMemory}
 use Rattle.device.specs.Call.{Call, transaction, tick, flight, temperature, stretch, opcode, unreachable, Verdict, accepted, refused, verdict}
-use Rattle.device.specs.Call.{acceptedAnswer, acceptedMemory, reply, replyBy, memory, memoryBy, memoryOf}
-use Rattle.device.specs.Claim.{isRefusal}
+use Rattle.device.specs.Reply.{acceptedAnswer, acceptedMemory, reply, replyBy, memory, memoryBy, memoryOf}
+use Rattle.device.specs.History.{isRefusal}
 use Rattle.device.specs.FlashRun.{lent, memoryLeft, memoryThrough, flashOperation, operationOf, operations, FlashClaim}
 use Rattle.device.proofs.Table.{NoneHolds, none-holds}
 use Rattle.device.proofs.Sound.{fresh-sound, keeps-sound}

@@ -14,17 +14,18 @@ use Rattle.calendar.proofs.RoundTrip.{reads-form}
 use Rattle.setup.specs.Setup.{clockStands}
 use Rattle.frame.specs.Frame.{isCommand, isWrite, wordAt, isFlash}
 use Rattle.device.specs.declared.Model.{Model}
-use Rattle.device.specs.Model.{sound, freshModel, freshWith, resetModel}
+use Rattle.device.specs.Model.{isSound, freshModel, freshWith, resetModel}
 use Rattle.device.specs.Registers.{calendarWord}
 use Rattle.device.specs.Write.{covers, written, clockAfter, writeModel}
 use Rattle.device.specs.Tick.{clockTicked, tickModel}
-use Rattle.device.specs.Stretch.{ticked}
-use Rattle.device.specs.Delivery.{flightGood, flightFailed, temperatureGood, temperatureFailed}
+use Rattle.device.specs.Stretch.{modelTicked}
+use Rattle.device.specs.Delivery.{goodFlightModel, failedFlightModel, goodTemperatureModel, failedTemperatureModel}
 use Rattle.device.specs.FlashFrame.{flashModel}
-use Rattle.device.specs.Bus.{supplied, unsupplied, isEvent, startedEvent, initialised, haltedModel, singleStarted, runModel, readModel}
+use Rattle.device.specs.Bus.{supplied, unsupplied, isEvent, startedEvent, initialisedModel, haltedModel, singleStarted, runModel, readModel}
 use Rattle.device.specs.Call.{Call, transaction, tick, flight, temperature, stretch, opcode, words}
-use Rattle.device.specs.Call.{Verdict, accepted, refused, verdict, anyLate, portFault, acceptedAnswer, acceptedModel, replyBy, reply}
-use Rattle.device.specs.Claim.{isRefusal, after, log}
+use Rattle.device.specs.Call.{Verdict, accepted, refused, verdict}
+use Rattle.device.specs.Reply.{anyLate, portFault, acceptedAnswer, acceptedModel, replyBy, reply}
+use Rattle.device.specs.History.{isRefusal, after, log}
 use Rattle.device.specs.Form.{formGiven, lastForm, FormClaim}
 use Rattle.device.proofs.Sound.{Bounds, bounds-of, fresh-sound, keeps-sound, ticked-bounds}
 
@@ -32,7 +33,7 @@ abbrev formOf : Model → Bool
 formOf m = m .clock .twelve
 
 run-form : (m : Model) (op : ℕ) → formOf (runModel m op) ≡ pick (eqb op 4) false (formOf m)
-unfolding runModel resetModel freshWith start initialised haltedModel supplied unsupplied startedEvent singleStarted
+unfolding runModel resetModel freshWith start initialisedModel haltedModel supplied unsupplied startedEvent singleStarted
 run-form m op =
     by-test (eqb op 4) (λ e. rw e)
     (λ e. rw e
@@ -47,7 +48,7 @@ run-form m op =
     (by-test (isEvent op) (λ h. rw h) (λ h. rw h (by-test (eqb op 3) (λ i. rw i) (λ i. rw i)))))))))))))
 
 write-form : (m : Model) (bytes : List ℕ) (op n : ℕ) →
-    sound m ≡ true →
+    isSound m ≡ true →
     formOf (writeModel bytes op n m) ≡ pick (covers op n 0x31) (twelveIn (wordAt bytes (0x31 - op))) (formOf m)
 unfolding writeModel clockAfter clockFrom written calendarWord
 write-form m bytes op n s =
@@ -62,10 +63,10 @@ unfolding tickModel clockTicked
 tick-model-form m b =
     by-test (clockStands (m .setup)) (λ e. rw e) (λ e. rw e (tick-form (m .clock) (b .clock)))
 
-ticked-form : (n : ℕ) (m : Model) → Bounds m → formOf (ticked n m) ≡ formOf m
-unfolding ticked
+ticked-form : (n : ℕ) (m : Model) → Bounds m → formOf (modelTicked n m) ≡ formOf m
+unfolding modelTicked
 ticked-form zero m b = refl
-ticked-form (suc n) m b = tick-model-form (ticked n m) (ticked-bounds n m b) ∙ ticked-form n m b
+ticked-form (suc n) m b = tick-model-form (modelTicked n m) (ticked-bounds n m b) ∙ ticked-form n m b
 
 flash-form : (m : Model) (op : ℕ) → formOf (flashModel m op) ≡ formOf m
 unfolding flashModel
@@ -76,8 +77,8 @@ abbrev Given : Model → Call → Type 0
 Given m c =
     (formOf (acceptedModel m c) ≡ formGiven c (formOf m)) × (isRefusal (acceptedAnswer m c) ≡ false)
 
-given : (m : Model) (c : Call) → sound m ≡ true → Given m c
-unfolding acceptedModel acceptedAnswer formGiven isRefusal flightFailed flightGood temperatureFailed temperatureGood
+given : (m : Model) (c : Call) → isSound m ≡ true → Given m c
+unfolding acceptedModel acceptedAnswer formGiven isRefusal failedFlightModel goodFlightModel failedTemperatureModel goodTemperatureModel
 given m (transaction f o x) s =
     by-test (isCommand (opcode f)) (λ c. rw c (run-form m (opcode f), refl))
     (λ c. by-test (isWrite (opcode f))
@@ -92,7 +93,7 @@ given m (stretch n) s = (ticked-form n m (bounds-of m s), refl)
 
 -- One call, accepted or refused.
 step-form : (m : Model) (c : Call) →
-    sound m ≡ true →
+    isSound m ≡ true →
     formOf (reply m c .model) ≡ pick (isRefusal (reply m c .answer)) (formOf m) (formGiven c (formOf m))
 unfolding reply replyBy isRefusal
 step-form m c s = go (verdict m c)
@@ -102,7 +103,7 @@ step-form m c s = go (verdict m c)
     go accepted = rw (given m c s .1) (given m c s .0)
     go (refused n) = refl
 
-pub all-forms : (cs : List Call) (m : Model) → sound m ≡ true → formOf (after m cs) ≡ lastForm (log m cs) (formOf m)
+pub all-forms : (cs : List Call) (m : Model) → isSound m ≡ true → formOf (after m cs) ≡ lastForm (log m cs) (formOf m)
 unfolding after log lastForm
 all-forms [] m s = refl
 all-forms (c ∷ cs) m s =

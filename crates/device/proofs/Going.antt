@@ -13,10 +13,11 @@ use Rattle.unit.specs.Cases.{by-test, by-ltb, by-eqb}
 use Rattle.unit.specs.declared.Ticks.{Ticks}
 use Rattle.hit.specs.Mean.{All}
 use Rattle.device.specs.declared.Schedule.{Schedule}
-use Rattle.device.specs.Event.{awaits, startsLeft, begins, beginsGroup, fails, eventStart, leftAfter, waitAfter, startedAfter}
+use Rattle.device.specs.Event.{isAwaited, startsLeft, begins, beginsGroup, fails, startEvent, leftAfter, waitAfter, startedAfter}
 use Rattle.device.specs.Event.{settledAfter, goodAfter, tickSchedule, settle}
 use Rattle.device.specs.Call.{Call}
-use Rattle.device.specs.Claim.{Plan, History, Expiry, opensGroup, noteTick, noteGood, noteFailed, noneLost, reached, plannedStarts}
+use Rattle.device.specs.History.{Plan, History, Expiry, opensGroup, noteTick, noteGood, noteFailed, wordsGood}
+use Rattle.device.specs.Claim.{reached, plannedStarts}
 use Rattle.device.proofs.TickCases.{by-begins, by-group, no-group, one-less}
 
 -- 0, P, 2 P and so on: n of them
@@ -44,8 +45,8 @@ pub record Placed (N total started turns : ℕ) (continuous : Bool) : Type 0 whe
   pub alone : continuous ≡ false → turns ≡ 0
 
 -- What was told good and failed, against the numbers settled and good.
-pub record Counted (told : List Call) (lost : ℕ) (expiries : List Expiry) (misjudged settled count : ℕ) : Type 0 where
-  pub all : settled ≡ length told + lost
+pub record Counted (told : List Call) (failedPairs : ℕ) (expiries : List Expiry) (misjudged settled count : ℕ) : Type 0 where
+  pub all : settled ≡ length told + failedPairs
   pub good : count ≡ length told
   pub timely : All Timely expiries
   pub judged : misjudged ≡ 0
@@ -307,7 +308,7 @@ module _ (p : Plan) (h : History) (k : Schedule) (g : Going p h k) where
 
   -- a delivery answered good, and one answered failed, as its words are
   pub going-good :
-      (s : List ℕ) (c : Call) → 0 < k .left .0 → noneLost s c ≡ true → Going p (noteGood s c h) (settle k true)
+      (s : List ℕ) (c : Call) → 0 < k .left .0 → wordsGood s c ≡ true → Going p (noteGood s c h) (settle k true)
   unfolding noteGood settle startsLeft
   going-good s c l e =
       rw (e, lt-ltb (k .settled) (k .planned) (unsettled l))
@@ -333,7 +334,7 @@ module _ (p : Plan) (h : History) (k : Schedule) (g : Going p h k) where
       })
 
   pub going-failed :
-      (s : List ℕ) (c : Call) → 0 < k .left .0 → noneLost s c ≡ false → Going p (noteFailed s c h) (settle k false)
+      (s : List ℕ) (c : Call) → 0 < k .left .0 → wordsGood s c ≡ false → Going p (noteFailed s c h) (settle k false)
   unfolding noteFailed settle startsLeft
   going-failed s c l e =
       rw (e, lt-ltb (k .settled) (k .planned) (unsettled l))
@@ -389,16 +390,16 @@ module _ (p : Plan) (h : History) (k : Schedule) (g : Going p h k) where
       (omega (arith, g .told, g .placed .some))
 
   -- "started = good + failed + awaited"
-  pub balanced : h .started ≡ length (h .good) + h .failed + pick (negate (awaits k)) 0 1
-  unfolding awaits
+  pub balanced : h .started ≡ length (h .good) + h .failed + pick (negate (isAwaited k)) 0 1
+  unfolding isAwaited
   balanced =
       by-ltb 0 (k .left .0)
       (λ l e. rw e (omega (arith, g .told, g .busy l)))
       (λ l e. rw e (omega (arith, g .told, g .idle (omega arith))))
 
   -- "awaited only while its last start lies fewer than 8,192 ticks back"
-  pub recent : pick {A = ℕ} (negate (awaits k)) 0 1 ≡ 1 → h .ticks < h .last + 8192
-  unfolding awaits
+  pub recent : pick {A = ℕ} (negate (isAwaited k)) 0 1 ≡ 1 → h .ticks < h .last + 8192
+  unfolding isAwaited
   recent =
       by-ltb 0 (k .left .0) (λ l e. rw e (λ u. omega (arith, g .since l))) (λ l e. rw e (λ u. absurd (omega arith)))
 
@@ -409,8 +410,8 @@ pub going-start :
     1 ≤ N →
     Going (record { period = p .0; count = N; continuous = c })
     (record { ticks = 0; starts = 0 ∷ []; last = 0; expiries = []; misjudged = 0; started = 1; good = []; failed = 0 })
-    (eventStart p N c)
-unfolding eventStart multiples
+    (startEvent p N c)
+unfolding startEvent multiples
 going-start p N c l o =
     record {
       period = refl;

@@ -6,9 +6,11 @@ use mathlib.Core.List.{List, [], _∷_}
 use mathlib.Core.Path.{_≡_, refl, ap, sym, _∙_}
 use lib.ListN.{length, getD}
 use Rattle.device.specs.Model.{freshModel}
-use Rattle.device.specs.Call.{reply}
-use Rattle.device.specs.Claim.{Plan, History, KindClaim, differences, runs, countRegister, reached, plannedStarts}
-use Rattle.device.specs.Claim.{after, command, toldOf, EventClaim}
+use Rattle.device.specs.Reply.{reply}
+use Rattle.device.specs.History.{Plan, History, differences, runs}
+use Rattle.device.specs.Claim.{KindClaim, countRegister, reached, plannedStarts}
+use Rattle.device.specs.History.{after}
+use Rattle.device.specs.Claim.{command, toldOf, EventClaim}
 use Rattle.device.proofs.Witness.{setUp, overGroups, continuous-accepted, plan-is, groups-read, groups-held}
 use Rattle.device.proofs.Third.{third-demand}
 

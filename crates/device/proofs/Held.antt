@@ -13,7 +13,7 @@ use Rattle.calendar.proofs.Laws.{held}
 use Rattle.setup.specs.Setup.{hitCount, portCycle, differencePeriod, differenceCount, temperaturePeriod, temperatureCount}
 use Rattle.setup.proofs.Laws.{hits-bounds}
 use Rattle.hit.specs.Limit.{openFrom}
-use Rattle.hit.specs.Words.{six, four, average, plusEach}
+use Rattle.hit.specs.Words.{sixWords, fourWords, average, plusEach}
 use Rattle.hit.specs.Difference.{biased, differenceMean, portMean}
 use Rattle.hit.specs.Mean.{All, sum, Averages, InRange, biasedTotal, differenceBits, meanAverages, floorMeanWords}
 use Rattle.hit.proofs.Limits.{quotient-below}
@@ -28,14 +28,16 @@ use Rattle.device.specs.declared.Reply.{Reply}
 use Rattle.device.specs.declared.Answer.the-variants.{Refused}
 use Rattle.device.specs.Event.{begins, beginsGroup, fails, settle}
 use Rattle.device.specs.Registers.{half, flightWord, temperatureWord, registerWord}
-use Rattle.device.specs.Tick.{sumAfter, sumsAfter, lostFlight, flightTicked, flightAfter, temperatureAfter, tickModel, reportOf}
-use Rattle.device.specs.Stretch.{ticked, scheduleTicked, lastTick, stretchReport}
-use Rattle.device.specs.Delivery.{sameCount, flightMiscounted, goodSum, goodFlight, goodSums, flightGood, flightFailed, temperatureGood, temperatureFailed}
-use Rattle.device.specs.Call.{Call, flight, temperature, notAwaited, miscounted, anyLate, portFault}
-use Rattle.device.specs.Claim.{Kind, differences, temperatures, periodOf, countOf, Plan, planOf, History, opensGroup, noteTick, noteGood, noteFailed, note}
-use Rattle.device.specs.Claim.{isTick, isDelivery, isGood, isFailed, startReported, failureReported, noneLost}
-use Rattle.device.specs.Claim.{isRefusal, spanOf, stretchIn, named, noteTicks}
-use Rattle.device.specs.Claim.{averagesOf, portWord, awaitedNow, deliveryOf, countRegister, Complete, KindClaim}
+use Rattle.device.specs.Tick.{sumAfter, sumsAfter, failedFlight, flightTicked, flightAfter, temperatureAfter, tickModel, reportOf}
+use Rattle.device.specs.Stretch.{modelTicked, scheduleTicked, lastTick, stretchReport}
+use Rattle.device.specs.Delivery.{sameCount, flightMiscounted, goodSum, goodFlight, goodSums, goodFlightModel, failedFlightModel, goodTemperatureModel, failedTemperatureModel}
+use Rattle.device.specs.Call.{Call, flight, temperature, notAwaited, miscounted}
+use Rattle.device.specs.Reply.{anyLate, portFault}
+use Rattle.device.specs.History.{Kind, differences, temperatures, periodOf, countOf, Plan, planOf, History, opensGroup, noteTick, noteGood, noteFailed, note}
+use Rattle.device.specs.History.{isTick, isDelivery, isGood, isFailed, startReported, failureReported, wordsGood}
+use Rattle.device.specs.History.{isRefusal, spanOf, stretchIn, named, noteTicks}
+use Rattle.device.specs.History.{averagesOf, portWord}
+use Rattle.device.specs.Claim.{awaitedNow, deliveryOf, countRegister, Complete, KindClaim}
 use Rattle.device.proofs.Table.{NoneHolds, negated, picked}
 use Rattle.device.proofs.Sound.{left-some, hits-counted, hits-below}
 use Rattle.device.proofs.Sound
@@ -136,7 +138,7 @@ module _ (m : Model) (h : History) (i : FlightHeld (m .setup) h (m .flight)) whe
   flight-ticks :
       FlightHeld (m .setup) (noteTick flightPlan (begins (m .flight .schedule)) (fails (m .flight .schedule)) h)
       (flightAfter (m .flight))
-  unfolding flightAfter flightTicked lostFlight
+  unfolding flightAfter flightTicked failedFlight
   flight-ticks =
       let k : Schedule = m .flight .schedule in
       let g = going-tick flightPlan h k (i .going) in
@@ -149,8 +151,8 @@ module _ (m : Model) (h : History) (i : FlightHeld (m .setup) h (m .flight)) whe
       NoneHolds m (flight u d) →
       anyLate m u d ≡ true →
       FlightHeld (m .setup) (noteFailed (m .setup) (flight u d) h)
-      (lostFlight (m .flight) (settle (m .flight .schedule) false))
-  unfolding lostFlight noteFailed notAwaited anyLate noneLost
+      (failedFlight (m .flight) (settle (m .flight .schedule) false))
+  unfolding failedFlight noteFailed notAwaited anyLate wordsGood
   flight-fails u d n l =
       let k : Schedule = m .flight .schedule in
       record {
@@ -167,8 +169,8 @@ module _ (m : Model) (h : History) (i : FlightHeld (m .setup) h (m .flight)) whe
       NoneHolds m (flight u d) →
       anyLate m u d ≡ false →
       FlightHeld (m .setup) (noteGood (m .setup) (flight u d) h)
-      (goodFlight (m .flight) (hitCount (m .setup)) (six u) (six d))
-  unfolding goodFlight goodSum average averagesOf noteGood noneLost notAwaited miscounted anyLate
+      (goodFlight (m .flight) (hitCount (m .setup)) (sixWords u) (sixWords d))
+  unfolding goodFlight goodSum average averagesOf noteGood wordsGood notAwaited miscounted anyLate
   flight-adds u d n l =
       let k : Schedule = m .flight .schedule in
       let w = left-some k (n .row10) in
@@ -232,7 +234,7 @@ module _ (m : Model) (h : History) (i : TemperatureHeld (m .setup) h (m .tempera
       portFault m w ≡ true →
       TemperatureHeld (m .setup) (noteFailed (m .setup) (temperature w) h)
       (record { schedule = settle (m .temperature .schedule) false; sums = m .temperature .sums; ports = ports })
-  unfolding noteFailed notAwaited portFault noneLost
+  unfolding noteFailed notAwaited portFault wordsGood
   ports-fail w ports n l =
       let k : Schedule = m .temperature .schedule in
       record {
@@ -249,10 +251,10 @@ module _ (m : Model) (h : History) (i : TemperatureHeld (m .setup) h (m .tempera
       TemperatureHeld (m .setup) (noteGood (m .setup) (temperature w) h)
       (record {
         schedule = settle (m .temperature .schedule) true;
-        sums = goodSums (m .temperature) (four w);
-        ports = four w;
+        sums = goodSums (m .temperature) (fourWords w);
+        ports = fourWords w;
       })
-  unfolding goodSums plusEach portWord noteGood noneLost notAwaited miscounted portFault
+  unfolding goodSums plusEach portWord noteGood wordsGood notAwaited miscounted portFault
   ports-add w n l =
       let k : Schedule = m .temperature .schedule in
       let p = Sound.ports-good m w (n .row11) l in
@@ -299,18 +301,18 @@ stretch-held :
     n ≤ 16384 →
     j ≤ n →
     KindHeld k (m .setup) h m →
-    KindHeld k (m .setup) (noteTicks (planOf k (m .setup)) j (stretchReport (scheduleOf k m) n) h) (ticked j m)
-unfolding noteTicks ticked stretchReport
+    KindHeld k (m .setup) (noteTicks (planOf k (m .setup)) j (stretchReport (scheduleOf k m) n) h) (modelTicked j m)
+unfolding noteTicks modelTicked stretchReport
 stretch-held k m h n zero l u i = i
 stretch-held k m h n (suc j) l u i =
     let g : History = noteTicks (planOf k (m .setup)) j (stretchReport (scheduleOf k m) n) h in
     let p = stretch-held k m h n j l (omega arith) i in
-    let a : Apart (scheduleTicked j (scheduleOf k m)) = subst Apart (schedule-ticked k j m) (held-apart k (m .setup) g (ticked j m) p) in
-    let t : KindHeld k (m .setup) (noteTick (planOf k (m .setup)) (begins (scheduleOf k (ticked j m))) (fails (scheduleOf k (ticked j m))) g) (tickModel (ticked j m)) =
+    let a : Apart (scheduleTicked j (scheduleOf k m)) = subst Apart (schedule-ticked k j m) (held-apart k (m .setup) g (modelTicked j m) p) in
+    let t : KindHeld k (m .setup) (noteTick (planOf k (m .setup)) (begins (scheduleOf k (modelTicked j m))) (fails (scheduleOf k (modelTicked j m))) g) (tickModel (modelTicked j m)) =
     subst
     (λ (s : List ℕ).
-    KindHeld k s g (ticked j m) → KindHeld k s (noteTick (planOf k s) (begins (scheduleOf k (ticked j m))) (fails (scheduleOf k (ticked j m))) g) (tickModel (ticked j m)))
-    (setup-ticked j m) (tick-held k (ticked j m) g) p
+    KindHeld k s g (modelTicked j m) → KindHeld k s (noteTick (planOf k s) (begins (scheduleOf k (modelTicked j m))) (fails (scheduleOf k (modelTicked j m))) g) (tickModel (modelTicked j m)))
+    (setup-ticked j m) (tick-held k (modelTicked j m) g) p
     in
     rw (
       start-named (scheduleOf k m) n j (omega arith) l a,
@@ -332,7 +334,7 @@ pub held-step :
     Step m c r →
     KindHeld k (m .setup) h m →
     KindHeld k (m .setup) (note k (m .setup) (record { call = c; answer = r .answer }) h) (r .model)
-unfolding note noteTicks stretchIn spanOf isRefusal named isTick isDelivery isGood isFailed startReported failureReported reportOf tickModel flightFailed flightGood temperatureFailed temperatureGood
+unfolding note noteTicks stretchIn spanOf isRefusal named isTick isDelivery isGood isFailed startReported failureReported reportOf tickModel failedFlightModel goodFlightModel failedTemperatureModel goodTemperatureModel
 held-step differences m h (refusal c n t) i = rw (note-refused differences (m .setup) c n h t) i
 held-step differences m h (reading f o x s) i = i
 held-step differences m h ticking i = flight-ticks m h i

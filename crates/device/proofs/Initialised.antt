@@ -12,17 +12,18 @@ use Rattle.device.specs.declared.Model.{Model}
 use Rattle.device.specs.Model.{freshModel, freshWith, resetModel}
 use Rattle.device.specs.Write.{writeModel}
 use Rattle.device.specs.Tick.{tickModel}
-use Rattle.device.specs.Stretch.{ticked}
-use Rattle.device.specs.Delivery.{flightGood, flightFailed, temperatureGood, temperatureFailed}
+use Rattle.device.specs.Stretch.{modelTicked}
+use Rattle.device.specs.Delivery.{goodFlightModel, failedFlightModel, goodTemperatureModel, failedTemperatureModel}
 use Rattle.device.specs.FlashFrame.{flashModel}
-use Rattle.device.specs.Bus.{supplied, unsupplied, isEvent, startedEvent, initialised, haltedModel, singleStarted, runModel, readModel}
+use Rattle.device.specs.Bus.{supplied, unsupplied, isEvent, startedEvent, initialisedModel, haltedModel, singleStarted, runModel, readModel}
 use Rattle.device.specs.Call.{Call, transaction, tick, flight, temperature, stretch, opcode, words}
-use Rattle.device.specs.Call.{Verdict, accepted, refused, verdict, anyLate, portFault, acceptedAnswer, acceptedModel, replyBy, reply}
-use Rattle.device.specs.Claim.{isRefusal, after, log}
+use Rattle.device.specs.Call.{Verdict, accepted, refused, verdict}
+use Rattle.device.specs.Reply.{anyLate, portFault, acceptedAnswer, acceptedModel, replyBy, reply}
+use Rattle.device.specs.History.{isRefusal, after, log}
 use Rattle.device.specs.Initialised.{readyGiven, lastReady, InitialisedClaim}
 
-run-ready : (m : Model) (op : ℕ) → runModel m op .ready ≡ pick (eqb op 4) false (pick (eqb op 5) true (m .ready))
-unfolding runModel resetModel freshWith initialised haltedModel supplied unsupplied startedEvent singleStarted
+run-ready : (m : Model) (op : ℕ) → runModel m op .initialised ≡ pick (eqb op 4) false (pick (eqb op 5) true (m .initialised))
+unfolding runModel resetModel freshWith initialisedModel haltedModel supplied unsupplied startedEvent singleStarted
 run-ready m op =
     by-test (eqb op 4) (λ e. rw e)
     (λ e. rw e
@@ -36,16 +37,16 @@ run-ready m op =
     (λ k. rw k
     (by-test (isEvent op) (λ h. rw h) (λ h. rw h (by-test (eqb op 3) (λ i. rw i) (λ i. rw i)))))))))))))
 
-read-ready : (m : Model) (a n : ℕ) → readModel m a n .ready ≡ m .ready
+read-ready : (m : Model) (a n : ℕ) → readModel m a n .initialised ≡ m .initialised
 unfolding readModel
 read-ready m a n = by-test (ltb 0xFE a) (λ e. rw e) (λ e. rw e (by-test (leb (a + n) 0xFE) (λ f. rw f) (λ f. rw f)))
 
-flash-ready : (m : Model) (op : ℕ) → flashModel m op .ready ≡ m .ready
+flash-ready : (m : Model) (op : ℕ) → flashModel m op .initialised ≡ m .initialised
 unfolding flashModel
 flash-ready m op = by-test (eqb op 0x90) (λ e. rw e) (λ e. rw e)
 
-ticked-ready : (n : ℕ) (m : Model) → ticked n m .ready ≡ m .ready
-unfolding ticked tickModel
+ticked-ready : (n : ℕ) (m : Model) → modelTicked n m .initialised ≡ m .initialised
+unfolding modelTicked tickModel
 ticked-ready zero m = refl
 ticked-ready (suc n) m = ticked-ready n m
 
@@ -53,23 +54,23 @@ differ : _≡_ {A = Bool} true false → ⊥
 differ e = let z : _≡_ {A = ℕ} 0 1 = cc in omega arith
 
 -- no other sort of frame begins with 04h or 05h
-others : (op : ℕ) (ready : Bool) →
+others : (op : ℕ) (initialised : Bool) →
     isCommand op ≡ false →
-    pick (eqb op 4) false (pick (eqb op 5) true ready) ≡ ready
+    pick (eqb op 4) false (pick (eqb op 5) true initialised) ≡ initialised
 unfolding isCommand
-others op ready =
+others op initialised =
     by-eqb op 4 (λ h e. rw h (λ c. absurd (differ c)))
     (λ h e. rw e (by-eqb op 5 (λ i f. rw i (λ c. absurd (differ c))) (λ i f. rw f (λ c. refl))))
 
 -- What one accepted call does, and that its answer is no refusal.
 abbrev Given : Model → Call → Type 0
-Given m c = (acceptedModel m c .ready ≡ readyGiven c (m .ready)) × (isRefusal (acceptedAnswer m c) ≡ false)
+Given m c = (acceptedModel m c .initialised ≡ readyGiven c (m .initialised)) × (isRefusal (acceptedAnswer m c) ≡ false)
 
 given : (m : Model) (c : Call) → Given m c
-unfolding acceptedModel acceptedAnswer readyGiven isRefusal flightFailed flightGood temperatureFailed temperatureGood writeModel tickModel
+unfolding acceptedModel acceptedAnswer readyGiven isRefusal failedFlightModel goodFlightModel failedTemperatureModel goodTemperatureModel writeModel tickModel
 given m (transaction f o x) =
     by-test (isCommand (opcode f)) (λ c. rw c (run-ready m (opcode f), refl))
-    (λ c. rw (others (opcode f) (m .ready) c)
+    (λ c. rw (others (opcode f) (m .initialised) c)
     (by-test (isWrite (opcode f))
     (λ w. rw (c, w) (refl, refl))
     (λ w. by-test (isFlash (opcode f))
@@ -82,16 +83,16 @@ given m (stretch n) = (ticked-ready n m, refl)
 
 -- One call, accepted or refused.
 step-ready : (m : Model) (c : Call) →
-    reply m c .model .ready ≡ pick (isRefusal (reply m c .answer)) (m .ready) (readyGiven c (m .ready))
+    reply m c .model .initialised ≡ pick (isRefusal (reply m c .answer)) (m .initialised) (readyGiven c (m .initialised))
 unfolding reply replyBy isRefusal
 step-ready m c = go (verdict m c)
   where
     go : (v : Verdict) →
-        replyBy v m c .model .ready ≡ pick (isRefusal (replyBy v m c .answer)) (m .ready) (readyGiven c (m .ready))
+        replyBy v m c .model .initialised ≡ pick (isRefusal (replyBy v m c .answer)) (m .initialised) (readyGiven c (m .initialised))
     go accepted = rw (given m c .1) (given m c .0)
     go (refused n) = refl
 
-pub all-ready : (cs : List Call) (m : Model) → after m cs .ready ≡ lastReady (log m cs) (m .ready)
+pub all-ready : (cs : List Call) (m : Model) → after m cs .initialised ≡ lastReady (log m cs) (m .initialised)
 unfolding after log lastReady
 all-ready [] m = refl
 all-ready (c ∷ cs) m =
@@ -100,5 +101,5 @@ all-ready (c ∷ cs) m =
 pub initialised-until-reset : InitialisedClaim
 initialised-until-reset cs = all-ready cs freshModel ∙ ap (lastReady (log freshModel cs)) fresh-ready
   where
-    fresh-ready : freshModel .ready ≡ false
+    fresh-ready : freshModel .initialised ≡ false
     fresh-ready = unfold freshModel freshWith in refl

@@ -13,10 +13,10 @@ use Rattle.unit.specs.declared.Ticks.{Ticks}
 use Rattle.setup.specs.Setup.{flightUnset, temperatureUnset, clockStands}
 use Rattle.device.specs.declared.Schedule.{Schedule}
 use Rattle.device.specs.declared.Model.{Model}
-use Rattle.device.specs.Event.{awaits, inEvent, startsLeft, begins, beginsGroup, single, eventStart, settle}
+use Rattle.device.specs.Event.{isAwaited, inEvent, startsLeft, begins, beginsGroup, startSingle, startEvent, settle}
 use Rattle.device.specs.Event.{tickSchedule, leftAfter, waitAfter, startedAfter, settledAfter, goodAfter}
-use Rattle.device.specs.Model.{kindBusy, busy}
-use Rattle.device.specs.Bus.{mustBeIdle, startsFlight, startsTemperature, isEvent, commandBusy, notReady}
+use Rattle.device.specs.Model.{kindBusy, isBusy}
+use Rattle.device.specs.Bus.{mustBeIdle, startsFlight, startsTemperature, isEvent, commandBusy, beforeInitialize}
 use Rattle.device.specs.Bus.{flightSideUnset, temperatureSideUnset, eventSideUnset, commandUnset}
 
 -- "while a measurement is awaited or an event runs": ticks are left to the awaited one, or fewer are settled than planned
@@ -25,7 +25,7 @@ abbrev pub Running : Schedule → Type 0
 Running k = (0 < k .left .0) ⊎ (k .continuous ≡ true) ⊎ (k .settled < k .planned)
 
 pub kind-busy-means : (k : Schedule) → (kindBusy k ≡ true) ↔ Running k
-unfolding kindBusy awaits inEvent
+unfolding kindBusy isAwaited inEvent
 kind-busy-means k =
     by-ltb 0 (k .left .0)
     (λ h e. rw e (holds (inl h)))
@@ -36,8 +36,8 @@ kind-busy-means k =
     (λ i f. rw (e, c, f) (fails false
     (⊎-elim (λ x. omega arith) (⊎-elim (λ x. let z : _≡_ {A = ℕ} 0 1 = cc in omega arith) (λ x. omega arith)))))))
 
-pub busy-means : (m : Model) → (busy m ≡ true) ↔ (Running (m .flight .schedule) ⊎ Running (m .temperature .schedule))
-unfolding busy
+pub busy-means : (m : Model) → (isBusy m ≡ true) ↔ (Running (m .flight .schedule) ⊎ Running (m .temperature .schedule))
+unfolding isBusy
 busy-means m =
     let f = kind-busy-means (m .flight .schedule) in
     let t = kind-busy-means (m .temperature .schedule) in
@@ -65,14 +65,14 @@ commands = 0 ∷ 1 ∷ 2 ∷ 3 ∷ 4 ∷ 5 ∷ 7 ∷ 8 ∷ 9 ∷ 10 ∷ 12 ∷ 1
 -- "00h to 03h, 07h to 09h before Initialize"
 pub before-initialize :
     (m : Model) →
-    m .ready ≡ false →
-    map (notReady m) commands
+    m .initialised ≡ false →
+    map (beforeInitialize m) commands
     ≡ true ∷ true ∷ true ∷ true ∷ false ∷ false ∷ true ∷ true ∷ true ∷ false ∷ false ∷ false ∷ []
-unfolding notReady startsFlight startsTemperature
+unfolding beforeInitialize startsFlight startsTemperature
 before-initialize m e = rw e
 
-pub after-initialize : (m : Model) (op : ℕ) → m .ready ≡ true → notReady m op ≡ false
-unfolding notReady
+pub after-initialize : (m : Model) (op : ℕ) → m .initialised ≡ true → beforeInitialize m op ≡ false
+unfolding beforeInitialize
 after-initialize m op e = rw e
 
 -- "TOF_Up (00h), TOF_Down (01h), TOF_Diff (02h) start a flight measurement, Temperature (03h) a temperature one"; "07h
@@ -100,7 +100,7 @@ event-means op =
 
 -- "busy: a write, or a command but HALT and Reset, while a measurement is awaited or an event runs"
 pub command-busy-means :
-    (m : Model) (op : ℕ) → (commandBusy m op ≡ true) ↔ ((busy m ≡ true) × (¬ (op ≡ 4)) × (¬ (op ≡ 10)))
+    (m : Model) (op : ℕ) → (commandBusy m op ≡ true) ↔ ((isBusy m ≡ true) × (¬ (op ≡ 4)) × (¬ (op ≡ 10)))
 unfolding commandBusy mustBeIdle
 command-busy-means m op =
     by-eqb op 4
@@ -146,26 +146,26 @@ unset-means m f t e x y z = rw (x, y, z) (computed f t e)
 -- counts"
 pub start-means :
     (p : Ticks) (n : ℕ) (c : Bool) →
-    (eventStart p n c .left .0 ≡ 8192) ×
-    (eventStart p n c .wait ≡ p) ×
-    (eventStart p n c .period ≡ p) ×
-    (eventStart p n c .planned ≡ n) ×
-    (eventStart p n c .started ≡ 1) ×
-    (eventStart p n c .settled ≡ 0) ×
-    (eventStart p n c .continuous ≡ c) ×
-    (eventStart p n c .good ≡ 0)
-unfolding eventStart
+    (startEvent p n c .left .0 ≡ 8192) ×
+    (startEvent p n c .wait ≡ p) ×
+    (startEvent p n c .period ≡ p) ×
+    (startEvent p n c .planned ≡ n) ×
+    (startEvent p n c .started ≡ 1) ×
+    (startEvent p n c .settled ≡ 0) ×
+    (startEvent p n c .continuous ≡ c) ×
+    (startEvent p n c .good ≡ 0)
+unfolding startEvent
 start-means p n c = (refl, refl, refl, refl, refl, refl, refl, refl)
 
 pub single-means :
     (k : Schedule) →
-    (single k .left .0 ≡ 8192) ×
-    (single k .planned ≡ k .planned) ×
-    (single k .started ≡ k .started) ×
-    (single k .settled ≡ k .settled) ×
-    (single k .continuous ≡ k .continuous) ×
-    (single k .good ≡ k .good)
-unfolding single
+    (startSingle k .left .0 ≡ 8192) ×
+    (startSingle k .planned ≡ k .planned) ×
+    (startSingle k .started ≡ k .started) ×
+    (startSingle k .settled ≡ k .settled) ×
+    (startSingle k .continuous ≡ k .continuous) ×
+    (startSingle k .good ≡ k .good)
+unfolding startSingle
 single-means k = (refl, refl, refl, refl, refl, refl)
 
 -- A start is to come while fewer are started than planned, and in a continuous event always.

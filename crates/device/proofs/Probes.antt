@@ -7,22 +7,23 @@ use Rattle.unit.specs.Cases.{by-test}
 use Rattle.device.specs.declared.Flight.{Flight}
 use Rattle.device.specs.declared.Model.{Model}
 use Rattle.device.specs.declared.Reply.{Reply}
-use Rattle.device.specs.Model.{sound}
+use Rattle.device.specs.Model.{isSound}
 use Rattle.device.specs.Registers.{flightWord, registerWord}
-use Rattle.device.specs.Call.{Call, table, Verdict, accepted, refused, firstOf, verdict, refuse, replyBy, reply}
+use Rattle.device.specs.Call.{Call, table, Verdict, accepted, refused, firstOf, verdict}
+use Rattle.device.specs.Reply.{refuse, replyBy, reply}
 use Rattle.device.specs.Probes.{OtherProbes, OtherProbesIn, none, next, flowRegisters, Flow, flowOf, flowThrough, ProbesClaim}
 use Rattle.device.proofs.Blank.{blank, model-alike, reported, report-alike, otherRows, rows-alike}
 use Rattle.device.proofs.Sound.{keeps-sound}
 
 -- A call of two sound models: the same number or none, and then the rest.
-sound-verdict : (m : Model) (c : Call) → sound m ≡ true → verdict m c ≡ firstOf (otherRows m c)
+sound-verdict : (m : Model) (c : Call) → isSound m ≡ true → verdict m c ≡ firstOf (otherRows m c)
 unfolding verdict firstOf table
 sound-verdict m c s = rw s
 
 pub verdict-alike :
     (m n : Model) {c d : Call} →
-    sound m ≡ true →
-    sound n ≡ true →
+    isSound m ≡ true →
+    isSound n ≡ true →
     blank m ≡ blank n →
     OtherProbes c d →
     verdict m c ≡ verdict n d
@@ -35,8 +36,8 @@ pub record Alike (r s : Reply) : Type 0 where
 
 pub reply-alike :
     (m n : Model) {c d : Call} →
-    sound m ≡ true →
-    sound n ≡ true →
+    isSound m ≡ true →
+    isSound n ≡ true →
     blank m ≡ blank n →
     OtherProbes c d →
     Alike (reply m c) (reply n d)
@@ -64,8 +65,8 @@ flow-alike {r} {s} a =
 -- Both lists.
 through-alike :
     (m n : Model) {cs ds : List Call} →
-    sound m ≡ true →
-    sound n ≡ true →
+    isSound m ≡ true →
+    isSound n ≡ true →
     blank m ≡ blank n →
     OtherProbesIn cs ds →
     flowThrough m cs ≡ flowThrough n ds
@@ -78,13 +79,13 @@ through-alike m n s t e (next c d cs ds o os) =
     (through-alike (reply m c .model) (reply n d .model) (keeps-sound m c s) (keeps-sound n d t) (a .models) os))
 
 -- A model that is not sound refuses every call, and stays.
-unsound-refuses : (m : Model) (c : Call) → sound m ≡ false → reply m c ≡ refuse 0 m
+unsound-refuses : (m : Model) (c : Call) → isSound m ≡ false → reply m c ≡ refuse 0 m
 unfolding reply replyBy verdict firstOf table
 unsound-refuses m c s = rw s
 
 unsound-through :
     (m : Model) {cs ds : List Call} →
-    sound m ≡ false →
+    isSound m ≡ false →
     OtherProbesIn cs ds →
     flowThrough m cs ≡ flowThrough m ds
 unfolding flowThrough
@@ -95,4 +96,4 @@ unsound-through m s (next c d cs ds o os) =
 
 pub probes-leave-flow : ProbesClaim
 probes-leave-flow m cs ds o =
-    by-test (sound m) (λ s. through-alike m m s s refl o) (λ s. unsound-through m s o)
+    by-test (isSound m) (λ s. through-alike m m s s refl o) (λ s. unsound-through m s o)

@@ -18,10 +18,11 @@ use Rattle.device.specs.declared.Model.{Model}
 use Rattle.device.specs.declared.Progress.{Progress}
 use Rattle.device.specs.Event.{startsLeft, begins, beginsGroup, fails, leftAfter, waitAfter, startedAfter, settledAfter, goodAfter, tickSchedule}
 use Rattle.device.specs.Status.{flightBits, temperatureBits}
-use Rattle.device.specs.Tick.{sumAfter, sumsAfter, flightTicked, flightAfter, temperatureAfter, clockTicked, alarmRaised, tickStatus, tickModel, reportOf}
-use Rattle.device.specs.Stretch.{ticked, scheduleTicked, lastTick, stretchReport, least, quietLeft, quietWait, quietClock, quietSchedule, quietFor}
-use Rattle.device.specs.Stretch.{laterSchedule, laterClock, laterModel, progress, movedQuietly, noted, movedByOne, moved}
-use Rattle.device.specs.Claim.{Kind, differences, temperatures}
+use Rattle.device.specs.Tick.{sumAfter, sumsAfter, flightTicked, flightAfter, temperatureAfter, clockTicked, tickRings, tickStatus, tickModel, reportOf}
+use Rattle.device.specs.Stretch.{modelTicked, scheduleTicked, lastTick, stretchReport}
+use Rattle.device.specs.StretchSteps.{least, quietLeft, quietWait, quietClock, quietSchedule, quietFor}
+use Rattle.device.specs.StretchSteps.{laterSchedule, laterClock, laterModel, progress, movedQuietly, noted, movedByOne, moved}
+use Rattle.device.specs.History.{Kind, differences, temperatures}
 use Rattle.device.proofs.CallMeaning.{no-bits, no-alarm}
 use Rattle.device.proofs.TickCases.{no-group}
 use Rattle.device.proofs.Stretch.{scheduleOf, schedule-ticked}
@@ -124,8 +125,8 @@ module _ (m : Model) (q : ℕ) (l : q < quietClock m) where
       let b : m .clock .ticks .0 + q + 1 ≡ m .clock .ticks .0 + (q + 1) = omega arith in
       rw (e, lt-leb 32767 (m .clock .ticks .0 + q) a, b))
 
-  alarm-none : alarmRaised (laterModel q m) (clockTicked (laterModel q m)) ≡ false
-  unfolding alarmRaised laterModel laterClock
+  alarm-none : tickRings (laterModel q m) (clockTicked (laterModel q m)) ≡ false
+  unfolding tickRings laterModel laterClock
   alarm-none =
       rw clock-later
       (by-test (clockStands (m .setup))
@@ -135,7 +136,7 @@ module _ (m : Model) (q : ℕ) (l : q < quietClock m) where
 -- where nothing happens, a tick leaves the status
 status-same :
     (m : Model) →
-    alarmRaised m (clockTicked m) ≡ false →
+    tickRings m (clockTicked m) ≡ false →
     fails (m .flight .schedule) ≡ false →
     fails (m .temperature .schedule) ≡ false →
     tickStatus m (clockTicked m) ≡ m .status
@@ -208,43 +209,43 @@ none-later m =
     rw (none-clock m, none-schedule (m .flight .schedule), none-schedule (m .temperature .schedule))
 
 -- q of them
-pub quiet-ticked : (m : Model) (q : ℕ) → q ≤ quietFor m → ticked q m ≡ laterModel q m
-unfolding ticked
+pub quiet-ticked : (m : Model) (q : ℕ) → q ≤ quietFor m → modelTicked q m ≡ laterModel q m
+unfolding modelTicked
 quiet-ticked m zero l = sym (none-later m)
 quiet-ticked m (suc q) l =
     ap tickModel (quiet-ticked m q (omega arith)) ∙ model-later m q (omega arith) ∙ ap (λ n. laterModel n m) (add-one q)
 
-pub ticked-later : (a b : ℕ) (m : Model) → ticked a (ticked b m) ≡ ticked (b + a) m
-unfolding ticked
+pub ticked-later : (a b : ℕ) (m : Model) → modelTicked a (modelTicked b m) ≡ modelTicked (b + a) m
+unfolding modelTicked
 ticked-later zero b m = let e : b + 0 ≡ b = omega arith in rw e
 ticked-later (suc a) b m = let e : b + suc a ≡ suc (b + a) = omega arith in rw e (ap tickModel (ticked-later a b m))
 
 -- nothing is reported meanwhile
 quiet-report :
     (k : Kind) (m : Model) (d q : ℕ) →
-    q ≤ quietFor (ticked d m) →
+    q ≤ quietFor (modelTicked d m) →
     stretchReport (scheduleOf k m) (d + q) ≡ stretchReport (scheduleOf k m) d
 unfolding stretchReport lastTick
 quiet-report k m d zero l = let e : d + 0 ≡ d = omega arith in rw e
 quiet-report k m d (suc q) l =
     let e : d + suc q ≡ suc (d + q) = omega arith in
-    let n : Model = ticked d m in
+    let n : Model = modelTicked d m in
     let t : scheduleTicked (d + q) (scheduleOf k m) ≡ scheduleOf k (laterModel q n) =
     sym (schedule-ticked k (d + q) m) ∙ ap (scheduleOf k) (sym (ticked-later q d m) ∙ quiet-ticked n q (omega arith)) in
     rw (e, t, begins-later n q (omega arith) k, fails-later n q (omega arith) k) (quiet-report k m d q (omega arith))
 
 -- The parts of the code: each moves a stretch on.
 pub one-moves : (m : Model) (d : ℕ) → movedByOne (progress m d) ≡ progress m (d + 1)
-unfolding movedByOne progress noted stretchReport lastTick ticked
+unfolding movedByOne progress noted stretchReport lastTick modelTicked
 one-moves m d =
     rw (add-one d, sym (schedule-ticked differences d m), sym (schedule-ticked temperatures d m), add-one d)
 
 pub quiet-moves :
-    (m : Model) (d q : ℕ) → q ≤ quietFor (ticked d m) → movedQuietly q (progress m d) ≡ progress m (d + q)
+    (m : Model) (d q : ℕ) → q ≤ quietFor (modelTicked d m) → movedQuietly q (progress m d) ≡ progress m (d + q)
 unfolding movedQuietly progress
 quiet-moves m d q l =
     rw (
-      sym (quiet-ticked (ticked d m) q l),
+      sym (quiet-ticked (modelTicked d m) q l),
       ticked-later q d m,
       quiet-report differences m d q l,
       quiet-report temperatures m d q l,
@@ -252,7 +253,7 @@ quiet-moves m d q l =
 
 -- A whole stretch of quiet ticks.
 pub quiet-run : (m : Model) (n : ℕ) → n ≤ quietFor m → movedQuietly n (progress m 0) ≡ progress m n
-unfolding ticked
+unfolding modelTicked
 quiet-run m n l = let e : 0 + n ≡ n = omega arith in quiet-moves m 0 n l ∙ ap (progress m) e
 
 pub quiet-fits : (m : Model) (n : ℕ) → n ≤ quietFor m → n ≤ quietClock m
@@ -264,7 +265,7 @@ quiet-fits m n l =
 -- A single quiet tick reports nothing.
 module _ (m : Model) (l : 1 ≤ quietFor m) where
   pub quiet-tick : tickModel m ≡ laterModel 1 m
-  unfolding ticked
+  unfolding modelTicked
   quiet-tick = quiet-ticked m 1 l
 
   quiet-kind : (k : Kind) → reportOf (scheduleOf k m) ≡ record { started = false; failed = false }
@@ -292,11 +293,11 @@ step-bounds most m l =
     (λ a e. rw e (omega arith))
 
 pub step-moves :
-    (m : Model) (d most : ℕ) → moved most (progress m d) ≡ progress m (d + stepOf most (ticked d m))
+    (m : Model) (d most : ℕ) → moved most (progress m d) ≡ progress m (d + stepOf most (modelTicked d m))
 unfolding moved stepOf progress
 step-moves m d most =
-    by-ltb 0 (quietFor (ticked d m))
-    (λ a e. rw e (quiet-moves m d (least (quietFor (ticked d m)) most) (least-bound (quietFor (ticked d m)) most)))
+    by-ltb 0 (quietFor (modelTicked d m))
+    (λ a e. rw e (quiet-moves m d (least (quietFor (modelTicked d m)) most) (least-bound (quietFor (modelTicked d m)) most)))
     (λ a e. rw e (one-moves m d))
 
 pub step-fits : (m : Model) (most : ℕ) → (least (quietFor m) most ≤ quietClock m) × (least (quietFor m) most ≤ most)
@@ -321,10 +322,10 @@ pub loop-keeps :
 unfolding progress
 loop-keeps m p r n e l f =
     let d : ℕ = p .done in
-    let s : ℕ = stepOf (n - d) (ticked d m) in
+    let s : ℕ = stepOf (n - d) (modelTicked d m) in
     let q : r ≡ progress m (d + s) = f ∙ ap (moved (n - d)) e ∙ step-moves m d (n - d) in
     let g : r .done ≡ d + s = ap (λ (x : Progress). x .done) q in
-    let b = step-bounds (n - d) (ticked d m) (omega arith) in
+    let b = step-bounds (n - d) (modelTicked d m) (omega arith) in
     record {
       progressed = q ∙ ap (progress m) (sym g);
       within = omega arith;
@@ -332,7 +333,7 @@ loop-keeps m p r n e l f =
     }
 
 pub loop-starts : (m : Model) (p : Progress) → p ≡ progress m 0 → (p ≡ progress (p .model) (p .done)) × (p .done ≡ 0)
-unfolding progress ticked
+unfolding progress modelTicked
 loop-starts m p e = rw e (refl, refl)
 
 pub loop-ends :
@@ -342,7 +343,7 @@ pub loop-ends :
     r .done ≤ n →
     n ≤ r .done →
     r ≡ progress m n
-unfolding progress ticked
+unfolding progress modelTicked
 loop-ends m p r n e f a b =
     let d : r .done ≡ n = omega arith in
     let g : p .model ≡ m = ap (λ (x : Progress). x .model) e in

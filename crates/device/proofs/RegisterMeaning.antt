@@ -18,7 +18,7 @@ use Rattle.device.specs.declared.Model.{Model}
 use Rattle.device.specs.Event.{noSchedule}
 use Rattle.device.specs.Status.{porBit, noBits, statusWord}
 use Rattle.device.specs.Model.{freshWith, freshModel, resetModel, noFlight, noTemperature}
-use Rattle.device.specs.Registers.{half, calendarWord, flightWord, temperatureWord, registerWord, fill, upwards}
+use Rattle.device.specs.Registers.{half, calendarWord, flightWord, temperatureWord, registerWord, fillWords, upwards}
 use Rattle.device.specs.Write.{covers, written, withWord, setupAfter}
 use Rattle.device.specs.Claim.{Holds}
 
@@ -52,7 +52,7 @@ unfolding resetModel freshWith noFlight noTemperature noSchedule noBits start fa
 reset-reads = (refl, refl, refl, refl, refl)
 
 -- "not initialised"
-pub fresh-not-ready : (freshModel .ready ≡ false) × (resetModel .ready ≡ false)
+pub fresh-not-ready : (freshModel .initialised ≡ false) × (resetModel .initialised ≡ false)
 unfolding freshModel resetModel freshWith
 fresh-not-ready = (refl, refl)
 
@@ -209,44 +209,44 @@ module _ (m : Model) where
 
 -- "the first 2n bytes of the output buffer are filled from consecutive registers, the rest of it stays"
 module _ (m : Model) (a : ℕ) (out : List ℕ) where
-  pub fill-length : (n : ℕ) → length (fill m a out n) ≡ length out
-  unfolding fill
+  pub fill-length : (n : ℕ) → length (fillWords m a out n) ≡ length out
+  unfolding fillWords
   fill-length zero = refl
   fill-length (suc n) = simp length-set (fill-length n)
 
-  pub fill-rest : (n j : ℕ) → 2 * n ≤ j → getD (fill m a out n) j 0 ≡ getD out j 0
-  unfolding fill
+  pub fill-rest : (n j : ℕ) → 2 * n ≤ j → getD (fillWords m a out n) j 0 ≡ getD out j 0
+  unfolding fillWords
   fill-rest zero j h = refl
   fill-rest (suc n) j h =
       let w : ℕ = registerWord m (a + n) in
-      getD-set-other (set (fill m a out n) (2 * n) (w / 256 % 256)) (2 * n + 1) j (w % 256) 0 (omega arith)
-      ∙ (getD-set-other (fill m a out n) (2 * n) j (w / 256 % 256) 0 (omega arith) ∙ fill-rest n j (omega arith))
+      getD-set-other (set (fillWords m a out n) (2 * n) (w / 256 % 256)) (2 * n + 1) j (w % 256) 0 (omega arith)
+      ∙ (getD-set-other (fillWords m a out n) (2 * n) j (w / 256 % 256) 0 (omega arith) ∙ fill-rest n j (omega arith))
 
   -- "Words go high byte first."
   pub fill-bytes :
       (n i : ℕ) →
       i < n →
       2 * n ≤ length out →
-      (getD (fill m a out n) (2 * i) 0 ≡ registerWord m (a + i) / 256 % 256) ×
-      (getD (fill m a out n) (2 * i + 1) 0 ≡ registerWord m (a + i) % 256)
-  unfolding fill
+      (getD (fillWords m a out n) (2 * i) 0 ≡ registerWord m (a + i) / 256 % 256) ×
+      (getD (fillWords m a out n) (2 * i + 1) 0 ≡ registerWord m (a + i) % 256)
+  unfolding fillWords
   fill-bytes zero i h l = absurd (omega arith)
   fill-bytes (suc n) i h l =
       let w : ℕ = registerWord m (a + n) in
-      let k : length (fill m a out n) ≡ length out = fill-length n in
-      let b : List ℕ = set (fill m a out n) (2 * n) (w / 256 % 256) in
-      let o : length b ≡ length out = length-set (fill m a out n) (2 * n) (w / 256 % 256) ∙ k in
+      let k : length (fillWords m a out n) ≡ length out = fill-length n in
+      let b : List ℕ = set (fillWords m a out n) (2 * n) (w / 256 % 256) in
+      let o : length b ≡ length out = length-set (fillWords m a out n) (2 * n) (w / 256 % 256) ∙ k in
       by-eqb i n
       (λ e f. rw e (
         getD-set-other b (2 * n + 1) (2 * n) (w % 256) 0 (omega arith)
-            ∙ getD-set-same (fill m a out n) (2 * n) (w / 256 % 256) 0 (omega arith),
+            ∙ getD-set-same (fillWords m a out n) (2 * n) (w / 256 % 256) 0 (omega arith),
         getD-set-same b (2 * n + 1) (w % 256) 0 (omega arith),
       ))
       (λ e f. let r = fill-bytes n i (omega arith) (omega arith) in (
         getD-set-other b (2 * n + 1) (2 * i) (w % 256) 0 (omega arith)
-            ∙ (getD-set-other (fill m a out n) (2 * n) (2 * i) (w / 256 % 256) 0 (omega arith) ∙ r .0),
+            ∙ (getD-set-other (fillWords m a out n) (2 * n) (2 * i) (w / 256 % 256) 0 (omega arith) ∙ r .0),
         getD-set-other b (2 * n + 1) (2 * i + 1) (w % 256) 0 (omega arith)
-            ∙ (getD-set-other (fill m a out n) (2 * n) (2 * i + 1) (w / 256 % 256) 0 (omega arith) ∙ r .1),
+            ∙ (getD-set-other (fillWords m a out n) (2 * n) (2 * i + 1) (w / 256 % 256) 0 (omega arith) ∙ r .1),
       ))
 
 -- "n ≥ 1 words follow, to consecutive registers"; "Reserved bits are kept as written": of the registers 34h to 43h, those from

@@ -19,7 +19,7 @@ use Rattle.setup.proofs.Laws.{hits-bounds, cycle-below, difference-period-bound
 use Rattle.setup.proofs.Laws.{temperature-period-bounds, temperature-count-bounds}
 use Rattle.frame.specs.Frame.{isCommand, isWrite, isFlash}
 use Rattle.hit.specs.Limit.{lateFrom, openFrom, anyFrom}
-use Rattle.hit.specs.Words.{six, four, average, sixTotal, plusEach}
+use Rattle.hit.specs.Words.{sixWords, fourWords, average, sixTotal, plusEach}
 use Rattle.hit.specs.Difference.{biased}
 use Rattle.hit.proofs.Limits.{quotient-below}
 use Rattle.hit.proofs.Sum.{neither, hits-fit}
@@ -30,20 +30,22 @@ use Rattle.device.specs.Status.{noBits, porBit}
 use Rattle.device.specs.declared.Flight.{Flight}
 use Rattle.device.specs.declared.Temperature.{Temperature}
 use Rattle.device.specs.declared.Model.{Model}
-use Rattle.device.specs.Model.{sound, busy, kindBusy, flightSound, temperatureSound, sumFits, freshWith, freshModel, resetModel, noFlight, noTemperature}
+use Rattle.device.specs.Model.{isSound, isBusy, kindBusy, flightSound, temperatureSound, sumFits, freshWith, freshModel, resetModel, noFlight, noTemperature}
 use Rattle.device.specs.Write.{clockAfter, writeInvalid, writeModel}
-use Rattle.device.specs.Tick.{sumAfter, sumsAfter, lostFlight, flightTicked, flightAfter, temperatureAfter, clockTicked, tickModel}
-use Rattle.device.specs.Stretch.{ticked}
-use Rattle.device.specs.Delivery.{sameCount, flightMiscounted, goodSum, goodSums, goodFlight, flightGood, flightFailed, temperatureGood, temperatureFailed}
+use Rattle.device.specs.Tick.{sumAfter, sumsAfter, failedFlight, flightTicked, flightAfter, temperatureAfter, clockTicked, tickModel}
+use Rattle.device.specs.Stretch.{modelTicked}
+use Rattle.device.specs.Delivery.{sameCount, flightMiscounted, goodSum, goodSums, goodFlight, goodFlightModel, failedFlightModel, goodTemperatureModel, failedTemperatureModel}
 use Rattle.device.specs.Bus.{mustBeIdle, commandBusy, startsFlight, startsTemperature, isEvent, flightStarted, flightEvent, temperatureEvent}
-use Rattle.device.specs.Bus.{eventFlight, eventTemperature, startedEvent, initialised, haltedModel, singleStarted, supplied, unsupplied, runModel, readModel}
+use Rattle.device.specs.Bus.{eventFlight, eventTemperature, startedEvent, initialisedModel, haltedModel, singleStarted, supplied, unsupplied, runModel, readModel}
 use Rattle.device.specs.FlashFrame.{flashModel}
 use Rattle.device.specs.Call.{Call, transaction, tick, flight, temperature, stretch, Verdict, accepted, refused, opcode, words}
-use Rattle.device.specs.Call.{flightFits, anyLate, portFault, acceptedModel, miscounted, whileBusy, supplyOff, unreachable, unerased, notAwaited, badCalendar, verdict, reply, replyBy}
+use Rattle.device.specs.Parts.{flightFits}
+use Rattle.device.specs.Reply.{anyLate, portFault, acceptedModel, reply, replyBy}
+use Rattle.device.specs.Call.{miscounted, whileBusy, supplyOff, unreachable, unerased, notAwaited, badCalendar, verdict}
 use Rattle.device.proofs.Table.{NoneHolds, none-holds, negated, picked}
-use Rattle.device.specs.Event.{countsSound, waitSound, balanceSound, scheduleSound, noSchedule, awaits, inEvent, startsLeft, begins}
-use Rattle.device.specs.Event.{beginsGroup, leftAfter, waitAfter, startedAfter, settledAfter, goodAfter, fails, single, eventStart}
-use Rattle.device.specs.Event.{tickSchedule, settle, halted}
+use Rattle.device.specs.Event.{countsSound, waitSound, balanceSound, scheduleSound, noSchedule, isAwaited, inEvent, startsLeft, begins}
+use Rattle.device.specs.Event.{beginsGroup, leftAfter, waitAfter, startedAfter, settledAfter, goodAfter, fails, startSingle, startEvent}
+use Rattle.device.specs.Event.{tickSchedule, settle, haltSchedule}
 use Rattle.device.proofs.TickCases.{by-begins, by-group, no-group, one-less}
 
 -- a start to come: the period, the wait for it, and the ticks that the awaited one has left
@@ -259,15 +261,15 @@ temperature-sound t b =
     let s = b .sums in
     simp (schedule-sound, b .schedule, sum-fits, s .first, s .second, s .third, s .fourth)
 
-pub bounds-of : (m : Model) → sound m ≡ true → Bounds m
-unfolding sound
+pub bounds-of : (m : Model) → isSound m ≡ true → Bounds m
+unfolding isSound
 bounds-of m e =
     let (c, e1) = held (clockValid (m .clock)) e in
     let (f, t) = held (flightSound (m .flight)) e1 in
     record { clock = c; flight = flight-of (m .flight) f; temperature = temperature-of (m .temperature) t }
 
-pub sound-of : (m : Model) → Bounds m → sound m ≡ true
-unfolding sound
+pub sound-of : (m : Model) → Bounds m → isSound m ≡ true
+unfolding isSound
 sound-of m b =
     rw (b .clock, flight-sound (m .flight) (b .flight), temperature-sound (m .temperature) (b .temperature))
 
@@ -298,10 +300,10 @@ none-left : (k : Schedule) → k .continuous ≡ false → k .planned ≤ k .sta
 unfolding startsLeft
 none-left k c l = rw (c, le-ltb (k .started) (k .planned) l)
 
-pub single-bounds : (k : Schedule) → kindBusy k ≡ false → ScheduleBounds k → ScheduleBounds (single k)
-unfolding single kindBusy startsLeft inEvent
+pub single-bounds : (k : Schedule) → kindBusy k ≡ false → ScheduleBounds k → ScheduleBounds (startSingle k)
+unfolding startSingle kindBusy startsLeft inEvent
 single-bounds k i b =
-    let e = neither-picked (awaits k) i .1 in
+    let e = neither-picked (isAwaited k) i .1 in
     let (c, l) = idle-all k e in
     record {
       planned = b .planned;
@@ -313,8 +315,8 @@ single-bounds k i b =
       balance = λ t. let z : _≡_ {A = ℕ} 0 1 = cc in absurd (omega arith);
     }
 
-pub start-bounds : (p : Ticks) (n : ℕ) (c : Bool) → 16384 ≤ p .0 → 1 ≤ n → n ≤ 32 → ScheduleBounds (eventStart p n c)
-unfolding eventStart startsLeft inEvent
+pub start-bounds : (p : Ticks) (n : ℕ) (c : Bool) → 16384 ≤ p .0 → 1 ≤ n → n ≤ 32 → ScheduleBounds (startEvent p n c)
+unfolding startEvent startsLeft inEvent
 start-bounds p n c l o h =
     record {
       planned = h;
@@ -326,8 +328,8 @@ start-bounds p n c l o h =
       balance = λ t. record { some = omega arith; busy = λ _. refl; idle = λ y. absurd (omega arith) };
     }
 
-pub halted-bounds : (k : Schedule) → ScheduleBounds k → ScheduleBounds (halted k)
-unfolding halted startsLeft inEvent
+pub halted-bounds : (k : Schedule) → ScheduleBounds k → ScheduleBounds (haltSchedule k)
+unfolding haltSchedule startsLeft inEvent
 halted-bounds k b =
     let n = le-ltb (k .settled) (k .settled) (omega arith) in
     record {
@@ -570,7 +572,7 @@ unfolding noTemperature noSchedule
 no-temperature-bounds = record { schedule = no-schedule-bounds; sums = omega arith }
 
 flight-event-bounds : (f : Flight) (s : List ℕ) → FlightBounds (flightEvent f s)
-unfolding flightEvent eventStart
+unfolding flightEvent startEvent
 flight-event-bounds f s =
     record {
       schedule =
@@ -580,7 +582,7 @@ flight-event-bounds f s =
     }
 
 temperature-event-bounds : (t : Temperature) (s : List ℕ) → TemperatureBounds (temperatureEvent t s)
-unfolding temperatureEvent eventStart
+unfolding temperatureEvent startEvent
 temperature-event-bounds t s =
     record {
       schedule =
@@ -590,7 +592,7 @@ temperature-event-bounds t s =
     }
 
 flight-after-bounds : (f : Flight) → FlightBounds f → FlightBounds (flightAfter f)
-unfolding flightAfter flightTicked lostFlight
+unfolding flightAfter flightTicked failedFlight
 flight-after-bounds f b =
     let k = tick-bounds (f .schedule) (b .schedule) in
     let s : sumAfter f ≤ tickSchedule (f .schedule) .good * 4294967296 = sum-after in
@@ -617,8 +619,8 @@ temperature-after-bounds t b =
         by-test (beginsGroup (t .schedule)) (λ e. rw e (omega arith)) (λ e. rw e (b .sums))
 
 flight-lost-bounds :
-    (f : Flight) → 0 < f .schedule .left .0 → FlightBounds f → FlightBounds (lostFlight f (settle (f .schedule) false))
-unfolding lostFlight
+    (f : Flight) → 0 < f .schedule .left .0 → FlightBounds f → FlightBounds (failedFlight f (settle (f .schedule) false))
+unfolding failedFlight
 flight-lost-bounds f a b =
     record { schedule = settle-bounds (f .schedule) false a (b .schedule); sum = rw (settle-good (f .schedule)) (b .sum) }
 
@@ -704,8 +706,8 @@ write-bounds bytes op n m e b =
       temperature = b .temperature;
     }
 
-single-started-bounds : (m : Model) (op : ℕ) → busy m ≡ false → Bounds m → Bounds (singleStarted m op)
-unfolding singleStarted flightStarted busy
+single-started-bounds : (m : Model) (op : ℕ) → isBusy m ≡ false → Bounds m → Bounds (singleStarted m op)
+unfolding singleStarted flightStarted isBusy
 single-started-bounds m op i b =
     let f = b .flight in
     let t = b .temperature in
@@ -714,11 +716,11 @@ single-started-bounds m op i b =
     (record {
       clock = b .clock;
       flight = f;
-      temperature = record { schedule = single-bounds (m .temperature .schedule) k (t .schedule); sums = unfold single in t .sums };
+      temperature = record { schedule = single-bounds (m .temperature .schedule) k (t .schedule); sums = unfold startSingle in t .sums };
     })
     (record {
       clock = b .clock;
-      flight = record { schedule = single-bounds (m .flight .schedule) j (f .schedule); sum = unfold single in f .sum };
+      flight = record { schedule = single-bounds (m .flight .schedule) j (f .schedule); sum = unfold startSingle in f .sum };
       temperature = t;
     })
 
@@ -735,7 +737,7 @@ started-event-bounds m op b =
     }
 
 halted-model-bounds : (m : Model) → Bounds m → Bounds (haltedModel m)
-unfolding haltedModel halted
+unfolding haltedModel haltSchedule
 halted-model-bounds m b =
     let f = b .flight in
     let t = b .temperature in
@@ -746,12 +748,12 @@ halted-model-bounds m b =
     }
 
 -- every command but HALT and Reset needs an idle model
-must-idle : (m : Model) (op : ℕ) → commandBusy m op ≡ false → eqb op 4 ≡ false → eqb op 10 ≡ false → busy m ≡ false
+must-idle : (m : Model) (op : ℕ) → commandBusy m op ≡ false → eqb op 4 ≡ false → eqb op 10 ≡ false → isBusy m ≡ false
 unfolding commandBusy mustBeIdle
 must-idle m op i e f = rw (e, f) at i
 
 run-bounds : (m : Model) (op : ℕ) → commandBusy m op ≡ false → Bounds m → Bounds (runModel m op)
-unfolding runModel resetModel initialised supplied unsupplied
+unfolding runModel resetModel initialisedModel supplied unsupplied
 run-bounds m op i b =
     picked Bounds (eqb op 4) (λ _. fresh-bounds noBits)
     (λ e. chosen Bounds (eqb op 5) (record { clock = b .clock; flight = b .flight; temperature = b .temperature })
@@ -793,7 +795,7 @@ pub hits-below :
     (m : Model) (u d : List ℕ) →
     miscounted m (flight u d) ≡ false →
     anyLate m u d ≡ false →
-    (sixTotal (six u) < hitCount (m .setup) * 2147483648) × (sixTotal (six d) < hitCount (m .setup) * 2147483648)
+    (sixTotal (sixWords u) < hitCount (m .setup) * 2147483648) × (sixTotal (sixWords d) < hitCount (m .setup) * 2147483648)
 unfolding miscounted anyLate
 hits-below m u d e late =
     let h : ℕ = hitCount (m .setup) in
@@ -804,9 +806,9 @@ hits-below m u d e late =
     (hits-fit k h u lu some most nu, hits-fit k h d ld some most nd)
 
 -- A delivery is accepted only while its kind is awaited.
-pub left-some : (k : Schedule) → negate (awaits k) ≡ false → 0 < k .left .0
-unfolding awaits
-left-some k a = ltb-true 0 (k .left .0) (held (ltb 0 (k .left .0)) (negated (awaits k) a) .0)
+pub left-some : (k : Schedule) → negate (isAwaited k) ≡ false → 0 < k .left .0
+unfolding isAwaited
+left-some k a = ltb-true 0 (k .left .0) (held (ltb 0 (k .left .0)) (negated (isAwaited k) a) .0)
 
 flight-bounds :
     (m : Model) (u d : List ℕ) →
@@ -814,7 +816,7 @@ flight-bounds :
     miscounted m (flight u d) ≡ false →
     Bounds m →
     Bounds (acceptedModel m (flight u d))
-unfolding acceptedModel flightFailed flightGood notAwaited
+unfolding acceptedModel failedFlightModel goodFlightModel notAwaited
 flight-bounds m u d w e b =
     let a = left-some (m .flight .schedule) w in
     by-test (anyLate m u d)
@@ -824,7 +826,7 @@ flight-bounds m u d w e b =
     (record {
       clock = b .clock;
       flight =
-          flight-good-bounds (m .flight) (hitCount (m .setup)) (six u) (six d) (hits-below m u d e l .0) a (b .flight);
+          flight-good-bounds (m .flight) (hitCount (m .setup)) (sixWords u) (sixWords d) (hits-below m u d e l .0) a (b .flight);
       temperature = b .temperature;
     }))
 
@@ -845,7 +847,7 @@ temperature-bounds :
     miscounted m (temperature w) ≡ false →
     Bounds m →
     Bounds (acceptedModel m (temperature w))
-unfolding acceptedModel temperatureFailed temperatureGood four notAwaited
+unfolding acceptedModel failedTemperatureModel goodTemperatureModel fourWords notAwaited
 temperature-bounds m w n e b =
     let a = left-some (m .temperature .schedule) n in
     by-test (portFault m w)
@@ -861,7 +863,7 @@ temperature-bounds m w n e b =
       clock = b .clock;
       flight = b .flight;
       temperature =
-          temperature-good-bounds (m .temperature) (four w) (four w) (g .first) (g .second) (g .third) (g .fourth) a
+          temperature-good-bounds (m .temperature) (fourWords w) (fourWords w) (g .first) (g .second) (g .third) (g .fourth) a
           (b .temperature);
     }))
 
@@ -880,10 +882,10 @@ transaction-bounds m f o x i e b =
     (λ u. rw (c, w, u) (flash-bounds m (opcode f) b))
     (λ u. rw (c, w, u) (read-bounds m (opcode f) (words f) b))))
 
-pub ticked-bounds : (n : ℕ) (m : Model) → Bounds m → Bounds (ticked n m)
-unfolding ticked
+pub ticked-bounds : (n : ℕ) (m : Model) → Bounds m → Bounds (modelTicked n m)
+unfolding modelTicked
 ticked-bounds zero m b = b
-ticked-bounds (suc n) m b = tick-model-bounds (ticked n m) (ticked-bounds n m b)
+ticked-bounds (suc n) m b = tick-model-bounds (modelTicked n m) (ticked-bounds n m b)
 
 accepted-bounds : (m : Model) (c : Call) → NoneHolds m c → Bounds m → Bounds (acceptedModel m c)
 accepted-bounds m (transaction f o x) n b = transaction-bounds m f o x (n .row6) (n .row7) b
@@ -893,28 +895,28 @@ accepted-bounds m (temperature w) n b = temperature-bounds m w (n .row10) (n .ro
 accepted-bounds m (stretch k) n b = unfold acceptedModel in ticked-bounds k m b
 
 -- "a fresh model is sound and every call keeps it so"
-pub fresh-sound : sound freshModel ≡ true
+pub fresh-sound : isSound freshModel ≡ true
 unfolding freshModel
 fresh-sound = sound-of freshModel (fresh-bounds porBit)
 
-pub keeps-sound : (m : Model) (c : Call) → sound m ≡ true → sound (reply m c .model) ≡ true
+pub keeps-sound : (m : Model) (c : Call) → isSound m ≡ true → isSound (reply m c .model) ≡ true
 unfolding reply replyBy
 keeps-sound m c s = go (verdict m c) refl
   where
-    go : (v : Verdict) → verdict m c ≡ v → sound (replyBy v m c .model) ≡ true
+    go : (v : Verdict) → verdict m c ≡ v → isSound (replyBy v m c .model) ≡ true
     go accepted e = sound-of (acceptedModel m c) (accepted-bounds m c (none-holds m c e) (bounds-of m s))
     go (refused n) e = s
 
 -- What the code's parts ask of a sound model.
-pub sound-temperature : (m : Model) → sound m ≡ true → temperatureSound (m .temperature) ≡ true
+pub sound-temperature : (m : Model) → isSound m ≡ true → temperatureSound (m .temperature) ≡ true
 sound-temperature m s = temperature-sound (m .temperature) (bounds-of m s .temperature)
 
-pub sound-flight : (m : Model) → sound m ≡ true → flightSound (m .flight) ≡ true
+pub sound-flight : (m : Model) → isSound m ≡ true → flightSound (m .flight) ≡ true
 sound-flight m s = flight-sound (m .flight) (bounds-of m s .flight)
 
 -- A delivery of the right counts on a sound model.
 pub record Ready (m : Model) (u d : List ℕ) : Type 0 where
-  pub sound-model : sound m ≡ true
+  pub sound-model : isSound m ≡ true
   pub counted : miscounted m (flight u d) ≡ false
 
 both-hold : (a b : Bool) → both a b ≡ true → (a ≡ true) × (b ≡ true)
@@ -929,7 +931,7 @@ pub ready-of : (m : Model) (u d : List ℕ) → flightFits m u d ≡ true → Re
 unfolding flightFits miscounted
 ready-of m u d e =
     let (s, n) =
-    both-hold (sound m) (negate (flightMiscounted (m .flight) (hitCount (m .setup)) (length u) (length d))) e
+    both-hold (isSound m) (negate (flightMiscounted (m .flight) (hitCount (m .setup)) (length u) (length d))) e
     in
     record {
       sound-model = s;
@@ -941,7 +943,7 @@ flight-ready m u d e = sound-flight m (ready-of m u d e .sound-model)
 
 pub fits-ready :
     (m : Model) (u d : List ℕ) →
-    sound m ≡ true →
+    isSound m ≡ true →
     flightMiscounted (m .flight) (hitCount (m .setup)) (length u) (length d) ≡ false →
     flightFits m u d ≡ true
 unfolding flightFits
@@ -953,6 +955,6 @@ pub good-hits :
     flightFits m u d ≡ true →
     anyFrom (lateFrom (timeout (m .setup))) u ≡ false →
     anyFrom (lateFrom (timeout (m .setup))) d ≡ false →
-    (sixTotal (six u) < hitCount (m .setup) * 2147483648) × (sixTotal (six d) < hitCount (m .setup) * 2147483648)
+    (sixTotal (sixWords u) < hitCount (m .setup) * 2147483648) × (sixTotal (sixWords d) < hitCount (m .setup) * 2147483648)
 unfolding anyLate
 good-hits m u d e lu ld = hits-below m u d (ready-of m u d e .counted) (rw (lu, ld))

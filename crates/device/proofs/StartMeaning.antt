@@ -13,15 +13,16 @@ use Rattle.device.specs.declared.Flight.{Flight}
 use Rattle.device.specs.declared.Temperature.{Temperature}
 use Rattle.device.specs.declared.Model.{Model}
 use Rattle.device.specs.declared.Answer.the-variants.{Ticked, Stretched}
-use Rattle.device.specs.Event.{awaits, inEvent, startsLeft, begins, beginsGroup, fails, single, settle, halted}
+use Rattle.device.specs.Event.{isAwaited, inEvent, startsLeft, begins, beginsGroup, fails, startSingle, settle, haltSchedule}
 use Rattle.device.specs.Event.{tickSchedule, leftAfter, startedAfter, settledAfter, goodAfter}
-use Rattle.device.specs.Model.{sound, kindBusy, busy, withFlight}
+use Rattle.device.specs.Model.{isSound, kindBusy, isBusy, withFlight}
 use Rattle.device.specs.Registers.{calendarWord, flightWord, temperatureWord, registerWord, upwards}
-use Rattle.device.specs.Tick.{lostFlight, sumAfter, sumsAfter, flightTicked, flightAfter, temperatureAfter, tickModel, reportOf}
-use Rattle.device.specs.Stretch.{ticked, scheduleTicked, lastTick, stretchReport}
-use Rattle.device.specs.Delivery.{goodSum, goodSums, goodFlight, flightGood, flightFailed, temperatureGood, temperatureFailed}
-use Rattle.device.specs.Bus.{flightStarted, isEvent, startedEvent, initialised, haltedModel, singleStarted, supplied, unsupplied, runModel}
-use Rattle.device.specs.Call.{tick, flight, temperature, stretch, anyLate, portFault, notAwaited, acceptedModel, acceptedAnswer}
+use Rattle.device.specs.Tick.{failedFlight, sumAfter, sumsAfter, flightTicked, flightAfter, temperatureAfter, tickModel, reportOf}
+use Rattle.device.specs.Stretch.{modelTicked, scheduleTicked, lastTick, stretchReport}
+use Rattle.device.specs.Delivery.{goodSum, goodSums, goodFlight, goodFlightModel, failedFlightModel, goodTemperatureModel, failedTemperatureModel}
+use Rattle.device.specs.Bus.{flightStarted, isEvent, startedEvent, initialisedModel, haltedModel, singleStarted, supplied, unsupplied, runModel}
+use Rattle.device.specs.Call.{tick, flight, temperature, stretch, notAwaited}
+use Rattle.device.specs.Reply.{anyLate, portFault, acceptedModel, acceptedAnswer}
 use Rattle.device.proofs.Sound.{ScheduleBounds, bounds-of, neither-picked}
 
 -- No event runs: all that were planned are started and settled, and none is continuous.
@@ -90,20 +91,20 @@ unfolding scheduleTicked
 none-left-ticked zero k e z = z
 none-left-ticked (suc n) k e z = none-left (scheduleTicked n k) (ended-ticked n k e) (none-left-ticked n k e z)
 
-halted-ended : (k : Schedule) → Ended (halted k)
-unfolding halted
+halted-ended : (k : Schedule) → Ended (haltSchedule k)
+unfolding haltSchedule
 halted-ended k = record { once = refl; started = omega arith; settled = omega arith }
 
-halted-left : (k : Schedule) → halted k .left .0 ≡ 0
-unfolding halted
+halted-left : (k : Schedule) → haltSchedule k .left .0 ≡ 0
+unfolding haltSchedule
 halted-left k = refl
 
 not-failing : (k : Schedule) → k .left .0 ≡ 0 → fails k ≡ false
 unfolding fails
 not-failing k z = rw z
 
-not-awaiting : (k : Schedule) → k .left .0 ≡ 0 → awaits k ≡ false
-unfolding awaits
+not-awaiting : (k : Schedule) → k .left .0 ≡ 0 → isAwaited k ≡ false
+unfolding isAwaited
 not-awaiting k z = rw z
 
 -- A tick starts none and fails none, and none is awaited.
@@ -113,62 +114,62 @@ pub record Silent (k : Schedule) : Type 0 where
   pub expires : fails k ≡ false
 
 -- "HALT drops awaited measurements, ends the event": so it is, and stays so for n ticks
-pub halted-silent : (k : Schedule) (n : ℕ) → Silent (scheduleTicked n (halted k))
+pub halted-silent : (k : Schedule) (n : ℕ) → Silent (scheduleTicked n (haltSchedule k))
 halted-silent k n =
-    let l = none-left-ticked n (halted k) (halted-ended k) (halted-left k) in
+    let l = none-left-ticked n (haltSchedule k) (halted-ended k) (halted-left k) in
     record {
-      starts = ended-none (scheduleTicked n (halted k)) (ended-ticked n (halted k) (halted-ended k));
+      starts = ended-none (scheduleTicked n (haltSchedule k)) (ended-ticked n (haltSchedule k) (halted-ended k));
       left = l;
-      expires = not-failing (scheduleTicked n (halted k)) l;
+      expires = not-failing (scheduleTicked n (haltSchedule k)) l;
     }
 
-never-starts : (k : Schedule) (n : ℕ) → lastTick begins (halted k) n ≡ 0
+never-starts : (k : Schedule) (n : ℕ) → lastTick begins (haltSchedule k) n ≡ 0
 unfolding lastTick
 never-starts k zero = refl
 never-starts k (suc n) = rw (halted-silent k n .starts, never-starts k n)
 
-never-fails : (k : Schedule) (n : ℕ) → lastTick fails (halted k) n ≡ 0
+never-fails : (k : Schedule) (n : ℕ) → lastTick fails (haltSchedule k) n ≡ 0
 unfolding lastTick
 never-fails k zero = refl
 never-fails k (suc n) = rw (halted-silent k n .expires, never-fails k n)
 
-pub flight-schedule : (n : ℕ) (m : Model) → ticked n m .flight .schedule ≡ scheduleTicked n (m .flight .schedule)
-unfolding ticked scheduleTicked tickModel
+pub flight-schedule : (n : ℕ) (m : Model) → modelTicked n m .flight .schedule ≡ scheduleTicked n (m .flight .schedule)
+unfolding modelTicked scheduleTicked tickModel
 flight-schedule zero m = refl
-flight-schedule (suc n) m = flight-after (ticked n m .flight) ∙ rw (flight-schedule n m)
+flight-schedule (suc n) m = flight-after (modelTicked n m .flight) ∙ rw (flight-schedule n m)
   where
     flight-after : (f : Flight) → flightAfter f .schedule ≡ tickSchedule (f .schedule)
-    flight-after f = unfold flightAfter flightTicked lostFlight in by-test (fails (f .schedule)) (λ e. rw e) (λ e. rw e)
+    flight-after f = unfold flightAfter flightTicked failedFlight in by-test (fails (f .schedule)) (λ e. rw e) (λ e. rw e)
 
 pub temperature-schedule :
-    (n : ℕ) (m : Model) → ticked n m .temperature .schedule ≡ scheduleTicked n (m .temperature .schedule)
-unfolding ticked scheduleTicked tickModel
+    (n : ℕ) (m : Model) → modelTicked n m .temperature .schedule ≡ scheduleTicked n (m .temperature .schedule)
+unfolding modelTicked scheduleTicked tickModel
 temperature-schedule zero m = refl
-temperature-schedule (suc n) m = temperature-after (ticked n m .temperature) ∙ rw (temperature-schedule n m)
+temperature-schedule (suc n) m = temperature-after (modelTicked n m .temperature) ∙ rw (temperature-schedule n m)
   where
     temperature-after : (t : Temperature) → temperatureAfter t .schedule ≡ tickSchedule (t .schedule)
     temperature-after t = unfold temperatureAfter in by-test (fails (t .schedule)) (λ e. rw e) (λ e. rw e)
 
 module _ (m : Model) where
-  halted-flight : runModel m 10 .flight .schedule ≡ halted (m .flight .schedule)
+  halted-flight : runModel m 10 .flight .schedule ≡ haltSchedule (m .flight .schedule)
   unfolding runModel haltedModel
   halted-flight = refl
 
-  halted-temperature : runModel m 10 .temperature .schedule ≡ halted (m .temperature .schedule)
+  halted-temperature : runModel m 10 .temperature .schedule ≡ haltSchedule (m .temperature .schedule)
   unfolding runModel haltedModel
   halted-temperature = refl
 
-  pub halt-flight : (n : ℕ) → Silent (ticked n (runModel m 10) .flight .schedule)
+  pub halt-flight : (n : ℕ) → Silent (modelTicked n (runModel m 10) .flight .schedule)
   halt-flight n = rw (flight-schedule n (runModel m 10), halted-flight) (halted-silent (m .flight .schedule) n)
 
-  pub halt-temperature : (n : ℕ) → Silent (ticked n (runModel m 10) .temperature .schedule)
+  pub halt-temperature : (n : ℕ) → Silent (modelTicked n (runModel m 10) .temperature .schedule)
   halt-temperature n =
       rw (temperature-schedule n (runModel m 10), halted-temperature) (halted-silent (m .temperature .schedule) n)
 
   -- in the answers: after 0Ah no tick reports a start or a failure,
   pub halt-ticks :
       (n : ℕ) →
-      acceptedAnswer (ticked n (runModel m 10)) tick
+      acceptedAnswer (modelTicked n (runModel m 10)) tick
       ≡ Ticked (record { started = false; failed = false }) (record { started = false; failed = false })
   unfolding acceptedAnswer reportOf
   halt-ticks n =
@@ -179,13 +180,13 @@ module _ (m : Model) where
   -- and a delivery of either kind is number 10
   pub halt-drops :
       (n : ℕ) (u d w : List ℕ) →
-      (notAwaited (ticked n (runModel m 10)) (flight u d) ≡ true) ×
-      (notAwaited (ticked n (runModel m 10)) (temperature w) ≡ true)
+      (notAwaited (modelTicked n (runModel m 10)) (flight u d) ≡ true) ×
+      (notAwaited (modelTicked n (runModel m 10)) (temperature w) ≡ true)
   unfolding notAwaited
   halt-drops n u d w =
       rw (
-        not-awaiting (ticked n (runModel m 10) .flight .schedule) (halt-flight n .left),
-        not-awaiting (ticked n (runModel m 10) .temperature .schedule) (halt-temperature n .left),
+        not-awaiting (modelTicked n (runModel m 10) .flight .schedule) (halt-flight n .left),
+        not-awaiting (modelTicked n (runModel m 10) .temperature .schedule) (halt-temperature n .left),
       )
       (refl, refl)
 
@@ -232,7 +233,7 @@ delivered-sum :
     m .flight .schedule .planned ≤ m .flight .schedule .settled →
     (acceptedModel m (flight u d) .flight .sum ≡ m .flight .sum) ×
     (acceptedModel m (flight u d) .flight .schedule .good ≡ m .flight .schedule .good)
-unfolding acceptedModel flightFailed lostFlight flightGood goodFlight goodSum
+unfolding acceptedModel failedFlightModel failedFlight goodFlightModel goodFlight goodSum
 delivered-sum m u d l =
     let k = m .flight .schedule in
     by-test (anyLate m u d)
@@ -244,7 +245,7 @@ delivered-sums :
     m .temperature .schedule .planned ≤ m .temperature .schedule .settled →
     (acceptedModel m (temperature w) .temperature .sums ≡ m .temperature .sums) ×
     (acceptedModel m (temperature w) .temperature .schedule .good ≡ m .temperature .schedule .good)
-unfolding acceptedModel temperatureFailed temperatureGood goodSums
+unfolding acceptedModel failedTemperatureModel goodTemperatureModel goodSums
 delivered-sums m w l =
     let k = m .temperature .schedule in
     by-test (portFault m w)
@@ -272,30 +273,30 @@ single-temperature-delivered m w i =
 ended-sum :
     (n : ℕ) (m : Model) →
     Ended (m .flight .schedule) →
-    (ticked n m .flight .sum ≡ m .flight .sum) × (ticked n m .flight .schedule .good ≡ m .flight .schedule .good)
-unfolding ticked tickModel
+    (modelTicked n m .flight .sum ≡ m .flight .sum) × (modelTicked n m .flight .schedule .good ≡ m .flight .schedule .good)
+unfolding modelTicked tickModel
 ended-sum zero m e = (refl, refl)
 ended-sum (suc n) m e =
     let (s, g) = ended-sum n m e in
-    let (t, h) = after (ticked n m .flight) (rw (flight-schedule n m) (ended-ticked n (m .flight .schedule) e)) in
+    let (t, h) = after (modelTicked n m .flight) (rw (flight-schedule n m) (ended-ticked n (m .flight .schedule) e)) in
     (t ∙ s, h ∙ g)
   where
     after : (f : Flight) → Ended (f .schedule) → (flightAfter f .sum ≡ f .sum) × (flightAfter f .schedule .good ≡ f .schedule .good)
     after f e =
-        unfold flightAfter flightTicked lostFlight sumAfter tickSchedule goodAfter in
+        unfold flightAfter flightTicked failedFlight sumAfter tickSchedule goodAfter in
         rw (ended-group (f .schedule) e) (by-test (fails (f .schedule)) (λ x. rw x (refl, refl)) (λ x. rw x (refl, refl)))
 
 ended-sums :
     (n : ℕ) (m : Model) →
     Ended (m .temperature .schedule) →
-    (ticked n m .temperature .sums ≡ m .temperature .sums) ×
-    (ticked n m .temperature .schedule .good ≡ m .temperature .schedule .good)
-unfolding ticked tickModel
+    (modelTicked n m .temperature .sums ≡ m .temperature .sums) ×
+    (modelTicked n m .temperature .schedule .good ≡ m .temperature .schedule .good)
+unfolding modelTicked tickModel
 ended-sums zero m e = (refl, refl)
 ended-sums (suc n) m e =
     let (s, g) = ended-sums n m e in
     let (t, h) =
-    after (ticked n m .temperature) (rw (temperature-schedule n m) (ended-ticked n (m .temperature .schedule) e))
+    after (modelTicked n m .temperature) (rw (temperature-schedule n m) (ended-ticked n (m .temperature .schedule) e))
     in
     (t ∙ s, h ∙ g)
   where
@@ -309,23 +310,23 @@ ended-sums (suc n) m e =
 
 pub single-flight-ticked :
     (m : Model) (n : ℕ) →
-    sound m ≡ true →
+    isSound m ≡ true →
     inEvent (m .flight .schedule) ≡ false →
-    map (registerWord (ticked n m)) (upwards 0xE4 3) ≡ map (registerWord m) (upwards 0xE4 3)
+    map (registerWord (modelTicked n m)) (upwards 0xE4 3) ≡ map (registerWord m) (upwards 0xE4 3)
 single-flight-ticked m n s i =
     let e = ended-of (m .flight .schedule) (bounds-of m s .flight .schedule) i in
     let (a, b) = ended-sum n m e in
-    flight-counts m (ticked n m) a b
+    flight-counts m (modelTicked n m) a b
 
 pub single-temperature-ticked :
     (m : Model) (n : ℕ) →
-    sound m ≡ true →
+    isSound m ≡ true →
     inEvent (m .temperature .schedule) ≡ false →
-    map (registerWord (ticked n m)) (upwards 0xEF 9) ≡ map (registerWord m) (upwards 0xEF 9)
+    map (registerWord (modelTicked n m)) (upwards 0xEF 9) ≡ map (registerWord m) (upwards 0xEF 9)
 single-temperature-ticked m n s i =
     let e = ended-of (m .temperature .schedule) (bounds-of m s .temperature .schedule) i in
     let (a, b) = ended-sums n m e in
-    temperature-counts m (ticked n m) a b
+    temperature-counts m (modelTicked n m) a b
 
 -- A delivery of one kind leaves the other's results: E7h to F7h, and C5h to E6h.
 flight-reads :
@@ -348,7 +349,7 @@ pub flight-leaves-ports :
 flight-leaves-ports m u d = temperature-reads m (acceptedModel m (flight u d)) kept
   where
     kept : acceptedModel m (flight u d) .temperature ≡ m .temperature
-    kept = unfold acceptedModel flightFailed flightGood in by-test (anyLate m u d) (λ e. rw e) (λ e. rw e)
+    kept = unfold acceptedModel failedFlightModel goodFlightModel in by-test (anyLate m u d) (λ e. rw e) (λ e. rw e)
 
 pub temperature-leaves-hits :
     (m : Model) (w : List ℕ) →
@@ -356,7 +357,7 @@ pub temperature-leaves-hits :
 temperature-leaves-hits m w = flight-reads m (acceptedModel m (temperature w)) kept
   where
     kept : acceptedModel m (temperature w) .flight ≡ m .flight
-    kept = unfold acceptedModel temperatureFailed temperatureGood in by-test (portFault m w) (λ e. rw e) (λ e. rw e)
+    kept = unfold acceptedModel failedTemperatureModel goodTemperatureModel in by-test (portFault m w) (λ e. rw e) (λ e. rw e)
 
 -- "TOF_Up (00h), TOF_Down (01h), TOF_Diff (02h) start a flight measurement": it is awaited for 8,192 ticks, in the directions
 -- named, and everything else of `n`, the model after the command, is as it was in `m`, the model before it.
@@ -380,7 +381,7 @@ pub record FlightStarts (m n : Model) (upstream downstream : Bool) : Type 0 wher
   pub clock : n .clock ≡ m .clock
   pub setup : n .setup ≡ m .setup
   pub status : n .status ≡ m .status
-  pub ready : n .ready ≡ m .ready
+  pub initialised : n .initialised ≡ m .initialised
   pub regulator : n .regulator ≡ m .regulator
 
 -- "Temperature (03h) a temperature one"
@@ -400,13 +401,13 @@ pub record TemperatureStarts (m n : Model) : Type 0 where
   pub clock : n .clock ≡ m .clock
   pub setup : n .setup ≡ m .setup
   pub status : n .status ≡ m .status
-  pub ready : n .ready ≡ m .ready
+  pub initialised : n .initialised ≡ m .initialised
   pub regulator : n .regulator ≡ m .regulator
 
 module _ (m : Model) where
   -- one law over the direction
   starts-some : (op : ℕ) → FlightStarts m (withFlight m (flightStarted (m .flight) op)) (negate (eqb op 1)) (negate (eqb op 0))
-  unfolding flightStarted single notAwaited awaits
+  unfolding flightStarted startSingle notAwaited isAwaited
   starts-some op =
       record {
         awaited = λ u d. refl;
@@ -428,7 +429,7 @@ module _ (m : Model) where
         clock = refl;
         setup = refl;
         status = refl;
-        ready = refl;
+        initialised = refl;
         regulator = refl;
       }
 
@@ -445,7 +446,7 @@ module _ (m : Model) where
   starts-both = starts-some 2
 
   pub starts-temperature : TemperatureStarts m (runModel m 3)
-  unfolding runModel isEvent singleStarted single notAwaited awaits
+  unfolding runModel isEvent singleStarted startSingle notAwaited isAwaited
   starts-temperature =
       record {
         awaited = λ w. refl;
@@ -463,18 +464,18 @@ module _ (m : Model) where
         clock = refl;
         setup = refl;
         status = refl;
-        ready = refl;
+        initialised = refl;
         regulator = refl;
       }
 
   -- "05h Initialize", "0Ah HALT", "LDO_ON (0Ch), LDO_OFF (0Dh)" (Note 8) keep the calendar, the configuration and every result:
   -- B0h to F7h read the same
   pub initialize-keeps : map (registerWord (runModel m 5)) (upwards 0xB0 72) ≡ map (registerWord m) (upwards 0xB0 72)
-  unfolding runModel initialised registerWord calendarWord
+  unfolding runModel initialisedModel registerWord calendarWord
   initialize-keeps = refl
 
   pub halt-keeps : map (registerWord (runModel m 10)) (upwards 0xB0 72) ≡ map (registerWord m) (upwards 0xB0 72)
-  unfolding runModel haltedModel halted registerWord calendarWord flightWord temperatureWord
+  unfolding runModel haltedModel haltSchedule registerWord calendarWord flightWord temperatureWord
   halt-keeps = refl
 
   pub supply-keeps :
@@ -487,35 +488,35 @@ module _ (m : Model) where
   pub commands-keep-clock :
       map (λ (op : ℕ). runModel m op .clock) (0 ∷ 1 ∷ 2 ∷ 3 ∷ 5 ∷ 7 ∷ 8 ∷ 9 ∷ 10 ∷ 12 ∷ 13 ∷ [])
       ≡ map (λ (op : ℕ). m .clock) (0 ∷ 1 ∷ 2 ∷ 3 ∷ 5 ∷ 7 ∷ 8 ∷ 9 ∷ 10 ∷ 12 ∷ 13 ∷ [])
-  unfolding runModel isEvent startedEvent singleStarted initialised haltedModel supplied unsupplied
+  unfolding runModel isEvent startedEvent singleStarted initialisedModel haltedModel supplied unsupplied
   commands-keep-clock = refl
 
   pub commands-keep-setup :
       map (λ (op : ℕ). runModel m op .setup) (0 ∷ 1 ∷ 2 ∷ 3 ∷ 5 ∷ 7 ∷ 8 ∷ 9 ∷ 10 ∷ 12 ∷ 13 ∷ [])
       ≡ map (λ (op : ℕ). m .setup) (0 ∷ 1 ∷ 2 ∷ 3 ∷ 5 ∷ 7 ∷ 8 ∷ 9 ∷ 10 ∷ 12 ∷ 13 ∷ [])
-  unfolding runModel isEvent startedEvent singleStarted initialised haltedModel supplied unsupplied
+  unfolding runModel isEvent startedEvent singleStarted initialisedModel haltedModel supplied unsupplied
   commands-keep-setup = refl
 
 -- where a kind is neither awaited nor in an event
-idle-left : (k : Schedule) → awaits k ≡ false → k .left .0 ≡ 0
-unfolding awaits
+idle-left : (k : Schedule) → isAwaited k ≡ false → k .left .0 ≡ 0
+unfolding isAwaited
 idle-left k =
     by-ltb 0 (k .left .0) (λ l e. rw e (λ f. let z : _≡_ {A = ℕ} 0 1 = cc in absurd (omega arith)))
     (λ l e. rw e (λ f. omega arith))
 
 idle-ended : (k : Schedule) → ScheduleBounds k → kindBusy k ≡ false → Ended k
 unfolding kindBusy
-idle-ended k b i = ended-of k b (neither-picked (awaits k) i .1)
+idle-ended k b i = ended-of k b (neither-picked (isAwaited k) i .1)
 
-module _ (m : Model) (s : sound m ≡ true) (i : busy m ≡ false) where
+module _ (m : Model) (s : isSound m ≡ true) (i : isBusy m ≡ false) where
   ended-flight : Ended (m .flight .schedule)
-  unfolding busy
+  unfolding isBusy
   ended-flight =
       idle-ended (m .flight .schedule) (bounds-of m s .flight .schedule)
       (neither-picked (kindBusy (m .flight .schedule)) i .0)
 
   ended-temperature : Ended (m .temperature .schedule)
-  unfolding busy
+  unfolding isBusy
   ended-temperature =
       idle-ended (m .temperature .schedule) (bounds-of m s .temperature .schedule)
       (neither-picked (kindBusy (m .flight .schedule)) i .1)
@@ -524,7 +525,7 @@ module _ (m : Model) (s : sound m ≡ true) (i : busy m ≡ false) where
   idle-silent : (k : Schedule) → Ended k → kindBusy k ≡ false → (n : ℕ) → Silent (scheduleTicked n k)
   unfolding kindBusy
   idle-silent k e b n =
-      let l = none-left-ticked n k e (idle-left k (neither-picked (awaits k) b .0)) in
+      let l = none-left-ticked n k e (idle-left k (neither-picked (isAwaited k) b .0)) in
       record {
         starts = ended-none (scheduleTicked n k) (ended-ticked n k e);
         left = l;
@@ -533,9 +534,9 @@ module _ (m : Model) (s : sound m ≡ true) (i : busy m ≡ false) where
 
   pub idle-ticks :
       (n : ℕ) →
-      acceptedAnswer (ticked n m) tick
+      acceptedAnswer (modelTicked n m) tick
       ≡ Ticked (record { started = false; failed = false }) (record { started = false; failed = false })
-  unfolding acceptedAnswer reportOf busy
+  unfolding acceptedAnswer reportOf isBusy
   idle-ticks n =
       let (x, y) = neither-picked (kindBusy (m .flight .schedule)) i in
       let f = idle-silent (m .flight .schedule) ended-flight x n in
@@ -548,8 +549,8 @@ module _ (m q : Model) (n : ℕ) where
       FlightStarts m q a b →
       Ended (m .flight .schedule) →
       (u d : List ℕ) →
-      (map (registerWord (ticked n q)) (upwards 0xE4 3) ≡ map (registerWord m) (upwards 0xE4 3)) ×
-      (map (registerWord (acceptedModel (ticked n q) (flight u d))) (upwards 0xE4 3)
+      (map (registerWord (modelTicked n q)) (upwards 0xE4 3) ≡ map (registerWord m) (upwards 0xE4 3)) ×
+      (map (registerWord (acceptedModel (modelTicked n q) (flight u d))) (upwards 0xE4 3)
       ≡ map (registerWord m) (upwards 0xE4 3))
   started-flight a b f e u d =
       let g : Ended (q .flight .schedule) =
@@ -560,18 +561,18 @@ module _ (m q : Model) (n : ℕ) where
       }
       in
       let (x, y) = ended-sum n q g in
-      let l : Ended (ticked n q .flight .schedule) = rw (flight-schedule n q) (ended-ticked n (q .flight .schedule) g) in
-      let (v, w) = delivered-sum (ticked n q) u d (l .settled) in (
-        flight-counts m (ticked n q) (x ∙ f .sum) (y ∙ f .good),
-        flight-counts m (acceptedModel (ticked n q) (flight u d)) (v ∙ x ∙ f .sum) (w ∙ y ∙ f .good),
+      let l : Ended (modelTicked n q .flight .schedule) = rw (flight-schedule n q) (ended-ticked n (q .flight .schedule) g) in
+      let (v, w) = delivered-sum (modelTicked n q) u d (l .settled) in (
+        flight-counts m (modelTicked n q) (x ∙ f .sum) (y ∙ f .good),
+        flight-counts m (acceptedModel (modelTicked n q) (flight u d)) (v ∙ x ∙ f .sum) (w ∙ y ∙ f .good),
       )
 
   started-temperature :
       TemperatureStarts m q →
       Ended (m .temperature .schedule) →
       (p : List ℕ) →
-      (map (registerWord (ticked n q)) (upwards 0xEF 9) ≡ map (registerWord m) (upwards 0xEF 9)) ×
-      (map (registerWord (acceptedModel (ticked n q) (temperature p))) (upwards 0xEF 9)
+      (map (registerWord (modelTicked n q)) (upwards 0xEF 9) ≡ map (registerWord m) (upwards 0xEF 9)) ×
+      (map (registerWord (acceptedModel (modelTicked n q) (temperature p))) (upwards 0xEF 9)
       ≡ map (registerWord m) (upwards 0xEF 9))
   started-temperature f e p =
       let g : Ended (q .temperature .schedule) =
@@ -582,23 +583,23 @@ module _ (m q : Model) (n : ℕ) where
       }
       in
       let (x, y) = ended-sums n q g in
-      let l : Ended (ticked n q .temperature .schedule) =
+      let l : Ended (modelTicked n q .temperature .schedule) =
       rw (temperature-schedule n q) (ended-ticked n (q .temperature .schedule) g)
       in
-      let (v, w) = delivered-sums (ticked n q) p (l .settled) in (
-        temperature-counts m (ticked n q) (x ∙ f .sums) (y ∙ f .good),
-        temperature-counts m (acceptedModel (ticked n q) (temperature p)) (v ∙ x ∙ f .sums) (w ∙ y ∙ f .good),
+      let (v, w) = delivered-sums (modelTicked n q) p (l .settled) in (
+        temperature-counts m (modelTicked n q) (x ∙ f .sums) (y ∙ f .good),
+        temperature-counts m (acceptedModel (modelTicked n q) (temperature p)) (v ∙ x ∙ f .sums) (w ∙ y ∙ f .good),
       )
 
 -- "a single one none", from its command on: however many ticks pass, and whether it is delivered, good or failed, or fails in a
 -- tick, E4h to E6h and EFh to F7h read what they read before the command.
 pub single-flight :
     (m : Model) (op n : ℕ) (u d : List ℕ) →
-    sound m ≡ true →
-    busy m ≡ false →
+    isSound m ≡ true →
+    isBusy m ≡ false →
     op ≤ 2 →
-    (map (registerWord (ticked n (runModel m op))) (upwards 0xE4 3) ≡ map (registerWord m) (upwards 0xE4 3)) ×
-    (map (registerWord (acceptedModel (ticked n (runModel m op)) (flight u d))) (upwards 0xE4 3)
+    (map (registerWord (modelTicked n (runModel m op))) (upwards 0xE4 3) ≡ map (registerWord m) (upwards 0xE4 3)) ×
+    (map (registerWord (acceptedModel (modelTicked n (runModel m op)) (flight u d))) (upwards 0xE4 3)
     ≡ map (registerWord m) (upwards 0xE4 3))
 single-flight m zero n u d s i h =
     started-flight m (runModel m 0) n true false (starts-up m) (ended-flight m s i) u d
@@ -610,10 +611,10 @@ single-flight m (suc (suc (suc x))) n u d s i h = absurd (omega arith)
 
 pub single-temperature :
     (m : Model) (n : ℕ) (p : List ℕ) →
-    sound m ≡ true →
-    busy m ≡ false →
-    (map (registerWord (ticked n (runModel m 3))) (upwards 0xEF 9) ≡ map (registerWord m) (upwards 0xEF 9)) ×
-    (map (registerWord (acceptedModel (ticked n (runModel m 3)) (temperature p))) (upwards 0xEF 9)
+    isSound m ≡ true →
+    isBusy m ≡ false →
+    (map (registerWord (modelTicked n (runModel m 3))) (upwards 0xEF 9) ≡ map (registerWord m) (upwards 0xEF 9)) ×
+    (map (registerWord (acceptedModel (modelTicked n (runModel m 3)) (temperature p))) (upwards 0xEF 9)
     ≡ map (registerWord m) (upwards 0xEF 9))
 single-temperature m n p s i =
     started-temperature m (runModel m 3) n (starts-temperature m) (ended-temperature m s i) p

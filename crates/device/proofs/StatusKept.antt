@@ -19,17 +19,19 @@ use Rattle.hit.proofs.Meaning.{from-means}
 use Rattle.device.specs.declared.Schedule.{Schedule}
 use Rattle.device.specs.declared.Status.{Status}
 use Rattle.device.specs.declared.Model.{Model}
-use Rattle.device.specs.Event.{fails as expires, inEvent, lastOne}
-use Rattle.device.specs.Status.{noBits, joined, shown, flightBits, temperatureBits, alarmBit, initBit, haltBit, ldoBit, flashBit, withoutLdo}
-use Rattle.device.specs.Tick.{clockTicked, alarmRaised, tickStatus, tickModel}
-use Rattle.device.specs.Delivery.{flightStatus, flightGood, flightFailed, temperatureStatus, temperatureGood, temperatureFailed}
+use Rattle.device.specs.Event.{fails as expires, inEvent, isLast}
+use Rattle.device.specs.Status.{noBits, joined, setsOwnBit, flightBits, temperatureBits, alarmBit, initBit, haltBit, ldoBit, flashBit, withoutLdo}
+use Rattle.device.specs.Tick.{clockTicked, tickRings, tickStatus, tickModel}
+use Rattle.device.specs.Delivery.{flightStatus, goodFlightModel, failedFlightModel, temperatureStatus, goodTemperatureModel, failedTemperatureModel}
 use Rattle.device.specs.Model.{freshWith, resetModel}
-use Rattle.device.specs.Stretch.{ticked}
+use Rattle.device.specs.Stretch.{modelTicked}
 use Rattle.device.specs.Write.{writeModel}
 use Rattle.device.specs.FlashFrame.{flashModel}
-use Rattle.device.specs.Bus.{isEvent, startedEvent, initialised, haltedModel, singleStarted, supplied, unsupplied, runModel, readModel}
-use Rattle.device.specs.Call.{Call, transaction, tick, flight, temperature, stretch, opcode, words, anyLate, anyOpen, portFault, acceptedModel}
-use Rattle.device.specs.Call.{notCarried, Verdict, accepted, refused, verdict, replyBy, reply}
+use Rattle.device.specs.Bus.{isEvent, startedEvent, initialisedModel, haltedModel, singleStarted, supplied, unsupplied, runModel, readModel}
+use Rattle.device.specs.Call.{Call, transaction, tick, flight, temperature, stretch, opcode, words}
+use Rattle.device.specs.Reply.{anyLate, anyOpen, portFault, acceptedModel}
+use Rattle.device.specs.Call.{notCarried, Verdict, accepted, refused, verdict}
+use Rattle.device.specs.Reply.{replyBy, reply}
 use Rattle.device.proofs.Table.{none-holds}
 use Rattle.device.proofs.StatusMeaning.{kept, onlyBits}
 
@@ -59,16 +61,16 @@ expiring-plain : (k : Schedule) → expires k ≡ expiring k
 unfolding expires
 expiring-plain k = same (eqb (k .left .0) 1)
 
-nth-plain : (k : Schedule) → lastOne k ≡ nth k
-unfolding lastOne
+nth-plain : (k : Schedule) → isLast k ≡ nth k
+unfolding isLast
 nth-plain k =
     by-ltb (k .settled) (k .planned)
     (λ h e. rw e (same (nth k)))
     (λ h e. rw e
     (by-eqb (k .settled + 1) (k .planned) (λ i f. absurd (omega arith)) (λ i f. sym f)))
 
-told-plain : (m : Model) (k : Schedule) → shown k (eachInterrupt (m .setup)) ≡ told m k
-unfolding shown inEvent eachInterrupt
+told-plain : (m : Model) (k : Schedule) → setsOwnBit k (eachInterrupt (m .setup)) ≡ told m k
+unfolding setsOwnBit inEvent eachInterrupt
 told-plain m k =
     by-test (k .continuous) (λ c. rw c (same _))
     (λ c. rw c
@@ -81,11 +83,11 @@ ticks-join :
     ≡ record {
       timeout = either (s .timeout) (either e g);
       alarm = either (s .alarm) a;
-      tof = either (s .tof) (both e (shown k each));
-      te = either (s .te) (both g (shown l each));
+      tof = either (s .tof) (both e (setsOwnBit k each));
+      te = either (s .te) (both g (setsOwnBit l each));
       ldo = s .ldo;
-      tofevtmg = either (s .tofevtmg) (both e (lastOne k));
-      tempevtmg = either (s .tempevtmg) (both g (lastOne l));
+      tofevtmg = either (s .tofevtmg) (both e (isLast k));
+      tempevtmg = either (s .tempevtmg) (both g (isLast l));
       flash = s .flash;
       halt = s .halt;
       init = s .init;
@@ -117,7 +119,7 @@ pub tick-bits :
       init = m .status .init;
       por = m .status .por;
     }
-unfolding tickModel tickStatus alarmRaised alarmWord alarmMode
+unfolding tickModel tickStatus tickRings alarmWord alarmMode
 tick-bits m =
     rw (
       ← expiring-plain (m .flight .schedule),
@@ -127,7 +129,7 @@ tick-bits m =
       ← told-plain m (m .flight .schedule),
       ← told-plain m (m .temperature .schedule),
     )
-    (ticks-join (m .status) (alarmRaised m (clockTicked m)) (eachInterrupt (m .setup)) (expires (m .flight .schedule))
+    (ticks-join (m .status) (tickRings m (clockTicked m)) (eachInterrupt (m .setup)) (expires (m .flight .schedule))
     (expires (m .temperature .schedule)) (m .flight .schedule) (m .temperature .schedule))
 
 -- some word of a list is at least this one
@@ -173,7 +175,7 @@ pub flight-bits :
       init = m .status .init;
       por = m .status .por;
     }
-unfolding acceptedModel flightGood flightFailed flightStatus joined flightBits
+unfolding acceptedModel goodFlightModel failedFlightModel flightStatus joined flightBits
 flight-bits m u d =
     rw (← nth-plain (m .flight .schedule), ← told-plain m (m .flight .schedule))
     (by-test (anyLate m u d) (λ e. rw e (simp (kept, turned))) (λ e. rw e (simp kept)))
@@ -211,7 +213,7 @@ pub temperature-bits :
       init = m .status .init;
       por = m .status .por;
     }
-unfolding acceptedModel temperatureGood temperatureFailed temperatureStatus joined temperatureBits
+unfolding acceptedModel goodTemperatureModel failedTemperatureModel temperatureStatus joined temperatureBits
 temperature-bits m w =
     rw (← nth-plain (m .temperature .schedule), ← told-plain m (m .temperature .schedule))
     (by-test (portFault m w) (λ e. rw e (simp kept)) (λ e. rw (e, whole-not-open m w e) (simp kept)))
@@ -304,13 +306,13 @@ unfolding tickModel tickStatus
 tick-keeps m =
     then-kept _ _ _ (join-keeps _ _) (then-kept _ _ _ (join-keeps _ _) (join-keeps _ _))
 
-ticked-keeps : {Off : Type 0} (n : ℕ) (m : Model) → Kept Off (m .status) (ticked n m .status)
-unfolding ticked
+ticked-keeps : {Off : Type 0} (n : ℕ) (m : Model) → Kept Off (m .status) (modelTicked n m .status)
+unfolding modelTicked
 ticked-keeps zero m = all-kept _
-ticked-keeps (suc n) m = then-kept _ _ _ (ticked-keeps n m) (tick-keeps (ticked n m))
+ticked-keeps (suc n) m = then-kept _ _ _ (ticked-keeps n m) (tick-keeps (modelTicked n m))
 
 run-keeps : (m : Model) (op : ℕ) → ¬ (op ≡ 4) → Kept (op ≡ 13) (m .status) (runModel m op .status)
-unfolding runModel initialised haltedModel supplied unsupplied startedEvent singleStarted
+unfolding runModel initialisedModel haltedModel supplied unsupplied startedEvent singleStarted
 run-keeps m op n =
     by-eqb op 4 (λ h e. absurd (n h))
     (λ h e. rw e
@@ -369,7 +371,7 @@ accepted-keeps : (m : Model) (c : Call) →
     ¬ Clears c →
     verdict m c ≡ accepted →
     Kept (SwitchesOff c) (m .status) (acceptedModel m c .status)
-unfolding acceptedModel writeModel flightGood flightFailed temperatureGood temperatureFailed flightStatus temperatureStatus
+unfolding acceptedModel writeModel goodFlightModel failedFlightModel goodTemperatureModel failedTemperatureModel flightStatus temperatureStatus
 accepted-keeps m (transaction f o x) k v =
     by-test (isCommand (opcode f)) (λ c. rw c (run-keeps m (opcode f) (λ y. k (inl y))))
     (λ c. by-test (isWrite (opcode f))
@@ -629,11 +631,11 @@ tick-raises m =
     (then-kept _ _ _ (flight-expiry-under _ _ _ _) u))
     (then-kept _ _ _ (temperature-expiry-under _ _ _ _) u)
 
-ticked-raises : (n : ℕ) (m : Model) → Under (ticked n m .status) (joined (m .status) (bitsOf true true true true))
-unfolding ticked
+ticked-raises : (n : ℕ) (m : Model) → Under (modelTicked n m .status) (joined (m .status) (bitsOf true true true true))
+unfolding modelTicked
 ticked-raises zero m = join-keeps _ _
 ticked-raises (suc n) m =
-    then-kept _ _ _ (tick-raises (ticked n m))
+    then-kept _ _ _ (tick-raises (modelTicked n m))
     (join-under _ _ _ (ticked-raises n m) (under-join (m .status) (bitsOf true true true true)))
 
 off-under : (s : Status) → Under (withoutLdo s) s
@@ -654,7 +656,7 @@ off-under s =
     }
 
 run-raises : (m : Model) (op : ℕ) → Under (runModel m op .status) (joined (m .status) (bitsOfFrame op))
-unfolding runModel resetModel freshWith initialised initBit haltedModel haltBit supplied ldoBit unsupplied startedEvent singleStarted
+unfolding runModel resetModel freshWith initialisedModel initBit haltedModel haltBit supplied ldoBit unsupplied startedEvent singleStarted
 run-raises m op =
     by-eqb op 4 (λ h e. rw e (none-under _))
     (λ h e. rw e
@@ -708,7 +710,7 @@ read-raises m a n may =
     (λ e. rw e (by-test (leb (a + n) 0xFE) (λ f. rw f (join-keeps _ _)) (λ f. rw f (none-under _))))
 
 accepted-raises : (m : Model) (c : Call) → Under (acceptedModel m c .status) (joined (m .status) (maySet c))
-unfolding acceptedModel writeModel flightGood flightFailed temperatureGood temperatureFailed flightStatus temperatureStatus
+unfolding acceptedModel writeModel goodFlightModel failedFlightModel goodTemperatureModel failedTemperatureModel flightStatus temperatureStatus
 accepted-raises m (transaction f o x) =
     by-test (isCommand (opcode f)) (λ c. rw c (run-raises m (opcode f)))
     (λ c. by-test (isWrite (opcode f))

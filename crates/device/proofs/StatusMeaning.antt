@@ -12,12 +12,12 @@ use Rattle.device.specs.declared.Schedule.{Schedule}
 use Rattle.device.specs.declared.Status.{Status}
 use Rattle.device.specs.declared.Model.{Model}
 use Rattle.device.specs.declared.Told.the-variants.{Value}
-use Rattle.device.specs.Event.{fails as expires, inEvent, lastOne, halted}
-use Rattle.device.specs.Status.{noBits, joined, statusWord, shown, flightBits, temperatureBits, alarmBit, initBit, haltBit}
-use Rattle.device.specs.Model.{sound}
-use Rattle.device.specs.Tick.{alarmRaised, tickStatus, tickModel}
-use Rattle.device.specs.Bus.{initialised, haltedModel}
-use Rattle.device.specs.Call.{interruptTold}
+use Rattle.device.specs.Event.{fails as expires, inEvent, isLast, haltSchedule}
+use Rattle.device.specs.Status.{noBits, joined, statusWord, setsOwnBit, flightBits, temperatureBits, alarmBit, initBit, haltBit}
+use Rattle.device.specs.Model.{isSound}
+use Rattle.device.specs.Tick.{tickRings, tickStatus, tickModel}
+use Rattle.device.specs.Bus.{initialisedModel, haltedModel}
+use Rattle.device.specs.Question.{interruptPending}
 
 -- 1 where the bit is set
 abbrev pub bit : Bool → ℕ
@@ -106,8 +106,8 @@ event-runs-means k =
     (λ h e. rw e (fails false (⊎-elim (λ x. let z : _≡_ {A = ℕ} 0 1 = cc in omega arith) (λ x. omega arith))))))
 
 -- "Settling the N-th sets TOF_EVTMG or TEMP_EVTMG."
-pub last-means : (k : Schedule) → (lastOne k ≡ true) ↔ (k .settled + 1 ≡ k .planned)
-unfolding lastOne
+pub last-means : (k : Schedule) → (isLast k ≡ true) ↔ (k .settled + 1 ≡ k .planned)
+unfolding isLast
 last-means k =
     by-ltb (k .settled) (k .planned)
     (λ h e. by-eqb (k .settled + 1) (k .planned)
@@ -134,12 +134,12 @@ onlyBits timeout tof te tofevtmg tempevtmg =
     }
 
 module _ (k : Schedule) (each failed : Bool) where
-  pub flight-single : inEvent k ≡ false → flightBits k each true failed ≡ onlyBits failed true false (lastOne k) false
-  unfolding flightBits shown
+  pub flight-single : inEvent k ≡ false → flightBits k each true failed ≡ onlyBits failed true false (isLast k) false
+  unfolding flightBits setsOwnBit
   flight-single e = rw e
 
-  pub flight-cycle : inEvent k ≡ true → flightBits k each true failed ≡ onlyBits failed each false (lastOne k) false
-  unfolding flightBits shown
+  pub flight-cycle : inEvent k ≡ true → flightBits k each true failed ≡ onlyBits failed each false (isLast k) false
+  unfolding flightBits setsOwnBit
   flight-cycle e = rw e
 
   pub flight-none : flightBits k each false failed ≡ onlyBits false false false false false
@@ -149,13 +149,13 @@ module _ (k : Schedule) (each failed : Bool) where
 -- Of a temperature one an open port sets TO, and a short one does not (Note 3).
 module _ (k : Schedule) (each opened : Bool) where
   pub temperature-single :
-      inEvent k ≡ false → temperatureBits k each true opened ≡ onlyBits opened false true false (lastOne k)
-  unfolding temperatureBits shown
+      inEvent k ≡ false → temperatureBits k each true opened ≡ onlyBits opened false true false (isLast k)
+  unfolding temperatureBits setsOwnBit
   temperature-single e = rw e
 
   pub temperature-cycle :
-      inEvent k ≡ true → temperatureBits k each true opened ≡ onlyBits opened false each false (lastOne k)
-  unfolding temperatureBits shown
+      inEvent k ≡ true → temperatureBits k each true opened ≡ onlyBits opened false each false (isLast k)
+  unfolding temperatureBits setsOwnBit
   temperature-cycle e = rw e
 
   pub temperature-none : temperatureBits k each false opened ≡ onlyBits false false false false false
@@ -163,8 +163,8 @@ module _ (k : Schedule) (each opened : Bool) where
   temperature-none = refl
 
 -- a single one is never the N-th
-pub single-not-last : (k : Schedule) → inEvent k ≡ false → lastOne k ≡ false
-unfolding inEvent lastOne
+pub single-not-last : (k : Schedule) → inEvent k ≡ false → isLast k ≡ false
+unfolding inEvent isLast
 single-not-last k =
     by-test (ltb (k .settled) (k .planned))
     (λ e. rw e (by-test (k .continuous) (λ c. rw c (λ f. cc)) (λ c. rw c (λ f. cc))))
@@ -218,7 +218,7 @@ joined-means s t =
 -- "05h Initialize makes the model initialised, until a Reset, and sets INIT."
 pub initialised-means :
     (m : Model) →
-    initialised m
+    initialisedModel m
     ≡ record {
       clock = m .clock;
       setup = m .setup;
@@ -236,12 +236,12 @@ pub initialised-means :
             init = true;
             por = m .status .por;
           };
-      ready = true;
+      initialised = true;
       regulator = m .regulator;
       flight = m .flight;
       temperature = m .temperature;
     }
-unfolding initialised joined initBit
+unfolding initialisedModel joined initBit
 initialised-means m = simp (kept, turned)
 
 -- "0Ah HALT drops awaited measurements, ends the event, sets HALT": every other bit, result, count and sum stays
@@ -267,7 +267,7 @@ halted-status m = simp (kept, turned)
 pub record HaltKeeps (m n : Model) : Type 0 where
   pub clock : n .clock ≡ m .clock
   pub setup : n .setup ≡ m .setup
-  pub ready : n .ready ≡ m .ready
+  pub initialised : n .initialised ≡ m .initialised
   pub regulator : n .regulator ≡ m .regulator
   pub ups : n .flight .ups ≡ m .flight .ups
   pub downs : n .flight .downs ≡ m .flight .downs
@@ -279,12 +279,12 @@ pub record HaltKeeps (m n : Model) : Type 0 where
   pub temperatures : n .temperature .schedule .good ≡ m .temperature .schedule .good
 
 pub halt-keeps : (m : Model) → HaltKeeps m (haltedModel m)
-unfolding haltedModel halted
+unfolding haltedModel haltSchedule
 halt-keeps m =
     record {
       clock = refl;
       setup = refl;
-      ready = refl;
+      initialised = refl;
       regulator = refl;
       ups = refl;
       downs = refl;
@@ -299,11 +299,11 @@ halt-keeps m =
 -- "The INT answer is yes exactly when INT_EN (bit 9 of 42h) is 1 and the status is not 0."
 pub interrupt-yes :
     (m : Model) →
-    (interruptTold m ≡ Value 1)
-    ↔ ((sound m ≡ true) × (wordOf (m .setup) 0x42 / 512 % 2 ≡ 1) × (¬ (statusWord (m .status) ≡ 0)))
-unfolding interruptTold interruptEnabled
+    (interruptPending m ≡ Value 1)
+    ↔ ((isSound m ≡ true) × (wordOf (m .setup) 0x42 / 512 % 2 ≡ 1) × (¬ (statusWord (m .status) ≡ 0)))
+unfolding interruptPending interruptEnabled
 interrupt-yes m =
-    by-test (sound m)
+    by-test (isSound m)
     (λ s. rw s
     (by-eqb (wordOf (m .setup) 0x42 / 512 % 2) 1
     (λ h e. by-eqb (statusWord (m .status)) 0
@@ -317,9 +317,9 @@ interrupt-yes m =
 
 pub interrupt-no :
     (m : Model) →
-    sound m ≡ true →
-    (interruptTold m ≡ Value 0) ↔ (¬ ((wordOf (m .setup) 0x42 / 512 % 2 ≡ 1) × (¬ (statusWord (m .status) ≡ 0))))
-unfolding interruptTold interruptEnabled
+    isSound m ≡ true →
+    (interruptPending m ≡ Value 0) ↔ (¬ ((wordOf (m .setup) 0x42 / 512 % 2 ≡ 1) × (¬ (statusWord (m .status) ≡ 0))))
+unfolding interruptPending interruptEnabled
 interrupt-no m s =
     rw s
     (by-eqb (wordOf (m .setup) 0x42 / 512 % 2) 1
@@ -331,7 +331,7 @@ interrupt-no m s =
 -- "sets AF in a tick where .. change to the alarm's": a tick sets AF where the alarm rings between the clock before it and
 -- the clock that it leaves, and no tick clears it
 pub alarm-set :
-    (m : Model) → (tickModel m) .status .alarm ≡ either (m .status .alarm) (alarmRaised m ((tickModel m) .clock))
+    (m : Model) → (tickModel m) .status .alarm ≡ either (m .status .alarm) (tickRings m ((tickModel m) .clock))
 unfolding tickModel tickStatus joined alarmBit flightBits temperatureBits noBits
 alarm-set m =
     by-test (expires (m .flight .schedule))

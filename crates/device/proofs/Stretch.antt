@@ -10,16 +10,16 @@ use borrow.Author.Tests.{le-leb, lt-leb, eq-eqb, ne-eqb, eqb-true}
 use Rattle.unit.specs.Choice.{pick}
 use Rattle.unit.specs.Cases.{by-test, by-ltb, by-eqb}
 use Rattle.calendar.specs.Calendar.{tickClock}
-use Rattle.calendar.specs.Moment.{afterTicks}
+use Rattle.calendar.specs.Bounds.{afterTicks}
 use Rattle.calendar.proofs.Laws.{held}
 use Rattle.setup.specs.Setup.{clockStands}
 use Rattle.unit.specs.declared.Ticks.{Ticks}
 use Rattle.device.specs.declared.Schedule.{Schedule}
 use Rattle.device.specs.declared.Model.{Model}
 use Rattle.device.specs.Event.{startsLeft, begins, fails, leftAfter, waitAfter, tickSchedule}
-use Rattle.device.specs.Tick.{lostFlight, flightTicked, flightAfter, temperatureAfter, clockTicked, tickModel}
-use Rattle.device.specs.Stretch.{ticked, scheduleTicked, lastTick}
-use Rattle.device.specs.Claim.{Kind, differences, temperatures, Plan, History}
+use Rattle.device.specs.Tick.{failedFlight, flightTicked, flightAfter, temperatureAfter, clockTicked, tickModel}
+use Rattle.device.specs.Stretch.{modelTicked, scheduleTicked, lastTick}
+use Rattle.device.specs.History.{Kind, differences, temperatures, Plan, History}
 use Rattle.device.proofs.Table.{picked}
 use Rattle.device.proofs.TickCases.{by-begins, left-before}
 use Rattle.device.proofs.Going.{Going, none-awaited}
@@ -30,24 +30,24 @@ scheduleOf differences m = m .flight .schedule
 scheduleOf temperatures m = m .temperature .schedule
 
 schedule-tick : (k : Kind) (m : Model) → scheduleOf k (tickModel m) ≡ tickSchedule (scheduleOf k m)
-unfolding tickModel flightAfter flightTicked lostFlight temperatureAfter
+unfolding tickModel flightAfter flightTicked failedFlight temperatureAfter
 schedule-tick differences m = by-test (fails (m .flight .schedule)) (λ e. rw e) (λ e. rw e)
 schedule-tick temperatures m = by-test (fails (m .temperature .schedule)) (λ e. rw e) (λ e. rw e)
 
-pub schedule-ticked : (k : Kind) (n : ℕ) (m : Model) → scheduleOf k (ticked n m) ≡ scheduleTicked n (scheduleOf k m)
-unfolding ticked scheduleTicked
+pub schedule-ticked : (k : Kind) (n : ℕ) (m : Model) → scheduleOf k (modelTicked n m) ≡ scheduleTicked n (scheduleOf k m)
+unfolding modelTicked scheduleTicked
 schedule-ticked k zero m = refl
-schedule-ticked k (suc n) m = schedule-tick k (ticked n m) ∙ ap tickSchedule (schedule-ticked k n m)
+schedule-ticked k (suc n) m = schedule-tick k (modelTicked n m) ∙ ap tickSchedule (schedule-ticked k n m)
 
 -- ticks keep the set-up, and move a clock that does not stand
-pub setup-ticked : (n : ℕ) (m : Model) → (ticked n m) .setup ≡ m .setup
-unfolding ticked tickModel
+pub setup-ticked : (n : ℕ) (m : Model) → (modelTicked n m) .setup ≡ m .setup
+unfolding modelTicked tickModel
 setup-ticked zero m = refl
 setup-ticked (suc n) m = setup-ticked n m
 
 pub clock-ticked :
-    (n : ℕ) (m : Model) → clockStands (m .setup) ≡ false → (ticked n m) .clock ≡ afterTicks n (m .clock)
-unfolding ticked tickModel clockTicked afterTicks
+    (n : ℕ) (m : Model) → clockStands (m .setup) ≡ false → (modelTicked n m) .clock ≡ afterTicks n (m .clock)
+unfolding modelTicked tickModel clockTicked afterTicks
 clock-ticked zero m e = refl
 clock-ticked (suc n) m e = rw (setup-ticked n m, e) (ap tickClock (clock-ticked n m e))
 

@@ -11,11 +11,13 @@ use Rattle.unit.specs.Cases.{by-test, by-eqb}
 use Rattle.device.specs.declared.Schedule.{Schedule}
 use Rattle.device.specs.declared.Model.{Model}
 use Rattle.device.specs.declared.Reply.{Reply}
-use Rattle.device.specs.Model.{sound}
+use Rattle.device.specs.Model.{isSound}
 use Rattle.device.specs.Tick.{tickModel}
-use Rattle.device.specs.Stretch.{ticked, scheduleTicked, lastTick, progress}
-use Rattle.device.specs.Call.{Call, tick, stretch, refuse, reply}
-use Rattle.device.specs.Claim.{after}
+use Rattle.device.specs.Stretch.{modelTicked, scheduleTicked, lastTick}
+use Rattle.device.specs.StretchSteps.{progress}
+use Rattle.device.specs.Call.{Call, tick, stretch}
+use Rattle.device.specs.Reply.{refuse, reply}
+use Rattle.device.specs.History.{after}
 use Rattle.device.proofs.Sound.{keeps-sound}
 use Rattle.device.proofs.Facts.{reply-tick, reply-stretch}
 use Rattle.device.proofs.Quiet.{ticked-later}
@@ -25,25 +27,25 @@ unfoldable pub singleTicks : ℕ → List Call
 singleTicks zero = []
 singleTicks (suc n) = tick ∷ singleTicks n
 
-after-singles : (n : ℕ) (m : Model) → sound m ≡ true → after m (singleTicks n) ≡ ticked n m
-unfolding after singleTicks ticked
+after-singles : (n : ℕ) (m : Model) → isSound m ≡ true → after m (singleTicks n) ≡ modelTicked n m
+unfolding after singleTicks modelTicked
 after-singles zero m s = refl
 after-singles (suc n) m s =
     let e : reply m tick .model ≡ tickModel m = ap (λ (r : Reply). r .model) (reply-tick m s) in
     let o : 1 + n ≡ suc n = omega arith in
-    after-singles n (reply m tick .model) (keeps-sound m tick s) ∙ ap (ticked n) e ∙ ticked-later n 1 m ∙
-    ap (λ i. ticked i m) o
+    after-singles n (reply m tick .model) (keeps-sound m tick s) ∙ ap (modelTicked n) e ∙ ticked-later n 1 m ∙
+    ap (λ i. modelTicked i m) o
 
 pub same-end :
     (n : ℕ) (m : Model) →
-    sound m ≡ true →
+    isSound m ≡ true →
     n ≤ 16384 →
     reply m (stretch n) .model ≡ after m (singleTicks n)
 unfolding progress
 same-end n m s l = rw (reply-stretch m s n, le-ltb 16384 n l) (sym (after-singles n m s))
 
 -- "number 12, span, for a larger n, after number 0"
-pub span-refused : (n : ℕ) (m : Model) → sound m ≡ true → 16384 < n → reply m (stretch n) ≡ refuse 12 m
+pub span-refused : (n : ℕ) (m : Model) → isSound m ≡ true → 16384 < n → reply m (stretch n) ≡ refuse 12 m
 span-refused n m s l = rw (reply-stretch m s n, lt-ltb 16384 n l)
 
 -- A tick that is named is one of the n, and does what the test asks; where none is named, none does.

@@ -12,20 +12,21 @@ use Rattle.device.specs.declared.Model.{Model}
 use Rattle.device.specs.Model.{freshModel, freshWith, resetModel}
 use Rattle.device.specs.Write.{writeModel}
 use Rattle.device.specs.Tick.{tickModel}
-use Rattle.device.specs.Stretch.{ticked}
-use Rattle.device.specs.Delivery.{flightGood, flightFailed, temperatureGood, temperatureFailed}
+use Rattle.device.specs.Stretch.{modelTicked}
+use Rattle.device.specs.Delivery.{goodFlightModel, failedFlightModel, goodTemperatureModel, failedTemperatureModel}
 use Rattle.device.specs.FlashFrame.{flashModel}
-use Rattle.device.specs.Bus.{isEvent, startedEvent, initialised, haltedModel, singleStarted, supplied, unsupplied, runModel, readModel}
+use Rattle.device.specs.Bus.{isEvent, startedEvent, initialisedModel, haltedModel, singleStarted, supplied, unsupplied, runModel, readModel}
 use Rattle.device.specs.Call.{Call, transaction, tick, flight, temperature, stretch, opcode, words}
-use Rattle.device.specs.Call.{Verdict, accepted, refused, verdict, anyLate, portFault, acceptedAnswer, acceptedModel, replyBy, reply}
-use Rattle.device.specs.Claim.{isRefusal, after, log}
+use Rattle.device.specs.Call.{Verdict, accepted, refused, verdict}
+use Rattle.device.specs.Reply.{anyLate, portFault, acceptedAnswer, acceptedModel, replyBy, reply}
+use Rattle.device.specs.History.{isRefusal, after, log}
 use Rattle.device.specs.Supply.{supplyGiven, lastSupply, SupplyClaim}
 
 run-supply :
     (m : Model) (op : ℕ) →
     runModel m op .regulator
     ≡ pick (eqb op 0x0C) true (pick (eqb op 0x0D) false (pick (eqb op 0x04) false (m .regulator)))
-unfolding runModel resetModel freshWith initialised haltedModel supplied unsupplied startedEvent singleStarted
+unfolding runModel resetModel freshWith initialisedModel haltedModel supplied unsupplied startedEvent singleStarted
 run-supply m op =
     by-test (eqb op 12) (λ a. let e : op ≡ 12 = eqb-true op 12 a in rw e)
     (λ a. by-test (eqb op 13) (λ b. let e : op ≡ 13 = eqb-true op 13 b in rw e)
@@ -46,8 +47,8 @@ flash-supply : (m : Model) (op : ℕ) → flashModel m op .regulator ≡ m .regu
 unfolding flashModel
 flash-supply m op = by-test (eqb op 0x90) (λ e. rw e) (λ e. rw e)
 
-ticked-supply : (n : ℕ) (m : Model) → ticked n m .regulator ≡ m .regulator
-unfolding ticked tickModel
+ticked-supply : (n : ℕ) (m : Model) → modelTicked n m .regulator ≡ m .regulator
+unfolding modelTicked tickModel
 ticked-supply zero m = refl
 ticked-supply (suc n) m = ticked-supply n m
 
@@ -55,7 +56,7 @@ ticked-supply (suc n) m = ticked-supply n m
 given :
     (m : Model) (c : Call) →
     (acceptedModel m c .regulator ≡ supplyGiven c (m .regulator)) × (isRefusal (acceptedAnswer m c) ≡ false)
-unfolding acceptedModel acceptedAnswer supplyGiven isRefusal writeModel tickModel flightFailed flightGood temperatureFailed temperatureGood
+unfolding acceptedModel acceptedAnswer supplyGiven isRefusal writeModel tickModel failedFlightModel goodFlightModel failedTemperatureModel goodTemperatureModel
 given m (transaction f o x) =
     by-test (isCommand (opcode f)) (λ c. rw c (run-supply m (opcode f), refl))
     (λ c. by-test (isWrite (opcode f)) (λ w. rw (c, w) (refl, refl))

@@ -9,11 +9,13 @@ use Rattle.unit.specs.Choice.{pick, negate}
 use Rattle.unit.specs.Cases.{by-test}
 use Rattle.hit.specs.Mean.{All}
 use Rattle.device.specs.declared.Model.{Model}
-use Rattle.device.specs.Model.{sound}
-use Rattle.device.specs.Call.{Call, Row, accepted, refused, verdict, firstOf, table, reply, replyBy, output, outputBy, bufferOf, memory, memoryBy, memoryOf}
+use Rattle.device.specs.Model.{isSound}
+use Rattle.device.specs.Call.{Call, Row, accepted, refused, verdict, firstOf, table}
+use Rattle.device.specs.Reply.{reply, replyBy, output, outputBy, bufferOf, memory, memoryBy, memoryOf}
 use Rattle.device.specs.Call.{noFrame, notCarried, wrongLength, pastRegisters, shortOutput, whileBusy, supplyOff, unreachable, unerased, badCalendar}
 use Rattle.device.specs.Call.{notInitialised, badSetup, notAwaited, miscounted, tooLong}
-use Rattle.device.specs.Call.{transaction, tick, flight, temperature, stretch, anyLate, portFault, acceptedAnswer, numberIn}
+use Rattle.device.specs.Call.{transaction, tick, flight, temperature, stretch}
+use Rattle.device.specs.Reply.{anyLate, portFault, acceptedAnswer, numberIn}
 use Rattle.frame.specs.Frame.{isCommand, isWrite, isFlash}
 use lib.ListN.{getD}
 
@@ -60,7 +62,7 @@ accepted-means (r ∷ rs) =
 
 -- The conditions of the table, by number, none of which holds.
 pub record NoneHolds (m : Model) (c : Call) : Type 0 where
-  pub row0 : sound m ≡ true
+  pub row0 : isSound m ≡ true
   pub row1 : noFrame c ≡ false
   pub row2 : notCarried c ≡ false
   pub row3 : wrongLength c ≡ false
@@ -82,7 +84,7 @@ unfolding verdict table
 none-holds m c e =
     let n : None (table m c) = accepted-means (table m c) .0 e in
     record {
-      row0 = negated (sound m) (search);
+      row0 = negated (isSound m) (search);
       row1 = search;
       row2 = search;
       row3 = search;

@@ -13,7 +13,8 @@ use Rattle.unit.specs.Choice.{pick, both}
 use Rattle.unit.specs.Cases.{by-test, by-eqb}
 use Rattle.calendar.specs.declared.Clock.{Clock}
 use Rattle.calendar.specs.Calendar.{tickClock}
-use Rattle.calendar.specs.Moment.{moment, afterTicks}
+use Rattle.calendar.specs.Moment.{moment}
+use Rattle.calendar.specs.Bounds.{afterTicks}
 use Rattle.calendar.specs.Words.{clockFrom}
 use Rattle.calendar.proofs.Laws.{passed, after-moment, after-weekday, after-form}
 use Rattle.calendar.proofs.RoundTrip.{round-trip}
@@ -24,14 +25,17 @@ use Rattle.hit.specs.Mean.{sum, biasedTotal}
 use Rattle.device.specs.declared.Model.{Model}
 use Rattle.device.specs.declared.Reply.{Reply}
 use Rattle.device.specs.declared.StretchReport.{StretchReport}
-use Rattle.device.specs.Event.{awaits, inEvent}
-use Rattle.device.specs.Model.{sound, kindBusy, busy, freshModel}
+use Rattle.device.specs.Event.{isAwaited, inEvent}
+use Rattle.device.specs.Model.{isSound, kindBusy, isBusy, freshModel}
 use Rattle.device.specs.Registers.{calendarWord, registerWord}
 use Rattle.device.specs.Bus.{startsFlight, startsTemperature, isEvent, eventSideUnset, commandUnset, flightEvent, temperatureEvent, eventFlight, eventTemperature, startedEvent, runModel}
 use Rattle.device.specs.Call.{Call, transaction, tick, flight, temperature, stretch, noFrame, notCarried, wrongLength, pastRegisters, shortOutput}
-use Rattle.device.specs.Call.{whileBusy, supplyOff, unreachable, unerased, badSetup, table, firstOf, accepted, verdict, acceptedAnswer, acceptedModel, accept, replyBy, reply}
-use Rattle.device.specs.Claim.{Kind, differences, temperatures, Plan, planOf, periodOf, countOf, Entry, History, note, noteTick, noteGood, noteFailed, history, after, log, onlyReads, isTick, isDelivery, isGood, isFailed}
-use Rattle.device.specs.Claim.{startReported, beginning, runs, isRefusal, spanOf, stretchIn, named, noteTicks, ticksIn, tickCount}
+use Rattle.device.specs.Call.{whileBusy, supplyOff, unreachable, unerased, badSetup, table, firstOf, accepted, verdict}
+use Rattle.device.specs.Reply.{acceptedAnswer, acceptedModel, replyBy, reply}
+use Rattle.device.specs.Parts.{accept}
+use Rattle.device.specs.History.{Kind, differences, temperatures, Plan, planOf, periodOf, countOf, Entry, History, note, noteTick, noteGood, noteFailed, history, after, log, onlyReads, isTick, isDelivery, isGood, isFailed}
+use Rattle.device.specs.History.{startReported, beginning, runs, isRefusal, spanOf, stretchIn, named, noteTicks}
+use Rattle.device.specs.Claim.{ticksIn, tickCount}
 use Rattle.device.specs.Claim.{command, toldOf, StillBusy, ThirdDemand}
 use Rattle.device.proofs.Table.{none-holds, picked}
 use Rattle.device.proofs.Sound.{neither-picked, bounds-of, fresh-sound, keeps-sound}
@@ -47,7 +51,7 @@ both-true false b e = (e, cc)
 all-held :
     (k : Kind) (s : List ℕ) (cs : List Call) (m : Model) (h : History) →
     m .setup ≡ s →
-    sound m ≡ true →
+    isSound m ≡ true →
     onlyReads (log m cs) ≡ true →
     KindHeld k s h m →
     KindHeld k s (history k s (log m cs) h) (after m cs)
@@ -71,7 +75,7 @@ after-ticks (suc a) b c = let e : b + suc a ≡ suc (b + a) = omega arith in rw 
 all-ticks :
     (cs : List Call) (m : Model) →
     clockStands (m .setup) ≡ false →
-    sound m ≡ true →
+    isSound m ≡ true →
     onlyReads (log m cs) ≡ true →
     (after m cs) .clock ≡ afterTicks (tickCount (log m cs)) (m .clock)
 unfolding log onlyReads after tickCount afterTicks
@@ -84,7 +88,7 @@ all-ticks (c ∷ cs) m e v p =
     ap (afterTicks n) (clock-step m t e) ∙
     after-ticks n (ticksIn (record { call = c; answer = reply m c .answer })) (m .clock)
 
-sound-after : (cs : List Call) (m : Model) → sound m ≡ true → sound (after m cs) ≡ true
+sound-after : (cs : List Call) (m : Model) → isSound m ≡ true → isSound (after m cs) ≡ true
 unfolding after
 sound-after [] m v = v
 sound-after (c ∷ cs) m v = sound-after cs (reply m c .model) (keeps-sound m c v)
@@ -209,7 +213,7 @@ event-codes op a b = rw (le-ltb op 7 a, le-ltb 9 op b)
 -- what B0h to B3h read of a sound model is its clock
 reads-clock :
     (m : Model) →
-    sound m ≡ true →
+    isSound m ≡ true →
     clockFrom (registerWord m 0xB0) (registerWord m 0xB1) (registerWord m 0xB2) (registerWord m 0xB3) (m .clock .ticks)
     ≡ m .clock
 unfolding registerWord calendarWord
@@ -221,16 +225,16 @@ unfolding runs
 some-kind op e =
     by-event (λ op. (runs differences op ≡ true) ⊎ (runs temperatures op ≡ true)) op e (inl refl) (inl refl) (inr refl)
 
-held-busy : (k : Kind) (s : List ℕ) (h : History) (m : Model) → eventContinuous s ≡ true → KindHeld k s h m → busy m ≡ true
-unfolding busy kindBusy inEvent awaits
+held-busy : (k : Kind) (s : List ℕ) (h : History) (m : Model) → eventContinuous s ≡ true → KindHeld k s h m → isBusy m ≡ true
+unfolding isBusy kindBusy inEvent isAwaited
 held-busy differences s h m c i =
-    rw (i .going .continuous, c) (by-test (awaits (m .flight .schedule)) (λ e. rw e) (λ e. rw e))
+    rw (i .going .continuous, c) (by-test (isAwaited (m .flight .schedule)) (λ e. rw e) (λ e. rw e))
 held-busy temperatures s h m c i =
     rw (i .going .continuous, c)
     (by-test (kindBusy (m .flight .schedule)) (λ f. rw f)
-    (λ f. rw f (by-test (awaits (m .temperature .schedule)) (λ e. rw e) (λ e. rw e))))
+    (λ f. rw f (by-test (isAwaited (m .temperature .schedule)) (λ e. rw e) (λ e. rw e))))
 
-write-busy : (m : Model) → sound m ≡ true → busy m ≡ true → StillBusy m
+write-busy : (m : Model) → isSound m ≡ true → isBusy m ≡ true → StillBusy m
 unfolding verdict firstOf table noFrame notCarried wrongLength pastRegisters shortOutput whileBusy supplyOff unreachable unerased isCommand isWrite notWhole pastEnd
 write-busy m s b a high low o x from to =
     rw (
@@ -247,8 +251,8 @@ third-demand before op o x later from to v p =
     let e : isEvent op ≡ true = event-codes op from to in
     let m : Model = after freshModel before in
     let n : Model = reply m (command op o x) .model in
-    let s : sound m ≡ true = sound-after before freshModel fresh-sound in
-    let k : sound n ≡ true = keeps-sound m (command op o x) s in
+    let s : isSound m ≡ true = sound-after before freshModel fresh-sound in
+    let k : isSound n ≡ true = keeps-sound m (command op o x) s in
     let q = accepted-event m op o x e v in
     let t : ℕ = tickCount (log n later) in
     let c : (after n later) .clock ≡ afterTicks t (m .clock) =

@@ -13,25 +13,29 @@ use Rattle.setup.specs.Setup.{factory, alarmWord, flightUnset, temperatureUnset
 use Rattle.setup.specs.Setup.{differenceCount, temperatureCount, differencePeriod, temperaturePeriod, hitCount, timeout, portCycle}
 use Rattle.frame.specs.Frame.{isCommand, isWrite, isFlash, isRead, notWhole, pastEnd, wordAt}
 use Rattle.hit.specs.Limit.{lateFrom, openFrom, shortBelow, anyWord, anyFrom, anyBelow, anyFault}
-use Rattle.hit.specs.Words.{wordOrZero, six, four, sixTotal, average, filled, portPair, portPairs, plusEach}
+use Rattle.hit.specs.Words.{wordOrZero, sixWords, fourWords, sixTotal, average, filled, portPair, portPairs, plusEach}
 use Rattle.hit.specs.Difference.{differenceWord, biased, differenceMean, portMean}
-use Rattle.device.specs.Event.{noSchedule, countsSound, waitSound, balanceSound, scheduleSound, awaits, inEvent, startsLeft, beginsGroup, fails, eventStart, tickSchedule, begins, leftAfter, waitAfter, startedAfter}
+use Rattle.device.specs.Event.{noSchedule, countsSound, waitSound, balanceSound, scheduleSound, isAwaited, inEvent, startsLeft, beginsGroup, fails, startEvent, tickSchedule, begins, leftAfter, waitAfter, startedAfter}
 use Rattle.device.specs.Event.{settledAfter, goodAfter, settle}
 use Rattle.device.specs.Status.{porBit, joined}
-use Rattle.device.specs.Model.{freshModel, freshWith, noFlight, noTemperature, sumFits, flightSound, temperatureSound, sound, kindBusy, busy}
+use Rattle.device.specs.Model.{freshModel, freshWith, noFlight, noTemperature, sumFits, flightSound, temperatureSound, isSound, kindBusy, isBusy}
 use Rattle.device.specs.Registers.{calendarWord, half, flightWord, temperatureWord, registerWord}
 use Rattle.device.specs.Write.{covers, written, withWord, setupAfter, ticksAfter, clockAfter, writeInvalid, writeModel}
-use Rattle.device.specs.Tick.{lostDifference, lostFlight, sumAfter, sumsAfter, flightTicked, flightAfter, temperatureAfter, clockTicked, tickModel, reportOf}
-use Rattle.device.specs.Delivery.{sameCount, flightMiscounted, goodDifference, goodSum, goodFlight, flightGood, flightFailed, goodSums, temperatureGood, temperatureFailed}
-use Rattle.device.specs.Bus.{mustBeIdle, startsFlight, startsTemperature, isEvent, commandBusy, notReady, flightSideUnset}
+use Rattle.device.specs.Tick.{failedDifference, failedFlight, sumAfter, sumsAfter, flightTicked, flightAfter, temperatureAfter, clockTicked, tickModel, reportOf}
+use Rattle.device.specs.Delivery.{sameCount, flightMiscounted, goodDifference, goodSum, goodFlight, goodFlightModel, failedFlightModel, goodSums, goodTemperatureModel, failedTemperatureModel}
+use Rattle.device.specs.Bus.{mustBeIdle, startsFlight, startsTemperature, isEvent, commandBusy, beforeInitialize, flightSideUnset}
 use Rattle.device.specs.Bus.{temperatureSideUnset, eventSideUnset, commandUnset, flightEvent, temperatureEvent, eventFlight}
-use Rattle.device.specs.Bus.{eventTemperature, startedEvent, initialised, runModel}
-use Rattle.device.specs.Stretch.{ticked, scheduleTicked, lastTick, stretchReport}
-use Rattle.device.specs.Call.{Call, transaction, tick, flight, temperature, stretch, anyLate, anyOpen, portFault, accepted, verdict, firstOf, table, reply, replyBy}
+use Rattle.device.specs.Bus.{eventTemperature, startedEvent, initialisedModel, runModel}
+use Rattle.device.specs.Stretch.{modelTicked, scheduleTicked, lastTick, stretchReport}
+use Rattle.device.specs.Call.{Call, transaction, tick, flight, temperature, stretch, accepted, verdict, firstOf, table}
+use Rattle.device.specs.Reply.{anyLate, anyOpen, portFault, reply, replyBy}
 use Rattle.device.specs.Call.{noFrame, notCarried, wrongLength, pastRegisters, shortOutput, whileBusy, supplyOff, unreachable, unerased, badCalendar}
-use Rattle.device.specs.Call.{notInitialised, badSetup, notAwaited, miscounted, tooLong, acceptedAnswer, acceptedModel}
-use Rattle.device.specs.Claim.{differences, periodOf, countOf, planOf, isTick, stretchIn, spanOf, tickCount, ticksIn as ticksCounted}
-use Rattle.device.specs.Claim.{Entry, after, log, isRefusal, isReading, onlyReads, command, startReported, named}
+use Rattle.device.specs.Call.{notInitialised, badSetup, notAwaited, miscounted, tooLong}
+use Rattle.device.specs.Reply.{acceptedAnswer, acceptedModel}
+use Rattle.device.specs.History.{differences, periodOf, countOf, planOf, isTick, stretchIn, spanOf}
+use Rattle.device.specs.Claim.{tickCount, ticksIn as ticksCounted}
+use Rattle.device.specs.History.{Entry, after, log, isRefusal, mayFollow, onlyReads, startReported, named}
+use Rattle.device.specs.Claim.{command}
 use Rattle.device.specs.Probes.{OtherProbesIn, same, values, none, next, Flow, flowOf, flowThrough}
 
 -- PL and DPL, TP, Initialize
@@ -49,7 +53,7 @@ later = tick ∷ stretch 2 ∷ transaction (0xFE ∷ 0 ∷ 0 ∷ []) (0 ∷ 0 �
 pub events-accepted :
     map (λ (op : ℕ). verdict (after freshModel before) (command op [] [])) (7 ∷ 8 ∷ 9 ∷ [])
     ≡ accepted ∷ accepted ∷ accepted ∷ []
-unfolding after reply replyBy verdict firstOf table noFrame notCarried wrongLength pastRegisters shortOutput whileBusy supplyOff unreachable unerased badCalendar notInitialised badSetup notAwaited miscounted tooLong acceptedModel freshModel freshWith porBit noFlight noTemperature noSchedule start factory sound sumFits flightSound temperatureSound scheduleSound clockValid dateFits timeFits leap monthLength kindBusy busy awaits inEvent isCommand isWrite isFlash isRead notWhole pastEnd wordAt calendarWord word30 word31 hourDigits word32 word33 bcd hundredthsOf minuteIn twelveIn hourNamed hourIn ticksIn clockFrom timeDigits hourFits digitsFit wordsValid alarmValid alarmWord covers written withWord setupAfter ticksAfter clockAfter writeInvalid writeModel mustBeIdle startsFlight startsTemperature isEvent commandBusy notReady flightSideUnset temperatureSideUnset eventSideUnset commandUnset flightUnset temperatureUnset eventContinuous startsLeft beginsGroup goodAfter countsSound waitSound balanceSound sumAfter sumsAfter flightTicked clockStands runModel initialised joined
+unfolding after reply replyBy verdict firstOf table noFrame notCarried wrongLength pastRegisters shortOutput whileBusy supplyOff unreachable unerased badCalendar notInitialised badSetup notAwaited miscounted tooLong acceptedModel freshModel freshWith porBit noFlight noTemperature noSchedule start factory isSound sumFits flightSound temperatureSound scheduleSound clockValid dateFits timeFits leap monthLength kindBusy isBusy isAwaited inEvent isCommand isWrite isFlash isRead notWhole pastEnd wordAt calendarWord word30 word31 hourDigits word32 word33 bcd hundredthsOf minuteIn twelveIn hourNamed hourIn ticksIn clockFrom timeDigits hourFits digitsFit wordsValid alarmValid alarmWord covers written withWord setupAfter ticksAfter clockAfter writeInvalid writeModel mustBeIdle startsFlight startsTemperature isEvent commandBusy beforeInitialize flightSideUnset temperatureSideUnset eventSideUnset commandUnset flightUnset temperatureUnset eventContinuous startsLeft beginsGroup goodAfter countsSound waitSound balanceSound sumAfter sumsAfter flightTicked clockStands runModel initialisedModel joined
 events-accepted = refl
 
 -- such a list, and none of its calls is refused
@@ -58,7 +62,7 @@ pub later-read :
     ≡ true ∷ true ∷ true ∷ []) ×
     (map (λ (e : Entry). isRefusal (e .answer)) (log (reply (after freshModel before) (command 7 [] []) .model) later)
     ≡ false ∷ false ∷ false ∷ [])
-unfolding ticked begins leftAfter waitAfter startedAfter log onlyReads isRefusal isReading acceptedAnswer startedEvent eventFlight flightEvent eventStart differenceCount eventTemperature temperatureEvent temperatureCount tickModel clockTicked tickClock flightAfter fails tickSchedule settledAfter temperatureAfter after reply replyBy verdict firstOf table noFrame notCarried wrongLength pastRegisters shortOutput whileBusy supplyOff unreachable unerased badCalendar notInitialised badSetup notAwaited miscounted tooLong acceptedModel freshModel freshWith porBit noFlight noTemperature noSchedule start factory sound sumFits flightSound temperatureSound scheduleSound clockValid dateFits timeFits leap monthLength kindBusy busy awaits inEvent isCommand isWrite isFlash isRead notWhole pastEnd wordAt calendarWord word30 word31 hourDigits word32 word33 bcd hundredthsOf minuteIn twelveIn hourNamed hourIn ticksIn clockFrom timeDigits hourFits digitsFit wordsValid alarmValid alarmWord covers written withWord setupAfter ticksAfter clockAfter writeInvalid writeModel mustBeIdle startsFlight startsTemperature isEvent commandBusy notReady flightSideUnset temperatureSideUnset eventSideUnset commandUnset flightUnset temperatureUnset eventContinuous startsLeft beginsGroup goodAfter countsSound waitSound balanceSound sumAfter sumsAfter flightTicked clockStands runModel initialised joined
+unfolding modelTicked begins leftAfter waitAfter startedAfter log onlyReads isRefusal mayFollow acceptedAnswer startedEvent eventFlight flightEvent startEvent differenceCount eventTemperature temperatureEvent temperatureCount tickModel clockTicked tickClock flightAfter fails tickSchedule settledAfter temperatureAfter after reply replyBy verdict firstOf table noFrame notCarried wrongLength pastRegisters shortOutput whileBusy supplyOff unreachable unerased badCalendar notInitialised badSetup notAwaited miscounted tooLong acceptedModel freshModel freshWith porBit noFlight noTemperature noSchedule start factory isSound sumFits flightSound temperatureSound scheduleSound clockValid dateFits timeFits leap monthLength kindBusy isBusy isAwaited inEvent isCommand isWrite isFlash isRead notWhole pastEnd wordAt calendarWord word30 word31 hourDigits word32 word33 bcd hundredthsOf minuteIn twelveIn hourNamed hourIn ticksIn clockFrom timeDigits hourFits digitsFit wordsValid alarmValid alarmWord covers written withWord setupAfter ticksAfter clockAfter writeInvalid writeModel mustBeIdle startsFlight startsTemperature isEvent commandBusy beforeInitialize flightSideUnset temperatureSideUnset eventSideUnset commandUnset flightUnset temperatureUnset eventContinuous startsLeft beginsGroup goodAfter countsSound waitSound balanceSound sumAfter sumsAfter flightTicked clockStands runModel initialisedModel joined
 later-read = (refl, refl)
 
 -- An event of both kinds, with a delivery of each.
@@ -88,14 +92,14 @@ pub probes-seen :
     map (λ (w : List ℕ). map (registerWord (after freshModel (withProbes w))) (0xC5 ∷ 0xD4 ∷ 0xE2 ∷ 0xE4 ∷ 0xE5 ∷ 0xE7 ∷ 0xEF ∷ []))
     (whole ∷ cut ∷ [])
     ≡ (305 ∷ 289 ∷ 15 ∷ 1 ∷ 15 ∷ 61 ∷ 1 ∷ []) ∷ (305 ∷ 289 ∷ 15 ∷ 1 ∷ 15 ∷ 0xFFFF ∷ 0 ∷ []) ∷ []
-unfolding startReported named stretchReport lastTick scheduleTicked reportOf registerWord flightWord temperatureWord half settle goodFlight goodSum goodDifference flightGood temperatureGood temperatureFailed goodSums six four average sixTotal filled portPairs portPair plusEach wordOrZero biased differenceWord differenceMean portMean anyLate anyOpen portFault anyFault anyFrom anyBelow anyWord shortBelow lateFrom openFrom hitCount timeout portCycle flightMiscounted sameCount differencePeriod temperaturePeriod ticked begins leftAfter waitAfter startedAfter log onlyReads isRefusal isReading acceptedAnswer startedEvent eventFlight flightEvent eventStart differenceCount eventTemperature temperatureEvent temperatureCount tickModel clockTicked tickClock flightAfter fails tickSchedule settledAfter temperatureAfter after reply replyBy verdict firstOf table noFrame notCarried wrongLength pastRegisters shortOutput whileBusy supplyOff unreachable unerased badCalendar notInitialised badSetup notAwaited miscounted tooLong acceptedModel freshModel freshWith porBit noFlight noTemperature noSchedule start factory sound sumFits flightSound temperatureSound scheduleSound clockValid dateFits timeFits leap monthLength kindBusy busy awaits inEvent isCommand isWrite isFlash isRead notWhole pastEnd wordAt calendarWord word30 word31 hourDigits word32 word33 bcd hundredthsOf minuteIn twelveIn hourNamed hourIn ticksIn clockFrom timeDigits hourFits digitsFit wordsValid alarmValid alarmWord covers written withWord setupAfter ticksAfter clockAfter writeInvalid writeModel mustBeIdle startsFlight startsTemperature isEvent commandBusy notReady flightSideUnset temperatureSideUnset eventSideUnset commandUnset flightUnset temperatureUnset eventContinuous startsLeft beginsGroup goodAfter countsSound waitSound balanceSound sumAfter sumsAfter flightTicked clockStands runModel initialised joined
+unfolding startReported named stretchReport lastTick scheduleTicked reportOf registerWord flightWord temperatureWord half settle goodFlight goodSum goodDifference goodFlightModel goodTemperatureModel failedTemperatureModel goodSums sixWords fourWords average sixTotal filled portPairs portPair plusEach wordOrZero biased differenceWord differenceMean portMean anyLate anyOpen portFault anyFault anyFrom anyBelow anyWord shortBelow lateFrom openFrom hitCount timeout portCycle flightMiscounted sameCount differencePeriod temperaturePeriod modelTicked begins leftAfter waitAfter startedAfter log onlyReads isRefusal mayFollow acceptedAnswer startedEvent eventFlight flightEvent startEvent differenceCount eventTemperature temperatureEvent temperatureCount tickModel clockTicked tickClock flightAfter fails tickSchedule settledAfter temperatureAfter after reply replyBy verdict firstOf table noFrame notCarried wrongLength pastRegisters shortOutput whileBusy supplyOff unreachable unerased badCalendar notInitialised badSetup notAwaited miscounted tooLong acceptedModel freshModel freshWith porBit noFlight noTemperature noSchedule start factory isSound sumFits flightSound temperatureSound scheduleSound clockValid dateFits timeFits leap monthLength kindBusy isBusy isAwaited inEvent isCommand isWrite isFlash isRead notWhole pastEnd wordAt calendarWord word30 word31 hourDigits word32 word33 bcd hundredthsOf minuteIn twelveIn hourNamed hourIn ticksIn clockFrom timeDigits hourFits digitsFit wordsValid alarmValid alarmWord covers written withWord setupAfter ticksAfter clockAfter writeInvalid writeModel mustBeIdle startsFlight startsTemperature isEvent commandBusy beforeInitialize flightSideUnset temperatureSideUnset eventSideUnset commandUnset flightUnset temperatureUnset eventContinuous startsLeft beginsGroup goodAfter countsSound waitSound balanceSound sumAfter sumsAfter flightTicked clockStands runModel initialisedModel joined
 probes-seen = refl
 
 -- and the command's answer reports a start
 pub start-seen :
     map (λ (f : Flow). f .started) (flowThrough freshModel (withProbes cut))
     ≡ false ∷ false ∷ false ∷ true ∷ false ∷ false ∷ false ∷ false ∷ []
-unfolding flowThrough flowOf startReported named stretchReport lastTick scheduleTicked reportOf registerWord flightWord temperatureWord half settle goodFlight goodSum goodDifference flightGood temperatureGood temperatureFailed goodSums six four average sixTotal filled portPairs portPair plusEach wordOrZero biased differenceWord differenceMean portMean anyLate anyOpen portFault anyFault anyFrom anyBelow anyWord shortBelow lateFrom openFrom hitCount timeout portCycle flightMiscounted sameCount differencePeriod temperaturePeriod ticked begins leftAfter waitAfter startedAfter log onlyReads isRefusal isReading acceptedAnswer startedEvent eventFlight flightEvent eventStart differenceCount eventTemperature temperatureEvent temperatureCount tickModel clockTicked tickClock flightAfter fails tickSchedule settledAfter temperatureAfter after reply replyBy verdict firstOf table noFrame notCarried wrongLength pastRegisters shortOutput whileBusy supplyOff unreachable unerased badCalendar notInitialised badSetup notAwaited miscounted tooLong acceptedModel freshModel freshWith porBit noFlight noTemperature noSchedule start factory sound sumFits flightSound temperatureSound scheduleSound clockValid dateFits timeFits leap monthLength kindBusy busy awaits inEvent isCommand isWrite isFlash isRead notWhole pastEnd wordAt calendarWord word30 word31 hourDigits word32 word33 bcd hundredthsOf minuteIn twelveIn hourNamed hourIn ticksIn clockFrom timeDigits hourFits digitsFit wordsValid alarmValid alarmWord covers written withWord setupAfter ticksAfter clockAfter writeInvalid writeModel mustBeIdle startsFlight startsTemperature isEvent commandBusy notReady flightSideUnset temperatureSideUnset eventSideUnset commandUnset flightUnset temperatureUnset eventContinuous startsLeft beginsGroup goodAfter countsSound waitSound balanceSound sumAfter sumsAfter flightTicked clockStands runModel initialised joined
+unfolding flowThrough flowOf startReported named stretchReport lastTick scheduleTicked reportOf registerWord flightWord temperatureWord half settle goodFlight goodSum goodDifference goodFlightModel goodTemperatureModel failedTemperatureModel goodSums sixWords fourWords average sixTotal filled portPairs portPair plusEach wordOrZero biased differenceWord differenceMean portMean anyLate anyOpen portFault anyFault anyFrom anyBelow anyWord shortBelow lateFrom openFrom hitCount timeout portCycle flightMiscounted sameCount differencePeriod temperaturePeriod modelTicked begins leftAfter waitAfter startedAfter log onlyReads isRefusal mayFollow acceptedAnswer startedEvent eventFlight flightEvent startEvent differenceCount eventTemperature temperatureEvent temperatureCount tickModel clockTicked tickClock flightAfter fails tickSchedule settledAfter temperatureAfter after reply replyBy verdict firstOf table noFrame notCarried wrongLength pastRegisters shortOutput whileBusy supplyOff unreachable unerased badCalendar notInitialised badSetup notAwaited miscounted tooLong acceptedModel freshModel freshWith porBit noFlight noTemperature noSchedule start factory isSound sumFits flightSound temperatureSound scheduleSound clockValid dateFits timeFits leap monthLength kindBusy isBusy isAwaited inEvent isCommand isWrite isFlash isRead notWhole pastEnd wordAt calendarWord word30 word31 hourDigits word32 word33 bcd hundredthsOf minuteIn twelveIn hourNamed hourIn ticksIn clockFrom timeDigits hourFits digitsFit wordsValid alarmValid alarmWord covers written withWord setupAfter ticksAfter clockAfter writeInvalid writeModel mustBeIdle startsFlight startsTemperature isEvent commandBusy beforeInitialize flightSideUnset temperatureSideUnset eventSideUnset commandUnset flightUnset temperatureUnset eventContinuous startsLeft beginsGroup goodAfter countsSound waitSound balanceSound sumAfter sumsAfter flightTicked clockStands runModel initialisedModel joined
 start-seen = refl
 
 -- A continuous event of differences, N = 1, so that each start begins a group: a delivery with a late word, and a good one in the
@@ -108,24 +112,24 @@ overGroups =
     flight (33554432 ∷ []) (19000000 ∷ []) ∷ stretch 16384 ∷ flight (20000000 ∷ []) (18000000 ∷ []) ∷ []
 
 pub continuous-accepted : verdict (after freshModel setUp) (command 8 [] []) ≡ accepted
-unfolding startReported named stretchReport lastTick scheduleTicked reportOf registerWord flightWord temperatureWord half settle goodFlight goodSum goodDifference flightGood temperatureGood temperatureFailed goodSums six four average sixTotal filled portPairs portPair plusEach wordOrZero biased differenceWord differenceMean portMean anyLate anyOpen portFault anyFault anyFrom anyBelow anyWord shortBelow lateFrom openFrom hitCount timeout portCycle flightMiscounted sameCount differencePeriod temperaturePeriod ticked begins leftAfter waitAfter startedAfter log onlyReads isRefusal isReading acceptedAnswer startedEvent eventFlight flightEvent eventStart differenceCount eventTemperature temperatureEvent temperatureCount tickModel clockTicked tickClock flightAfter fails tickSchedule settledAfter temperatureAfter after reply replyBy verdict firstOf table noFrame notCarried wrongLength pastRegisters shortOutput whileBusy supplyOff unreachable unerased badCalendar notInitialised badSetup notAwaited miscounted tooLong acceptedModel freshModel freshWith porBit noFlight noTemperature noSchedule start factory sound sumFits flightSound temperatureSound scheduleSound clockValid dateFits timeFits leap monthLength kindBusy busy awaits inEvent isCommand isWrite isFlash isRead notWhole pastEnd wordAt calendarWord word30 word31 hourDigits word32 word33 bcd hundredthsOf minuteIn twelveIn hourNamed hourIn ticksIn clockFrom timeDigits hourFits digitsFit wordsValid alarmValid alarmWord covers written withWord setupAfter ticksAfter clockAfter writeInvalid writeModel mustBeIdle startsFlight startsTemperature isEvent commandBusy notReady flightSideUnset temperatureSideUnset eventSideUnset commandUnset flightUnset temperatureUnset eventContinuous startsLeft beginsGroup goodAfter countsSound waitSound balanceSound sumAfter sumsAfter flightTicked clockStands runModel initialised joined isTick stretchIn spanOf lostFlight lostDifference flightFailed
+unfolding startReported named stretchReport lastTick scheduleTicked reportOf registerWord flightWord temperatureWord half settle goodFlight goodSum goodDifference goodFlightModel goodTemperatureModel failedTemperatureModel goodSums sixWords fourWords average sixTotal filled portPairs portPair plusEach wordOrZero biased differenceWord differenceMean portMean anyLate anyOpen portFault anyFault anyFrom anyBelow anyWord shortBelow lateFrom openFrom hitCount timeout portCycle flightMiscounted sameCount differencePeriod temperaturePeriod modelTicked begins leftAfter waitAfter startedAfter log onlyReads isRefusal mayFollow acceptedAnswer startedEvent eventFlight flightEvent startEvent differenceCount eventTemperature temperatureEvent temperatureCount tickModel clockTicked tickClock flightAfter fails tickSchedule settledAfter temperatureAfter after reply replyBy verdict firstOf table noFrame notCarried wrongLength pastRegisters shortOutput whileBusy supplyOff unreachable unerased badCalendar notInitialised badSetup notAwaited miscounted tooLong acceptedModel freshModel freshWith porBit noFlight noTemperature noSchedule start factory isSound sumFits flightSound temperatureSound scheduleSound clockValid dateFits timeFits leap monthLength kindBusy isBusy isAwaited inEvent isCommand isWrite isFlash isRead notWhole pastEnd wordAt calendarWord word30 word31 hourDigits word32 word33 bcd hundredthsOf minuteIn twelveIn hourNamed hourIn ticksIn clockFrom timeDigits hourFits digitsFit wordsValid alarmValid alarmWord covers written withWord setupAfter ticksAfter clockAfter writeInvalid writeModel mustBeIdle startsFlight startsTemperature isEvent commandBusy beforeInitialize flightSideUnset temperatureSideUnset eventSideUnset commandUnset flightUnset temperatureUnset eventContinuous startsLeft beginsGroup goodAfter countsSound waitSound balanceSound sumAfter sumsAfter flightTicked clockStands runModel initialisedModel joined isTick stretchIn spanOf failedFlight failedDifference failedFlightModel
 continuous-accepted = refl
 
 pub plan-is :
     planOf differences ((after freshModel setUp) .setup) ≡ record { period = 16384; count = 1; continuous = true }
-unfolding startReported named stretchReport lastTick scheduleTicked reportOf registerWord flightWord temperatureWord half settle goodFlight goodSum goodDifference flightGood temperatureGood temperatureFailed goodSums six four average sixTotal filled portPairs portPair plusEach wordOrZero biased differenceWord differenceMean portMean anyLate anyOpen portFault anyFault anyFrom anyBelow anyWord shortBelow lateFrom openFrom hitCount timeout portCycle flightMiscounted sameCount differencePeriod temperaturePeriod ticked begins leftAfter waitAfter startedAfter log onlyReads isRefusal isReading acceptedAnswer startedEvent eventFlight flightEvent eventStart differenceCount eventTemperature temperatureEvent temperatureCount tickModel clockTicked tickClock flightAfter fails tickSchedule settledAfter temperatureAfter after reply replyBy verdict firstOf table noFrame notCarried wrongLength pastRegisters shortOutput whileBusy supplyOff unreachable unerased badCalendar notInitialised badSetup notAwaited miscounted tooLong acceptedModel freshModel freshWith porBit noFlight noTemperature noSchedule start factory sound sumFits flightSound temperatureSound scheduleSound clockValid dateFits timeFits leap monthLength kindBusy busy awaits inEvent isCommand isWrite isFlash isRead notWhole pastEnd wordAt calendarWord word30 word31 hourDigits word32 word33 bcd hundredthsOf minuteIn twelveIn hourNamed hourIn ticksIn clockFrom timeDigits hourFits digitsFit wordsValid alarmValid alarmWord covers written withWord setupAfter ticksAfter clockAfter writeInvalid writeModel mustBeIdle startsFlight startsTemperature isEvent commandBusy notReady flightSideUnset temperatureSideUnset eventSideUnset commandUnset flightUnset temperatureUnset eventContinuous startsLeft beginsGroup goodAfter countsSound waitSound balanceSound sumAfter sumsAfter flightTicked clockStands runModel initialised joined isTick stretchIn spanOf lostFlight lostDifference flightFailed periodOf countOf
+unfolding startReported named stretchReport lastTick scheduleTicked reportOf registerWord flightWord temperatureWord half settle goodFlight goodSum goodDifference goodFlightModel goodTemperatureModel failedTemperatureModel goodSums sixWords fourWords average sixTotal filled portPairs portPair plusEach wordOrZero biased differenceWord differenceMean portMean anyLate anyOpen portFault anyFault anyFrom anyBelow anyWord shortBelow lateFrom openFrom hitCount timeout portCycle flightMiscounted sameCount differencePeriod temperaturePeriod modelTicked begins leftAfter waitAfter startedAfter log onlyReads isRefusal mayFollow acceptedAnswer startedEvent eventFlight flightEvent startEvent differenceCount eventTemperature temperatureEvent temperatureCount tickModel clockTicked tickClock flightAfter fails tickSchedule settledAfter temperatureAfter after reply replyBy verdict firstOf table noFrame notCarried wrongLength pastRegisters shortOutput whileBusy supplyOff unreachable unerased badCalendar notInitialised badSetup notAwaited miscounted tooLong acceptedModel freshModel freshWith porBit noFlight noTemperature noSchedule start factory isSound sumFits flightSound temperatureSound scheduleSound clockValid dateFits timeFits leap monthLength kindBusy isBusy isAwaited inEvent isCommand isWrite isFlash isRead notWhole pastEnd wordAt calendarWord word30 word31 hourDigits word32 word33 bcd hundredthsOf minuteIn twelveIn hourNamed hourIn ticksIn clockFrom timeDigits hourFits digitsFit wordsValid alarmValid alarmWord covers written withWord setupAfter ticksAfter clockAfter writeInvalid writeModel mustBeIdle startsFlight startsTemperature isEvent commandBusy beforeInitialize flightSideUnset temperatureSideUnset eventSideUnset commandUnset flightUnset temperatureUnset eventContinuous startsLeft beginsGroup goodAfter countsSound waitSound balanceSound sumAfter sumsAfter flightTicked clockStands runModel initialisedModel joined isTick stretchIn spanOf failedFlight failedDifference failedFlightModel periodOf countOf
 plan-is = refl
 
 -- Its calls are accepted, and hold 16,384 ticks.
 pub groups-read :
     (onlyReads (log (reply (after freshModel setUp) (command 8 [] []) .model) overGroups) ≡ true) ×
     (tickCount (log (reply (after freshModel setUp) (command 8 [] []) .model) overGroups) ≡ 16384)
-unfolding startReported named stretchReport lastTick scheduleTicked reportOf registerWord flightWord temperatureWord half settle goodFlight goodSum goodDifference flightGood temperatureGood temperatureFailed goodSums six four average sixTotal filled portPairs portPair plusEach wordOrZero biased differenceWord differenceMean portMean anyLate anyOpen portFault anyFault anyFrom anyBelow anyWord shortBelow lateFrom openFrom hitCount timeout portCycle flightMiscounted sameCount differencePeriod temperaturePeriod ticked begins leftAfter waitAfter startedAfter log onlyReads isRefusal isReading acceptedAnswer startedEvent eventFlight flightEvent eventStart differenceCount eventTemperature temperatureEvent temperatureCount tickModel clockTicked tickClock flightAfter fails tickSchedule settledAfter temperatureAfter after reply replyBy verdict firstOf table noFrame notCarried wrongLength pastRegisters shortOutput whileBusy supplyOff unreachable unerased badCalendar notInitialised badSetup notAwaited miscounted tooLong acceptedModel freshModel freshWith porBit noFlight noTemperature noSchedule start factory sound sumFits flightSound temperatureSound scheduleSound clockValid dateFits timeFits leap monthLength kindBusy busy awaits inEvent isCommand isWrite isFlash isRead notWhole pastEnd wordAt calendarWord word30 word31 hourDigits word32 word33 bcd hundredthsOf minuteIn twelveIn hourNamed hourIn ticksIn clockFrom timeDigits hourFits digitsFit wordsValid alarmValid alarmWord covers written withWord setupAfter ticksAfter clockAfter writeInvalid writeModel mustBeIdle startsFlight startsTemperature isEvent commandBusy notReady flightSideUnset temperatureSideUnset eventSideUnset commandUnset flightUnset temperatureUnset eventContinuous startsLeft beginsGroup goodAfter countsSound waitSound balanceSound sumAfter sumsAfter flightTicked clockStands runModel initialised joined isTick stretchIn spanOf lostFlight lostDifference flightFailed ticksCounted tickCount
+unfolding startReported named stretchReport lastTick scheduleTicked reportOf registerWord flightWord temperatureWord half settle goodFlight goodSum goodDifference goodFlightModel goodTemperatureModel failedTemperatureModel goodSums sixWords fourWords average sixTotal filled portPairs portPair plusEach wordOrZero biased differenceWord differenceMean portMean anyLate anyOpen portFault anyFault anyFrom anyBelow anyWord shortBelow lateFrom openFrom hitCount timeout portCycle flightMiscounted sameCount differencePeriod temperaturePeriod modelTicked begins leftAfter waitAfter startedAfter log onlyReads isRefusal mayFollow acceptedAnswer startedEvent eventFlight flightEvent startEvent differenceCount eventTemperature temperatureEvent temperatureCount tickModel clockTicked tickClock flightAfter fails tickSchedule settledAfter temperatureAfter after reply replyBy verdict firstOf table noFrame notCarried wrongLength pastRegisters shortOutput whileBusy supplyOff unreachable unerased badCalendar notInitialised badSetup notAwaited miscounted tooLong acceptedModel freshModel freshWith porBit noFlight noTemperature noSchedule start factory isSound sumFits flightSound temperatureSound scheduleSound clockValid dateFits timeFits leap monthLength kindBusy isBusy isAwaited inEvent isCommand isWrite isFlash isRead notWhole pastEnd wordAt calendarWord word30 word31 hourDigits word32 word33 bcd hundredthsOf minuteIn twelveIn hourNamed hourIn ticksIn clockFrom timeDigits hourFits digitsFit wordsValid alarmValid alarmWord covers written withWord setupAfter ticksAfter clockAfter writeInvalid writeModel mustBeIdle startsFlight startsTemperature isEvent commandBusy beforeInitialize flightSideUnset temperatureSideUnset eventSideUnset commandUnset flightUnset temperatureUnset eventContinuous startsLeft beginsGroup goodAfter countsSound waitSound balanceSound sumAfter sumsAfter flightTicked clockStands runModel initialisedModel joined isTick stretchIn spanOf failedFlight failedDifference failedFlightModel ticksCounted tickCount
 groups-read = (refl, refl)
 
 -- E4h to E6h of the second group: one good difference of 2,000,000 quanta
 pub groups-held :
     map (registerWord (after (reply (after freshModel setUp) (command 8 [] []) .model) overGroups)) (0xE4 ∷ 0xE5 ∷ 0xE6 ∷ [])
     ≡ 1 ∷ 0x001E ∷ 0x8480 ∷ []
-unfolding startReported named stretchReport lastTick scheduleTicked reportOf registerWord flightWord temperatureWord half settle goodFlight goodSum goodDifference flightGood temperatureGood temperatureFailed goodSums six four average sixTotal filled portPairs portPair plusEach wordOrZero biased differenceWord differenceMean portMean anyLate anyOpen portFault anyFault anyFrom anyBelow anyWord shortBelow lateFrom openFrom hitCount timeout portCycle flightMiscounted sameCount differencePeriod temperaturePeriod ticked begins leftAfter waitAfter startedAfter log onlyReads isRefusal isReading acceptedAnswer startedEvent eventFlight flightEvent eventStart differenceCount eventTemperature temperatureEvent temperatureCount tickModel clockTicked tickClock flightAfter fails tickSchedule settledAfter temperatureAfter after reply replyBy verdict firstOf table noFrame notCarried wrongLength pastRegisters shortOutput whileBusy supplyOff unreachable unerased badCalendar notInitialised badSetup notAwaited miscounted tooLong acceptedModel freshModel freshWith porBit noFlight noTemperature noSchedule start factory sound sumFits flightSound temperatureSound scheduleSound clockValid dateFits timeFits leap monthLength kindBusy busy awaits inEvent isCommand isWrite isFlash isRead notWhole pastEnd wordAt calendarWord word30 word31 hourDigits word32 word33 bcd hundredthsOf minuteIn twelveIn hourNamed hourIn ticksIn clockFrom timeDigits hourFits digitsFit wordsValid alarmValid alarmWord covers written withWord setupAfter ticksAfter clockAfter writeInvalid writeModel mustBeIdle startsFlight startsTemperature isEvent commandBusy notReady flightSideUnset temperatureSideUnset eventSideUnset commandUnset flightUnset temperatureUnset eventContinuous startsLeft beginsGroup goodAfter countsSound waitSound balanceSound sumAfter sumsAfter flightTicked clockStands runModel initialised joined isTick stretchIn spanOf lostFlight lostDifference flightFailed
+unfolding startReported named stretchReport lastTick scheduleTicked reportOf registerWord flightWord temperatureWord half settle goodFlight goodSum goodDifference goodFlightModel goodTemperatureModel failedTemperatureModel goodSums sixWords fourWords average sixTotal filled portPairs portPair plusEach wordOrZero biased differenceWord differenceMean portMean anyLate anyOpen portFault anyFault anyFrom anyBelow anyWord shortBelow lateFrom openFrom hitCount timeout portCycle flightMiscounted sameCount differencePeriod temperaturePeriod modelTicked begins leftAfter waitAfter startedAfter log onlyReads isRefusal mayFollow acceptedAnswer startedEvent eventFlight flightEvent startEvent differenceCount eventTemperature temperatureEvent temperatureCount tickModel clockTicked tickClock flightAfter fails tickSchedule settledAfter temperatureAfter after reply replyBy verdict firstOf table noFrame notCarried wrongLength pastRegisters shortOutput whileBusy supplyOff unreachable unerased badCalendar notInitialised badSetup notAwaited miscounted tooLong acceptedModel freshModel freshWith porBit noFlight noTemperature noSchedule start factory isSound sumFits flightSound temperatureSound scheduleSound clockValid dateFits timeFits leap monthLength kindBusy isBusy isAwaited inEvent isCommand isWrite isFlash isRead notWhole pastEnd wordAt calendarWord word30 word31 hourDigits word32 word33 bcd hundredthsOf minuteIn twelveIn hourNamed hourIn ticksIn clockFrom timeDigits hourFits digitsFit wordsValid alarmValid alarmWord covers written withWord setupAfter ticksAfter clockAfter writeInvalid writeModel mustBeIdle startsFlight startsTemperature isEvent commandBusy beforeInitialize flightSideUnset temperatureSideUnset eventSideUnset commandUnset flightUnset temperatureUnset eventContinuous startsLeft beginsGroup goodAfter countsSound waitSound balanceSound sumAfter sumsAfter flightTicked clockStands runModel initialisedModel joined isTick stretchIn spanOf failedFlight failedDifference failedFlightModel
 groups-held = refl

@@ -17,7 +17,7 @@ use Rattle.calendar.proofs.Places.{words-back, hundredths-held, own-words}
 use Rattle.setup.specs.Setup.{alarmWord}
 use Rattle.frame.specs.Frame.{wordAt}
 use Rattle.device.specs.declared.Model.{Model}
-use Rattle.device.specs.Model.{sound}
+use Rattle.device.specs.Model.{isSound}
 use Rattle.device.specs.Registers.{calendarWord, registerWord}
 use Rattle.device.specs.Write.{covers, written, setupAfter, ticksAfter, clockAfter, writeInvalid, writeModel}
 use Rattle.device.proofs.Sound.{bounds-of}
@@ -108,7 +108,7 @@ alarm-after bytes op n m w35 l q =
     setup-means bytes op (m .setup) n 0x35 l (omega arith) (omega arith) ∙ after-one bytes op n m 0x35 w35 q
 
 module _
-    (bytes : List ℕ) (op n : ℕ) (m : Model) (s : sound m ≡ true)
+    (bytes : List ℕ) (op n : ℕ) (m : Model) (s : isSound m ≡ true)
     (w30 w31 w32 w33 : ℕ) (r : CalendarAfter bytes op n m w30 w31 w32 w33) where
   -- the ticks after the write give the hundredths of 30h after it
   hundredths-after : hundredthsOf (ticksAfter bytes op n m) ≡ hundredthsIn w30
@@ -180,7 +180,7 @@ module _
       (b .seconds, b .time, b .date, b .year))
 
 -- A register that an accepted write leaves out reads as before.
-module _ (bytes : List ℕ) (op n : ℕ) (m : Model) (s : sound m ≡ true) (e : writeInvalid bytes op n m ≡ false) where
+module _ (bytes : List ℕ) (op n : ℕ) (m : Model) (s : isSound m ≡ true) (e : writeInvalid bytes op n m ≡ false) where
   pub left-out-reads :
       let left : Model = writeModel bytes op n m in
       (LeftOut op n 0x30 → registerWord left 0xB0 ≡ registerWord m 0xB0) ×

@@ -9,13 +9,13 @@ use Rattle.calendar.specs.Calendar.{tickClock}
 use Rattle.calendar.specs.Words.{hundredthsOf, wordsValid}
 use Rattle.setup.specs.Setup.{factory, hitCount}
 use Rattle.hit.specs.Limit.{lateFrom, openFrom, anyFrom}
-use Rattle.hit.specs.Words.{six}
+use Rattle.hit.specs.Words.{sixWords}
 use Rattle.device.specs.declared.Schedule.{Schedule}
 use Rattle.device.specs.declared.Model.{Model}
-use Rattle.device.specs.Event.{ticks, noSchedule, single, awaits, begins, fails, tickSchedule}
+use Rattle.device.specs.Event.{ticks, noSchedule, startSingle, isAwaited, begins, fails, tickSchedule}
 use Rattle.device.specs.Model.{freshModel}
 use Rattle.device.specs.Registers.{registerWord}
-use Rattle.device.specs.Delivery.{flightGood}
+use Rattle.device.specs.Delivery.{goodFlightModel}
 use Rattle.device.specs.Bus.{startsFlight, startedEvent, singleStarted}
 
 pub record Example : Type 0 where
@@ -34,7 +34,7 @@ setUp i w =
       clock = freshModel .clock;
       setup = set factory i w;
       status = freshModel .status;
-      ready = freshModel .ready;
+      initialised = freshModel .initialised;
       regulator = freshModel .regulator;
       flight = freshModel .flight;
       temperature = freshModel .temperature;
@@ -42,24 +42,24 @@ setUp i w =
 
 -- a good delivery of one word up and one down
 abbrev delivered : Model → ℕ → ℕ → Model
-delivered m up down = flightGood m 1 (six (up ∷ [])) (six (down ∷ []))
+delivered m up down = goodFlightModel m 1 (sixWords (up ∷ [])) (sixWords (down ∷ []))
 
 -- the words of a register pair
 abbrev pair : Model → ℕ → List ℕ
 pair m int = registerWord m int ∷ registerWord m (int + 1) ∷ []
 
 -- the date, the time and s
-abbrev shown : Clock → List ℕ
-shown c = c .year ∷ c .month ∷ c .date ∷ c .hour ∷ c .minute ∷ c .second ∷ c .ticks .0 ∷ []
+abbrev setsOwnBit : Clock → List ℕ
+setsOwnBit c = c .year ∷ c .month ∷ c .date ∷ c .hour ∷ c .minute ∷ c .second ∷ c .ticks .0 ∷ []
 
 -- February 29 of a year, whose two digits are the low byte of 33h
 abbrev leapDay : ℕ → ℕ
 leapDay year = flag (wordsValid 0 0 0x0129 (0x0200 + year) (ticks 0))
 
 -- a schedule after n ticks, and the ticks of n, t gone before, in which it starts a measurement
-unfoldable pub ticked : ℕ → Schedule → Schedule
-ticked zero k = k
-ticked (suc n) k = ticked n (tickSchedule k)
+unfoldable pub modelTicked : ℕ → Schedule → Schedule
+modelTicked zero k = k
+modelTicked (suc n) k = modelTicked n (tickSchedule k)
 
 unfoldable pub startTicks : ℕ → ℕ → List ℕ → Schedule → List ℕ
 startTicks zero t found k = found
@@ -121,7 +121,7 @@ bench =
     record {
       number = 7;
       given =
-          shown
+          setsOwnBit
           (tickClock
           (record {
             year = 99;
@@ -152,10 +152,10 @@ bench =
     record {
       number = 10;
       given =
-          flag (awaits (ticked 8191 (single noSchedule))) ∷
-          flag (fails (ticked 8190 (single noSchedule))) ∷
-          flag (fails (ticked 8191 (single noSchedule))) ∷
-          flag (awaits (ticked 8192 (single noSchedule))) ∷
+          flag (isAwaited (modelTicked 8191 (startSingle noSchedule))) ∷
+          flag (fails (modelTicked 8190 (startSingle noSchedule))) ∷
+          flag (fails (modelTicked 8191 (startSingle noSchedule))) ∷
+          flag (isAwaited (modelTicked 8192 (startSingle noSchedule))) ∷
           [];
       wanted = 1 ∷ 0 ∷ 1 ∷ 0 ∷ [];
     } ∷

@@ -8,9 +8,9 @@ use Rattle.setup.specs.Setup.{flightUnset, temperatureUnset, clockStands, event
 use Rattle.device.specs.declared.Flight.{Flight}
 use Rattle.device.specs.declared.Temperature.{Temperature}
 use Rattle.device.specs.declared.Model.{Model}
-use Rattle.device.specs.Event.{single, eventStart, halted}
+use Rattle.device.specs.Event.{startSingle, startEvent, haltSchedule}
 use Rattle.device.specs.Status.{joined, initBit, haltBit, ldoBit, withoutLdo, noBits}
-use Rattle.device.specs.Model.{busy, resetModel, withFlight, withTemperature, withStatus, withRegulator}
+use Rattle.device.specs.Model.{isBusy, resetModel, withFlight, withTemperature, withStatus, withRegulator}
 
 -- "a command but HALT and Reset"
 unfoldable pub mustBeIdle : ℕ → Bool
@@ -29,11 +29,11 @@ isEvent op = pick (ltb op 7) false (pick (ltb 9 op) false true)
 
 -- Number 6, busy: "a command but HALT and Reset, while a measurement is awaited or an event runs"
 unfoldable pub commandBusy : Model → ℕ → Bool
-commandBusy m op = pick (mustBeIdle op) (busy m) false
+commandBusy m op = pick (mustBeIdle op) (isBusy m) false
 
 -- Number 8, not initialised: "00h to 03h, 07h to 09h before Initialize"
-unfoldable pub notReady : Model → ℕ → Bool
-notReady m op = pick (m .ready) false (pick (startsFlight op) true (startsTemperature op))
+unfoldable pub beforeInitialize : Model → ℕ → Bool
+beforeInitialize m op = pick (m .initialised) false (pick (startsFlight op) true (startsTemperature op))
 
 -- "Number 9: for flight, PL .. or DPL .. zero; for temperature, TP .. not 11b." "Number 9 also: .. EOSC is 1; only the kinds run are
 -- judged for PL, DPL and TP." "Number 9 no longer occurs for ET_CONT." (Note 5)
@@ -54,7 +54,7 @@ commandUnset m op =
 unfoldable pub flightStarted : Flight → ℕ → Flight
 flightStarted f op =
     record {
-      schedule = single (f .schedule);
+      schedule = startSingle (f .schedule);
       up = negate (eqb op 1);
       down = negate (eqb op 0);
       sum = f .sum;
@@ -67,7 +67,7 @@ flightStarted f op =
 unfoldable pub flightEvent : Flight → List ℕ → Flight
 flightEvent f setup =
     record {
-      schedule = eventStart (differencePeriod setup) (differenceCount setup) (eventContinuous setup);
+      schedule = startEvent (differencePeriod setup) (differenceCount setup) (eventContinuous setup);
       up = true;
       down = true;
       sum = 0;
@@ -79,7 +79,7 @@ flightEvent f setup =
 unfoldable pub temperatureEvent : Temperature → List ℕ → Temperature
 temperatureEvent t setup =
     record {
-      schedule = eventStart (temperaturePeriod setup) (temperatureCount setup) (eventContinuous setup);
+      schedule = startEvent (temperaturePeriod setup) (temperatureCount setup) (eventContinuous setup);
       sums = 0 ∷ 0 ∷ 0 ∷ 0 ∷ [];
       ports = t .ports;
     }
@@ -97,20 +97,20 @@ startedEvent m op =
       clock = m .clock;
       setup = m .setup;
       status = m .status;
-      ready = m .ready;
+      initialised = m .initialised;
       regulator = m .regulator;
       flight = eventFlight m op;
       temperature = eventTemperature m op;
     }
 
 -- "05h Initialize makes the model initialised, until a Reset, and sets INIT."
-unfoldable pub initialised : Model → Model
-initialised m =
+unfoldable pub initialisedModel : Model → Model
+initialisedModel m =
     record {
       clock = m .clock;
       setup = m .setup;
       status = joined (m .status) initBit;
-      ready = true;
+      initialised = true;
       regulator = m .regulator;
       flight = m .flight;
       temperature = m .temperature;
@@ -123,11 +123,11 @@ haltedModel m =
       clock = m .clock;
       setup = m .setup;
       status = joined (m .status) haltBit;
-      ready = m .ready;
+      initialised = m .initialised;
       regulator = m .regulator;
       flight =
           record {
-            schedule = halted (m .flight .schedule);
+            schedule = haltSchedule (m .flight .schedule);
             up = m .flight .up;
             down = m .flight .down;
             sum = m .flight .sum;
@@ -137,7 +137,7 @@ haltedModel m =
           };
       temperature =
           record {
-            schedule = halted (m .temperature .schedule);
+            schedule = haltSchedule (m .temperature .schedule);
             sums = m .temperature .sums;
             ports = m .temperature .ports;
           };
@@ -148,7 +148,7 @@ singleStarted m op =
     pick (eqb op 3)
     (withTemperature m
     (record {
-      schedule = single (m .temperature .schedule);
+      schedule = startSingle (m .temperature .schedule);
       sums = m .temperature .sums;
       ports = m .temperature .ports;
     }))
@@ -164,7 +164,7 @@ unsupplied m = withRegulator (withStatus m (withoutLdo (m .status))) false
 unfoldable pub runModel : Model → ℕ → Model
 runModel m op =
     pick (eqb op 4) resetModel
-    (pick (eqb op 5) (initialised m)
+    (pick (eqb op 5) (initialisedModel m)
     (pick (eqb op 10) (haltedModel m)
     (pick (eqb op 12) (supplied m)
     (pick (eqb op 13) (unsupplied m) (pick (isEvent op) (startedEvent m op) (singleStarted m op))))))

@@ -14,7 +14,7 @@ use Rattle.device.specs.declared.Temperature.{Temperature}
 use Rattle.device.specs.declared.Model.{Model}
 use Rattle.device.specs.Event.{settle}
 use Rattle.device.specs.Status.{joined, flightBits, temperatureBits}
-use Rattle.device.specs.Tick.{lostFlight}
+use Rattle.device.specs.Tick.{failedFlight}
 
 -- "an up list and a down list, each of H words ..; the unmeasured direction's list is empty"
 unfoldable pub sameCount : Bool → ℕ → ℕ → Bool
@@ -50,27 +50,27 @@ unfoldable pub flightStatus : Model → Bool → Status
 flightStatus m failed =
     joined (m .status) (flightBits (m .flight .schedule) (eachInterrupt (m .setup)) true failed)
 
-unfoldable pub flightGood : Model → ℕ → List ℕ → List ℕ → Model
-flightGood m hits ups downs =
+unfoldable pub goodFlightModel : Model → ℕ → List ℕ → List ℕ → Model
+goodFlightModel m hits ups downs =
     record {
       clock = m .clock;
       setup = m .setup;
       status = flightStatus m false;
-      ready = m .ready;
+      initialised = m .initialised;
       regulator = m .regulator;
       flight = goodFlight (m .flight) hits ups downs;
       temperature = m .temperature;
     }
 
-unfoldable pub flightFailed : Model → Model
-flightFailed m =
+unfoldable pub failedFlightModel : Model → Model
+failedFlightModel m =
     record {
       clock = m .clock;
       setup = m .setup;
       status = flightStatus m true;
-      ready = m .ready;
+      initialised = m .initialised;
       regulator = m .regulator;
-      flight = lostFlight (m .flight) (settle (m .flight .schedule) false);
+      flight = failedFlight (m .flight) (settle (m .flight .schedule) false);
       temperature = m .temperature;
     }
 
@@ -81,13 +81,13 @@ unfoldable pub temperatureStatus : Model → Bool → Status
 temperatureStatus m opened =
     joined (m .status) (temperatureBits (m .temperature .schedule) (eachInterrupt (m .setup)) true opened)
 
-unfoldable pub temperatureGood : Model → List ℕ → Model
-temperatureGood m w =
+unfoldable pub goodTemperatureModel : Model → List ℕ → Model
+goodTemperatureModel m w =
     record {
       clock = m .clock;
       setup = m .setup;
       status = temperatureStatus m false;
-      ready = m .ready;
+      initialised = m .initialised;
       regulator = m .regulator;
       flight = m .flight;
       temperature = record { schedule = settle (m .temperature .schedule) true; sums = goodSums (m .temperature) w; ports = w };
@@ -95,13 +95,13 @@ temperatureGood m w =
 
 -- "An open port reads FFFFh FFFFh, the others their words; any open fails the measurement and sets TO." A short one fails it
 -- too (Note 3), and "does not set TO; an open port in the same delivery still does": `opened` says whether there is one.
-unfoldable pub temperatureFailed : Model → Quanta → Bool → List ℕ → Model
-temperatureFailed m limit opened w =
+unfoldable pub failedTemperatureModel : Model → Quanta → Bool → List ℕ → Model
+failedTemperatureModel m limit opened w =
     record {
       clock = m .clock;
       setup = m .setup;
       status = temperatureStatus m opened;
-      ready = m .ready;
+      initialised = m .initialised;
       regulator = m .regulator;
       flight = m .flight;
       temperature =

@@ -23,8 +23,8 @@ noSchedule =
     }
 
 -- "A kind is awaited from its start until an accepted delivery, the tick that fails it, HALT or Reset."
-unfoldable pub awaits : Schedule → Bool
-awaits k = pick (ltb 0 (k .left .0)) true false
+unfoldable pub isAwaited : Schedule → Bool
+isAwaited k = pick (ltb 0 (k .left .0)) true false
 
 -- "The event ends when all are settled." A continuous one "ends only by HALT or Reset" (Note 5).
 unfoldable pub inEvent : Schedule → Bool
@@ -32,8 +32,8 @@ inEvent k = pick (k .continuous) true (pick (ltb (k .settled) (k .planned)) true
 
 -- "Settling the N-th sets TOF_EVTMG or TEMP_EVTMG.", of a continuous event the N-th of each group: "its N-th settling sets the
 -- EVTMG bit" (Note 5)
-unfoldable pub lastOne : Schedule → Bool
-lastOne k =
+unfoldable pub isLast : Schedule → Bool
+isLast k =
     pick (ltb (k .settled) (k .planned)) (pick (eqb (k .settled + 1) (k .planned)) true false) false
 
 -- Whether a start is to come: of an event while fewer than N are started; of a continuous one always, "Starts go on at j × P for
@@ -54,8 +54,8 @@ unfoldable pub fails : Schedule → Bool
 fails k = pick (eqb (k .left .0) 1) true false
 
 -- A single measurement starts.
-unfoldable pub single : Schedule → Schedule
-single k =
+unfoldable pub startSingle : Schedule → Schedule
+startSingle k =
     record {
       left = ticks 8192;
       wait = k .wait;
@@ -68,8 +68,8 @@ single k =
     }
 
 -- "Elapsed ticks count from acceptance at 0." "The start at 0 is reported by the command's answer"
-unfoldable pub eventStart : Ticks → ℕ → Bool → Schedule
-eventStart period planned continuous =
+unfoldable pub startEvent : Ticks → ℕ → Bool → Schedule
+startEvent period planned continuous =
     record {
       left = ticks 8192;
       wait = period;
@@ -142,8 +142,8 @@ settle k good =
     })
 
 -- "HALT drops awaited measurements, ends the event": what was to start or to settle no longer is.
-unfoldable pub halted : Schedule → Schedule
-halted k =
+unfoldable pub haltSchedule : Schedule → Schedule
+haltSchedule k =
     record {
       left = ticks 0;
       wait = k .wait;

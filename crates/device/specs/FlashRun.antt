@@ -12,8 +12,9 @@ use Rattle.flash.specs.Operation.{Operation, write, erase, lastWord}
 use Rattle.device.specs.declared.Model.{Model}
 use Rattle.device.specs.Model.{freshModel}
 use Rattle.device.specs.FlashFrame.{flashAddress, flashData}
-use Rattle.device.specs.Call.{Call, transaction, tick, flight, temperature, stretch, opcode, bySort, reply, memory}
-use Rattle.device.specs.Claim.{isRefusal}
+use Rattle.device.specs.Call.{Call, transaction, tick, flight, temperature, stretch, opcode, bySort}
+use Rattle.device.specs.Reply.{reply, memory}
+use Rattle.device.specs.History.{isRefusal}
 
 -- The same call, lent the memory x.
 unfoldable pub lent : List ℕ → Call → Call

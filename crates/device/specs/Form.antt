@@ -11,7 +11,7 @@ use Rattle.frame.specs.Frame.{wordAt}
 use Rattle.device.specs.Model.{freshModel}
 use Rattle.device.specs.Write.{covers}
 use Rattle.device.specs.Call.{Call, transaction, tick, flight, temperature, stretch, opcode, words, bySort}
-use Rattle.device.specs.Claim.{Entry, isRefusal, after, log}
+use Rattle.device.specs.History.{Entry, isRefusal, after, log}
 
 -- 12-hour form or not, after an accepted call, by what it was: Reset gives a fresh clock, which has 24-hour form; a write of
 -- 31h gives the form of its word

@@ -6,21 +6,21 @@ use lib.Dec.{eqb}
 use Rattle.unit.specs.Choice.{pick}
 use Rattle.device.specs.Model.{freshModel}
 use Rattle.device.specs.Call.{Call, transaction, tick, flight, temperature, stretch, opcode}
-use Rattle.device.specs.Claim.{Entry, isRefusal, after, log}
+use Rattle.device.specs.History.{Entry, isRefusal, after, log}
 
 -- after an accepted call, by its first byte: 04h Reset, 05h Initialize, or any other, which changes nothing
 unfoldable pub readyGiven : Call → Bool → Bool
-readyGiven (transaction f o x) ready = pick (eqb (opcode f) 0x04) false (pick (eqb (opcode f) 0x05) true ready)
-readyGiven tick ready = ready
-readyGiven (flight u d) ready = ready
-readyGiven (temperature w) ready = ready
-readyGiven (stretch n) ready = ready
+readyGiven (transaction f o x) initialised = pick (eqb (opcode f) 0x04) false (pick (eqb (opcode f) 0x05) true initialised)
+readyGiven tick initialised = initialised
+readyGiven (flight u d) initialised = initialised
+readyGiven (temperature w) initialised = initialised
+readyGiven (stretch n) initialised = initialised
 
 -- what the last accepted 04h or 05h says: a refused call says nothing
 unfoldable pub lastReady : List Entry → Bool → Bool
-lastReady [] ready = ready
-lastReady (e ∷ es) ready = lastReady es (pick (isRefusal (e .answer)) ready (readyGiven (e .call) ready))
+lastReady [] initialised = initialised
+lastReady (e ∷ es) initialised = lastReady es (pick (isRefusal (e .answer)) initialised (readyGiven (e .call) initialised))
 
 -- On a model that grew from a fresh one by any list of calls, refused ones among them; a fresh one is not initialised.
 abbrev pub InitialisedClaim : Type 0
-InitialisedClaim = (cs : List Call) → (after freshModel cs) .ready ≡ lastReady (log freshModel cs) false
+InitialisedClaim = (cs : List Call) → (after freshModel cs) .initialised ≡ lastReady (log freshModel cs) false

@@ -5,10 +5,15 @@ pub mod Registers
 pub mod Write
 pub mod Tick
 pub mod Stretch
+pub mod StretchSteps
 pub mod Delivery
 pub mod Bus
 pub mod FlashFrame
 pub mod Call
+pub mod Reply
+pub mod Question
+pub mod Parts
+pub mod History
 pub mod Claim
 pub mod FlashRun
 pub mod Supply

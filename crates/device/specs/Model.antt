@@ -13,7 +13,7 @@ use Rattle.device.specs.declared.Status.{Status}
 use Rattle.device.specs.declared.Flight.{Flight}
 use Rattle.device.specs.declared.Temperature.{Temperature}
 use Rattle.device.specs.declared.Model.{Model}
-use Rattle.device.specs.Event.{noSchedule, scheduleSound, awaits, inEvent}
+use Rattle.device.specs.Event.{noSchedule, scheduleSound, isAwaited, inEvent}
 use Rattle.device.specs.Status.{porBit, noBits}
 
 -- Setters: the model with one part anew.
@@ -23,7 +23,7 @@ withStatus m s =
       clock = m .clock;
       setup = m .setup;
       status = s;
-      ready = m .ready;
+      initialised = m .initialised;
       regulator = m .regulator;
       flight = m .flight;
       temperature = m .temperature;
@@ -35,7 +35,7 @@ withFlight m f =
       clock = m .clock;
       setup = m .setup;
       status = m .status;
-      ready = m .ready;
+      initialised = m .initialised;
       regulator = m .regulator;
       flight = f;
       temperature = m .temperature;
@@ -47,7 +47,7 @@ withTemperature m t =
       clock = m .clock;
       setup = m .setup;
       status = m .status;
-      ready = m .ready;
+      initialised = m .initialised;
       regulator = m .regulator;
       flight = m .flight;
       temperature = t;
@@ -59,7 +59,7 @@ withRegulator m on =
       clock = m .clock;
       setup = m .setup;
       status = m .status;
-      ready = m .ready;
+      initialised = m .initialised;
       regulator = on;
       flight = m .flight;
       temperature = m .temperature;
@@ -90,7 +90,7 @@ freshWith s =
       clock = start;
       setup = factory;
       status = s;
-      ready = false;
+      initialised = false;
       regulator = false;
       flight = noFlight;
       temperature = noTemperature;
@@ -125,13 +125,13 @@ temperatureSound t =
     false)
     false
 
-unfoldable pub sound : Model → Bool
-sound m =
+unfoldable pub isSound : Model → Bool
+isSound m =
     pick (clockValid (m .clock)) (pick (flightSound (m .flight)) (temperatureSound (m .temperature)) false) false
 
 -- "while a measurement is awaited or an event runs"
 unfoldable pub kindBusy : Schedule → Bool
-kindBusy k = pick (awaits k) true (inEvent k)
+kindBusy k = pick (isAwaited k) true (inEvent k)
 
-unfoldable pub busy : Model → Bool
-busy m = pick (kindBusy (m .flight .schedule)) true (kindBusy (m .temperature .schedule))
+unfoldable pub isBusy : Model → Bool
+isBusy m = pick (kindBusy (m .flight .schedule)) true (kindBusy (m .temperature .schedule))

@@ -7,8 +7,9 @@ use lib.ListN.{length}
 use Rattle.device.specs.declared.Model.{Model}
 use Rattle.device.specs.declared.Reply.{Reply}
 use Rattle.device.specs.Registers.{registerWord, upwards}
-use Rattle.device.specs.Call.{Call, transaction, temperature, reply}
-use Rattle.device.specs.Claim.{differences, startReported, named}
+use Rattle.device.specs.Call.{Call, transaction, temperature}
+use Rattle.device.specs.Reply.{reply}
+use Rattle.device.specs.History.{differences, startReported, named}
 
 -- Calls "that differ only in the values of delivered temperature words": as many words, of any values.
 pub data OtherProbes : Call → Call → Type 0 where

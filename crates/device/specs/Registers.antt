@@ -54,9 +54,9 @@ registerWord m a =
 abbrev pub putWord : List ℕ → ℕ → ℕ → List ℕ
 putWord out i w = set (set out (2 * i) (w / 256 % 256)) (2 * i + 1) (w % 256)
 
-unfoldable pub fill : Model → ℕ → List ℕ → ℕ → List ℕ
-fill m a out zero = out
-fill m a out (suc n) = putWord (fill m a out n) n (registerWord m (a + n))
+unfoldable pub fillWords : Model → ℕ → List ℕ → ℕ → List ℕ
+fillWords m a out zero = out
+fillWords m a out (suc n) = putWord (fillWords m a out n) n (registerWord m (a + n))
 
 -- the n addresses from a on
 abbrev pub upwards : ℕ → ℕ → List ℕ

@@ -5,7 +5,7 @@ use mathlib.Core.Bool.{Bool, true, false}
 use Rattle.unit.specs.Choice.{pick, either}
 use Rattle.device.specs.declared.Schedule.{Schedule}
 use Rattle.device.specs.declared.Status.{Status}
-use Rattle.device.specs.Event.{inEvent, lastOne}
+use Rattle.device.specs.Event.{inEvent, isLast}
 
 unfoldable pub noBits : Status
 noBits =
@@ -52,8 +52,8 @@ statusWord s =
     pick (s .por) 0x0004 0
 
 -- "A single one sets TOF or TE when delivered or failed." "With CONT_INT .. each settled one sets TOF or TE."
-unfoldable pub shown : Schedule → Bool → Bool
-shown k each = pick (inEvent k) each true
+unfoldable pub setsOwnBit : Schedule → Bool → Bool
+setsOwnBit k each = pick (inEvent k) each true
 
 -- What settling a flight measurement sets: "A word late: the measurement fails, .. TO is set"; "Settling the N-th sets
 -- TOF_EVTMG or TEMP_EVTMG."
@@ -63,10 +63,10 @@ flightBits k each settles failed =
     (record {
       timeout = failed;
       alarm = false;
-      tof = shown k each;
+      tof = setsOwnBit k each;
       te = false;
       ldo = false;
-      tofevtmg = lastOne k;
+      tofevtmg = isLast k;
       tempevtmg = false;
       flash = false;
       halt = false;
@@ -83,10 +83,10 @@ temperatureBits k each settles opened =
       timeout = opened;
       alarm = false;
       tof = false;
-      te = shown k each;
+      te = setsOwnBit k each;
       ldo = false;
       tofevtmg = false;
-      tempevtmg = lastOne k;
+      tempevtmg = isLast k;
       flash = false;
       halt = false;
       init = false;

@@ -7,7 +7,7 @@ use lib.Dec.{eqb}
 use Rattle.unit.specs.Choice.{pick}
 use Rattle.device.specs.Model.{freshModel}
 use Rattle.device.specs.Call.{Call, transaction, tick, flight, temperature, stretch, opcode, bySort}
-use Rattle.device.specs.Claim.{Entry, isRefusal, after, log}
+use Rattle.device.specs.History.{Entry, isRefusal, after, log}
 
 unfoldable pub supplyGiven : Call → Bool → Bool
 supplyGiven (transaction f o x) on =

@@ -7,7 +7,7 @@ use Rattle.calendar.specs.declared.Clock.{Clock}
 use Rattle.calendar.specs.Calendar.{tickClock}
 use Rattle.calendar.specs.Alarm.{alarmRings}
 use Rattle.setup.specs.Setup.{clockStands, alarmWord, alarmMode, eachInterrupt}
-use Rattle.hit.specs.Words.{lost, lostFour}
+use Rattle.hit.specs.Words.{failedPairs, failedPorts}
 use Rattle.device.specs.declared.Schedule.{Schedule}
 use Rattle.device.specs.declared.Status.{Status}
 use Rattle.device.specs.declared.Flight.{Flight}
@@ -18,19 +18,19 @@ use Rattle.device.specs.Event.{begins, beginsGroup, fails, tickSchedule}
 use Rattle.device.specs.Status.{joined, flightBits, temperatureBits, alarmBit}
 
 -- "the measurement fails, every HIT and AVG of the measured directions and, for a difference, TOF_DIFF become FFFFh"
-unfoldable pub lostDifference : Flight → ℕ
-lostDifference f = pick (f .up) (pick (f .down) 0xFFFFFFFF (f .difference)) (f .difference)
+unfoldable pub failedDifference : Flight → ℕ
+failedDifference f = pick (f .up) (pick (f .down) 0xFFFFFFFF (f .difference)) (f .difference)
 
-unfoldable pub lostFlight : Flight → Schedule → Flight
-lostFlight f k =
+unfoldable pub failedFlight : Flight → Schedule → Flight
+failedFlight f k =
     record {
       schedule = k;
       up = f .up;
       down = f .down;
       sum = f .sum;
-      ups = pick (f .up) lost (f .ups);
-      downs = pick (f .down) lost (f .downs);
-      difference = lostDifference f;
+      ups = pick (f .up) failedPairs (f .ups);
+      downs = pick (f .down) failedPairs (f .downs);
+      difference = failedDifference f;
     }
 
 -- "at the first start of a group that kind's sums, count and averages go to 0" (Note 5)
@@ -55,26 +55,26 @@ flightTicked f =
 -- "A measurement undelivered 8,192 ticks after its start fails in that tick, as if all its words were late or open."
 unfoldable pub flightAfter : Flight → Flight
 flightAfter f =
-    pick (fails (f .schedule)) (lostFlight (flightTicked f) (tickSchedule (f .schedule))) (flightTicked f)
+    pick (fails (f .schedule)) (failedFlight (flightTicked f) (tickSchedule (f .schedule))) (flightTicked f)
 
 unfoldable pub temperatureAfter : Temperature → Temperature
 temperatureAfter t =
     pick (fails (t .schedule))
-    (record { schedule = tickSchedule (t .schedule); sums = sumsAfter t; ports = lostFour })
+    (record { schedule = tickSchedule (t .schedule); sums = sumsAfter t; ports = failedPorts })
     (record { schedule = tickSchedule (t .schedule); sums = sumsAfter t; ports = t .ports })
 
 -- "The clock stands while EOSC .. is 1."
 unfoldable pub clockTicked : Model → Clock
 clockTicked m = pick (clockStands (m .setup)) (m .clock) (tickClock (m .clock))
 
-unfoldable pub alarmRaised : Model → Clock → Bool
-alarmRaised m after = alarmRings (m .clock) after (alarmWord (m .setup)) (alarmMode (m .setup))
+unfoldable pub tickRings : Model → Clock → Bool
+tickRings m after = alarmRings (m .clock) after (alarmWord (m .setup)) (alarmMode (m .setup))
 
 unfoldable pub tickStatus : Model → Clock → Status
 tickStatus m after =
     joined
     (joined
-    (joined (m .status) (alarmBit (alarmRaised m after)))
+    (joined (m .status) (alarmBit (tickRings m after)))
     (flightBits (m .flight .schedule) (eachInterrupt (m .setup)) (fails (m .flight .schedule))
     (fails (m .flight .schedule))))
     (temperatureBits (m .temperature .schedule) (eachInterrupt (m .setup)) (fails (m .temperature .schedule))
@@ -86,7 +86,7 @@ tickModel m =
       clock = clockTicked m;
       setup = m .setup;
       status = tickStatus m (clockTicked m);
-      ready = m .ready;
+      initialised = m .initialised;
       regulator = m .regulator;
       flight = flightAfter (m .flight);
       temperature = temperatureAfter (m .temperature);

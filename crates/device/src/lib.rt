@@ -61,7 +61,7 @@ pub struct Model {
     // Registers 34h to 43h.
     pub setup: [u16; 16],
     pub status: Status,
-    pub ready: bool,
+    pub initialised: bool,
     // Whether the regulator that supplies the user flash is on.
     pub regulator: bool,
     pub flight: Flight,

@@ -4,7 +4,7 @@ ghost use mathlib.Core.Bool.{true};
 ghost use Prim.Native.Nat.{_≤_};
 ghost use lib.ListN.{length};
 ghost use Rattle.device.specs.FlashFrame.{flashModel};
-ghost use Rattle.device.specs.Call.{eraseReply, eraseLeft, programReply, programLeft, loadReply, loadOut, flashReply, flashOut, flashLeft, flashFits};
+ghost use Rattle.device.specs.Parts.{eraseReply, eraseLeft, programReply, programLeft, loadReply, loadOut, flashReply, flashOut, flashLeft, flashFits};
 use device::Model;
 use device::Reply;
 use flash::address_refused;
@@ -14,18 +14,18 @@ use flash::not_erased;
 use flash::put_word;
 use flash::read_word;
 use flash::write_word;
-use model::reply::accepted;
-use model::reply::refused;
+use model::reply::accept;
+use model::reply::refuse;
 use model::state::is_busy;
 use status::flash_bit;
-use status::join;
+use status::joined;
 
 // The model after a write or an erase.
 fn changed(m: Model) -> Model
     ensures { λ r. ⌜ (r ≡ flashModel m 0x10) × (r ≡ flashModel m 0x13) ⌝ }
 {
     let old = m.status;
-    let status = join(old, flash_bit());
+    let status = joined(old, flash_bit());
     let mut next = m;
     next.status = status;
     next
@@ -36,50 +36,50 @@ fn erase(m: Model, b: &[u8], mem: &mut [u8]) -> Reply
     requires { ⌜ 2 ≤ length (now b) ⌝ }
     ensures { λ r. ⌜ (r ≡ eraseReply m (now (b .entry)) (now (mem .entry))) × (now (mem .exit) ≡ eraseLeft (now (b .entry)) (now (mem .entry))) ⌝ }
 {
-    let a = frame::word(b, 0);
+    let a = frame::word_at(b, 0);
     if erase_refused(mem.len(), a) {
-        return refused(m, 16);
+        return refuse(m, 16);
     }
     erase_block(mem, a as usize);
-    accepted(changed(m), false, false)
+    accept(changed(m), false, false)
 }
 
 fn program(m: Model, b: &[u8], mem: &mut [u8]) -> Reply
     requires { ⌜ 4 ≤ length (now b) ⌝ }
     ensures { λ r. ⌜ (r ≡ programReply m (now (b .entry)) (now (mem .entry))) × (now (mem .exit) ≡ programLeft (now (b .entry)) (now (mem .entry))) ⌝ }
 {
-    let a = frame::word(b, 0);
+    let a = frame::word_at(b, 0);
     if address_refused(mem.len(), a) {
-        return refused(m, 16);
+        return refuse(m, 16);
     }
     if not_erased(mem, a as usize) {
-        return refused(m, 17);
+        return refuse(m, 17);
     }
-    let w = frame::word(b, 1);
+    let w = frame::word_at(b, 1);
     write_word(mem, a as usize, w);
-    accepted(changed(m), false, false)
+    accept(changed(m), false, false)
 }
 
 fn load(m: Model, b: &[u8], out: &mut [u8], mem: &[u8]) -> Reply
     requires { ⌜ (2 ≤ length (now b)) × (2 ≤ length (now out)) ⌝ }
     ensures { λ r. ⌜ (r ≡ loadReply m (now (b .entry)) (now (mem .entry))) × (now (out .exit) ≡ loadOut (now (b .entry)) (now (out .entry)) (now (mem .entry))) ⌝ }
 {
-    let a = frame::word(b, 0);
+    let a = frame::word_at(b, 0);
     if address_refused(mem.len(), a) {
-        return refused(m, 16);
+        return refuse(m, 16);
     }
     let w = read_word(mem, a as usize);
     put_word(out, w);
-    accepted(m, false, false)
+    accept(m, false, false)
 }
 
 // A frame of the user flash whose length and output are right.
-pub fn flash_frame(m: Model, op: u32, b: &[u8], out: &mut [u8], mem: &mut [u8]) -> Reply
+pub fn flash_reply(m: Model, op: u32, b: &[u8], out: &mut [u8], mem: &mut [u8]) -> Reply
     requires { ⌜ flashFits op (length (now b)) (length (now out)) ≡ true ⌝ }
     ensures { λ r. ⌜ (r ≡ flashReply m op (now (b .entry)) (now (mem .entry))) × (now (out .exit) ≡ flashOut m op (now (b .entry)) (now (out .entry)) (now (mem .entry))) × (now (mem .exit) ≡ flashLeft m op (now (b .entry)) (now (mem .entry))) ⌝ }
 {
     if is_busy(m) {
-        return refused(m, 6);
+        return refuse(m, 6);
     }
     if m.regulator {
         if op == 0x13 {
@@ -90,5 +90,5 @@ pub fn flash_frame(m: Model, op: u32, b: &[u8], out: &mut [u8], mem: &mut [u8]) 
         }
         return load(m, b, out, mem);
     }
-    refused(m, 15)
+    refuse(m, 15)
 }

@@ -9,7 +9,8 @@ use lib.ListN.{getD}
 use lib.Dec.{ltb}
 use Rattle.unit.specs.Choice.{pick}
 use Rattle.unit.specs.Cases.{by-test, by-ltb, by-eqb, holds, fails, refuted}
-use Rattle.frame.specs.Frame.{isCommand, isWrite, isRead, isFlash, flashFurther, notWhole, pastEnd, writeFrame, readFrame, wordAt}
+use Rattle.frame.specs.Frame.{isCommand, isWrite, isRead, isFlash, flashFurther, notWhole, pastEnd, wordAt}
+use Rattle.frame.specs.Decoding.{writeFrame, readFrame}
 use Rattle.frame.specs.declared.Decoded.the-variants.{Read, Write}
 
 -- "commands 00h to 05h and 07h to 0Ah"; "LDO_ON (0Ch), LDO_OFF (0Dh)" (Note 8)

@@ -2,7 +2,8 @@
 ghost use mathlib.Core.Path.{_≡_};
 ghost use Prim.Native.Nat.{_+_, _*_, _<_};
 ghost use lib.ListN.{length};
-ghost use Rattle.frame.specs.Frame.{isCommand, isWrite, isRead, isFlash, flashFurther, notWhole, pastEnd, writeFrame, readFrame, flashFrame, decodeFrame, wordAt};
+ghost use Rattle.frame.specs.Frame.{isCommand, isWrite, isRead, isFlash, flashFurther, notWhole, pastEnd, wordAt};
+ghost use Rattle.frame.specs.Decoding.{writeFrame, readFrame, flashFrame, decodeFrame};
 
 // What the bytes ask for. A read or a write names its first register, as in the opcode, and how many words follow;
 // a frame of the user flash has its opcode. A refusal holds its number.
@@ -79,7 +80,7 @@ fn not_whole(further: usize) -> bool
 }
 
 // Whether so many words from a register on go past the register before the end.
-fn past(op: u32, words: usize, end: u32) -> bool
+fn past_end(op: u32, words: usize, end: u32) -> bool
     ensures { λ r. ⌜ r ≡ pastEnd op words end ⌝ }
 {
     if (end as usize) < words {
@@ -92,27 +93,27 @@ fn past(op: u32, words: usize, end: u32) -> bool
     }
 }
 
-fn decode_write(op: u32, further: usize) -> Decoded
+fn write_frame(op: u32, further: usize) -> Decoded
     ensures { λ r. ⌜ r ≡ writeFrame op further ⌝ }
 {
     if not_whole(further) {
         return Decoded::Refusal(3);
     }
     let words = further / 2;
-    if past(op, words, 0x44) {
+    if past_end(op, words, 0x44) {
         return Decoded::Refusal(4);
     }
     Decoded::Write(op, words)
 }
 
-fn decode_read(op: u32, further: usize, room: usize) -> Decoded
+fn read_frame(op: u32, further: usize, room: usize) -> Decoded
     ensures { λ r. ⌜ r ≡ readFrame op further room ⌝ }
 {
     if not_whole(further) {
         return Decoded::Refusal(3);
     }
     let words = further / 2;
-    if past(op, words, 0x100) {
+    if past_end(op, words, 0x100) {
         return Decoded::Refusal(4);
     }
     if room < 2 * words {
@@ -121,7 +122,7 @@ fn decode_read(op: u32, further: usize, room: usize) -> Decoded
     Decoded::Read(op, words)
 }
 
-fn decode_flash(op: u32, further: usize, room: usize) -> Decoded
+fn flash_frame(op: u32, further: usize, room: usize) -> Decoded
     ensures { λ r. ⌜ r ≡ flashFrame op further room ⌝ }
 {
     let wanted = flash_further(op);
@@ -138,7 +139,7 @@ fn decode_flash(op: u32, further: usize, room: usize) -> Decoded
 }
 
 // Decodes a transaction, given the room in the output buffer. A frame is judged by its first byte and its length alone.
-pub fn decode(frame: &[u8], room: usize) -> Decoded
+pub fn decode_frame(frame: &[u8], room: usize) -> Decoded
     ensures { λ r. ⌜ r ≡ decodeFrame (now (frame .entry)) room ⌝ }
 {
     if frame.len() == 0 {
@@ -153,19 +154,19 @@ pub fn decode(frame: &[u8], room: usize) -> Decoded
         return Decoded::Refusal(3);
     }
     if is_write(op) {
-        return decode_write(op, further);
+        return write_frame(op, further);
     }
     if is_flash(op) {
-        return decode_flash(op, further, room);
+        return flash_frame(op, further, room);
     }
     if is_read(op) {
-        return decode_read(op, further, room);
+        return read_frame(op, further, room);
     }
     Decoded::Refusal(2)
 }
 
 // The i-th word of some bytes, high byte first.
-pub fn word(bytes: &[u8], i: usize) -> u32
+pub fn word_at(bytes: &[u8], i: usize) -> u32
     requires { ⌜ 2 * i + 1 < length (now bytes) ⌝ }
     ensures { λ r. ⌜ (r ≡ wordAt (now (bytes .entry)) i) × (r < 65536) ⌝ }
 {

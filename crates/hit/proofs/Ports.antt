@@ -8,7 +8,7 @@ use lib.ListN.{length, getD}
 use borrow.Author.Tests.{lt-leb, le-leb, lt-ltb, le-ltb}
 use Rattle.unit.specs.declared.Quanta.{Quanta}
 use Rattle.hit.specs.Limit.{openFrom, shortBelow, anyFrom, anyBelow, anyFault}
-use Rattle.hit.specs.Words.{wordOrZero, four, portPair, portPairs, lostFour}
+use Rattle.hit.specs.Words.{wordOrZero, fourWords, portPair, portPairs, failedPorts}
 use Rattle.hit.specs.Mean.{All}
 use Rattle.hit.proofs.Sum.{neither, all-below, all-above}
 
@@ -37,8 +37,8 @@ pub record Good (limit : Quanta) (ws : List ℕ) : Type 0 where
   pub third : wordOrZero ws 2 < 2147483648
   pub fourth : wordOrZero ws 3 < 2147483648
   pub each : All (λ w. w < 2147483648) ws
-  pub whole : four ws ≡ ws
-  pub kept : portPairs limit (four ws) ≡ four ws
+  pub whole : fourWords ws ≡ ws
+  pub kept : portPairs limit (fourWords ws) ≡ fourWords ws
 
 pub good-ports :
     (cycle : ℕ) →
@@ -47,7 +47,7 @@ pub good-ports :
     length ws ≡ 4 →
     anyFault (openFrom cycle) ws ≡ false →
     Good (openFrom cycle) ws
-unfolding wordOrZero four portPairs anyFault
+unfolding wordOrZero fourWords portPairs anyFault
 good-ports cycle h [] l e = absurd (omega arith)
 good-ports cycle h (a ∷ []) l e = absurd (omega arith)
 good-ports cycle h (a ∷ b ∷ []) l e = absurd (omega arith)
@@ -82,7 +82,7 @@ pub all-open :
     limit .0 ≤ getD ws 1 0 →
     limit .0 ≤ getD ws 2 0 →
     limit .0 ≤ getD ws 3 0 →
-    portPairs limit ws ≡ lostFour
-unfolding portPairs lostFour
+    portPairs limit ws ≡ failedPorts
+unfolding portPairs failedPorts
 all-open limit ws h i j k =
     rw (port-open limit _ h, port-open limit _ i, port-open limit _ j, port-open limit _ k)

@@ -12,11 +12,11 @@ use borrow.Author.Tests.{leb-false, ltb-false}
 use Rattle.unit.specs.Choice.{either}
 use Rattle.unit.specs.declared.Quanta.{Quanta}
 use Rattle.hit.specs.Limit.{anyWord, anyFrom, anyBelow, lateFrom}
-use Rattle.hit.specs.Words.{wordOrZero, six, sixTotal}
+use Rattle.hit.specs.Words.{wordOrZero, sixWords, sixTotal}
 use Rattle.hit.specs.Mean.{All, sum}
 
-pub six-total : (ws : List ℕ) → length ws ≤ 6 → sixTotal (six ws) ≡ sum ws
-unfolding sixTotal six wordOrZero sum
+pub six-total : (ws : List ℕ) → length ws ≤ 6 → sixTotal (sixWords ws) ≡ sum ws
+unfolding sixTotal sixWords wordOrZero sum
 six-total [] h = refl
 six-total (a ∷ []) h = omega arith
 six-total (a ∷ b ∷ []) h = omega arith
@@ -79,7 +79,7 @@ pub hits-fit :
     0 < n →
     n ≤ 6 →
     anyFrom (lateFrom k) ws ≡ false →
-    sixTotal (six ws) < n * 2147483648
+    sixTotal (sixWords ws) < n * 2147483648
 hits-fit k n ws l some most e =
     rw (six-total ws (omega arith))
     (omega

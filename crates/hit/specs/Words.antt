@@ -11,13 +11,13 @@ unfoldable pub wordOrZero : List ℕ → ℕ → ℕ
 wordOrZero ws i = pick (ltb i (length ws)) (getD ws i 0) 0
 
 -- "HIT pairs 1 to H hold the words, later HIT pairs 0"
-unfoldable pub six : List ℕ → List ℕ
-six ws =
+unfoldable pub sixWords : List ℕ → List ℕ
+sixWords ws =
     wordOrZero ws 0 ∷ wordOrZero ws 1 ∷ wordOrZero ws 2 ∷ wordOrZero ws 3 ∷ wordOrZero ws 4 ∷ wordOrZero ws 5 ∷ []
 
 -- "four words, T1 to T4"
-unfoldable pub four : List ℕ → List ℕ
-four ws = wordOrZero ws 0 ∷ wordOrZero ws 1 ∷ wordOrZero ws 2 ∷ wordOrZero ws 3 ∷ []
+unfoldable pub fourWords : List ℕ → List ℕ
+fourWords ws = wordOrZero ws 0 ∷ wordOrZero ws 1 ∷ wordOrZero ws 2 ∷ wordOrZero ws 3 ∷ []
 
 unfoldable pub sixTotal : List ℕ → ℕ
 sixTotal h = getD h 0 0 + getD h 1 0 + getD h 2 0 + getD h 3 0 + getD h 4 0 + getD h 5 0
@@ -32,8 +32,8 @@ filled h mean =
     getD h 0 0 ∷ getD h 1 0 ∷ getD h 2 0 ∷ getD h 3 0 ∷ getD h 4 0 ∷ getD h 5 0 ∷ mean .0 ∷ []
 
 -- "every HIT and AVG of the measured directions .. become FFFFh": both registers of a pair
-unfoldable pub lost : List ℕ
-lost =
+unfoldable pub failedPairs : List ℕ
+failedPairs =
     0xFFFFFFFF ∷ 0xFFFFFFFF ∷ 0xFFFFFFFF ∷ 0xFFFFFFFF ∷ 0xFFFFFFFF ∷ 0xFFFFFFFF ∷ 0xFFFFFFFF ∷ []
 
 -- "An open port reads FFFFh FFFFh, the others their words"; "A word below 32 × 65,536 now reads 0000h 0000h for that port"
@@ -49,8 +49,8 @@ portPairs limit w =
     portPair limit (getD w 3 0) ∷
     []
 
-unfoldable pub lostFour : List ℕ
-lostFour = 0xFFFFFFFF ∷ 0xFFFFFFFF ∷ 0xFFFFFFFF ∷ 0xFFFFFFFF ∷ []
+unfoldable pub failedPorts : List ℕ
+failedPorts = 0xFFFFFFFF ∷ 0xFFFFFFFF ∷ 0xFFFFFFFF ∷ 0xFFFFFFFF ∷ []
 
 unfoldable pub plusEach : List ℕ → List ℕ → List ℕ
 plusEach sums w =

@@ -12,7 +12,7 @@ pub fn difference_word(up: Quanta, down: Quanta) -> u32
     ((up.0 + 4294967296 - down.0) % 4294967296) as u32
 }
 
-pub fn biased_difference(up: Quanta, down: Quanta) -> u64
+pub fn biased(up: Quanta, down: Quanta) -> u64
     requires { ⌜ (up .0 < 2147483648) × (down .0 < 2147483648) ⌝ }
     ensures { λ r. ⌜ (r ≡ biased up down) × (r < 4294967296) ⌝ }
 {

@@ -3,7 +3,7 @@ ghost use mathlib.Core.Path.{_≡_};
 ghost use Prim.Native.Nat.{_<_, _≤_, _*_, _/_, _+_};
 ghost use lib.ListN.{getD};
 ghost use Rattle.unit.specs.Choice.{pick};
-ghost use Rattle.hit.specs.Words.{wordOrZero, six, four, sixTotal, average, filled, lost, lostFour, plusEach, portPair, portPairs};
+ghost use Rattle.hit.specs.Words.{wordOrZero, sixWords, fourWords, sixTotal, average, filled, failedPairs, failedPorts, plusEach, portPair, portPairs};
 use crate::limit::short_below;
 use unit::Quanta;
 
@@ -15,7 +15,7 @@ fn word_or_zero(words: &[u32], i: usize) -> u32
 
 // The hits of a direction; places past the list hold 0.
 pub fn six_words(words: &[u32]) -> [u32; 6]
-    ensures { λ r. ⌜ r ≡ six (now (words .entry)) ⌝ }
+    ensures { λ r. ⌜ r ≡ sixWords (now (words .entry)) ⌝ }
 {
     let a = word_or_zero(words, 0);
     let b = word_or_zero(words, 1);
@@ -28,7 +28,7 @@ pub fn six_words(words: &[u32]) -> [u32; 6]
 
 // The ports T1 to T4.
 pub fn four_words(words: &[u32]) -> [u32; 4]
-    ensures { λ r. ⌜ r ≡ four (now (words .entry)) ⌝ }
+    ensures { λ r. ⌜ r ≡ fourWords (now (words .entry)) ⌝ }
 {
     let a = word_or_zero(words, 0);
     let b = word_or_zero(words, 1);
@@ -43,18 +43,18 @@ pub fn wide(x: u32) -> u64
     x as u64
 }
 
-fn total(hits: [u32; 6]) -> u64
+fn six_total(hits: [u32; 6]) -> u64
     ensures { λ r. ⌜ r ≡ sixTotal hits ⌝ }
 {
     wide(hits[0]) + wide(hits[1]) + wide(hits[2]) + wide(hits[3]) + wide(hits[4]) + wide(hits[5])
 }
 
 // The average of n hits, rounded down. It is below 2^31, as every word that is a hit.
-pub fn average_of(hits: [u32; 6], n: u32) -> Quanta
+pub fn average(hits: [u32; 6], n: u32) -> Quanta
     requires { ⌜ sixTotal hits < n * 2147483648 ⌝ }
     ensures { λ r. ⌜ (r ≡ average hits n) × (r .0 < 2147483648) ⌝ }
 {
-    Quanta(total(hits) / (n as u64))
+    Quanta(six_total(hits) / (n as u64))
 }
 
 pub fn choose_pairs(test: bool, yes: [u32; 7], no: [u32; 7]) -> [u32; 7]
@@ -64,7 +64,7 @@ pub fn choose_pairs(test: bool, yes: [u32; 7], no: [u32; 7]) -> [u32; 7]
 }
 
 // The seven result pairs of a direction: HIT 1 to 6, then AVG.
-pub fn pairs(hits: [u32; 6], mean: Quanta) -> [u32; 7]
+pub fn filled(hits: [u32; 6], mean: Quanta) -> [u32; 7]
     requires { ⌜ mean .0 < 2147483648 ⌝ }
     ensures { λ r. ⌜ r ≡ filled hits mean ⌝ }
 {
@@ -73,8 +73,8 @@ pub fn pairs(hits: [u32; 6], mean: Quanta) -> [u32; 7]
 }
 
 // The result pairs of a direction whose measurement failed: FFFFh FFFFh each.
-pub fn lost_pairs() -> [u32; 7]
-    ensures { λ r. ⌜ r ≡ lost ⌝ }
+pub fn failed_pairs() -> [u32; 7]
+    ensures { λ r. ⌜ r ≡ failedPairs ⌝ }
 {
     [
         4294967295,
@@ -111,8 +111,8 @@ pub fn port_pairs(limit: Quanta, w: [u32; 4]) -> [u32; 4]
     [a, b, c, d]
 }
 
-pub fn lost_four() -> [u32; 4]
-    ensures { λ r. ⌜ r ≡ lostFour ⌝ }
+pub fn failed_ports() -> [u32; 4]
+    ensures { λ r. ⌜ r ≡ failedPorts ⌝ }
 {
     [4294967295, 4294967295, 4294967295, 4294967295]
 }

@@ -1,6 +1,7 @@
 // Calls on a model that its caller keeps and lends by reference.
 ghost use mathlib.Core.Path.{_≡_};
-ghost use Rattle.device.specs.Call.{Call, reply};
+ghost use Rattle.device.specs.Call.{Call};
+ghost use Rattle.device.specs.Reply.{reply};
 use converter::stretch;
 use device::Answer;
 use device::Model;

@@ -1,7 +1,7 @@
 // The fresh model, soundness, and what is busy.
 ghost use mathlib.Core.Path.{_≡_};
 ghost use Prim.Native.Nat.{_≤_, _*_};
-ghost use Rattle.device.specs.Model.{noFlight, noTemperature, freshWith, flightSound, temperatureSound, sumFits, sound, kindBusy, busy};
+ghost use Rattle.device.specs.Model.{noFlight, noTemperature, freshWith, flightSound, temperatureSound, sumFits, isSound, kindBusy, isBusy};
 use device::Flight;
 use device::Model;
 use device::Schedule;
@@ -41,15 +41,15 @@ pub fn no_temperature() -> Temperature
 pub fn fresh_with(status: Status) -> Model
     ensures { λ r. ⌜ r ≡ freshWith status ⌝ }
 {
-    let clock = calendar::date::first();
-    let setup = setup::factory_setup();
+    let clock = calendar::date::start();
+    let setup = setup::factory();
     let flight = no_flight();
     let temperature = no_temperature();
     Model {
         clock,
         setup,
         status,
-        ready: false,
+        initialised: false,
         regulator: false,
         flight,
         temperature,
@@ -99,12 +99,12 @@ fn temperature_sound(t: Temperature) -> bool
 }
 
 pub fn is_sound(m: Model) -> bool
-    ensures { λ r. ⌜ r ≡ sound m ⌝ }
+    ensures { λ r. ⌜ r ≡ isSound m ⌝ }
 {
     let clock = m.clock;
     let flight = m.flight;
     let temperature = m.temperature;
-    if calendar::date::valid(clock) {
+    if calendar::date::clock_valid(clock) {
         if flight_sound(flight) {
             return temperature_sound(temperature);
         }
@@ -121,7 +121,7 @@ fn kind_busy(k: Schedule) -> bool
 
 // Whether a measurement is awaited or an event runs.
 pub fn is_busy(m: Model) -> bool
-    ensures { λ r. ⌜ r ≡ busy m ⌝ }
+    ensures { λ r. ⌜ r ≡ isBusy m ⌝ }
 {
     let flight = m.flight;
     let temperature = m.temperature;

@@ -1,6 +1,6 @@
 // Questions about a model: INT, what is awaited, the regulator of the user flash, and a register's word. They change nothing.
 ghost use mathlib.Core.Path.{_≡_};
-ghost use Rattle.device.specs.Call.{interruptTold, awaitedTold, regulatorTold, registerTold};
+ghost use Rattle.device.specs.Question.{interruptPending, awaitedTold, regulatorOn, peek};
 use device::Model;
 use device::Schedule;
 use device::Told;
@@ -10,7 +10,7 @@ use status::status_word;
 
 // The INT answer: 1 for yes, 0 for no.
 pub fn interrupt_pending(m: Model) -> Told
-    ensures { λ r. ⌜ r ≡ interruptTold m ⌝ }
+    ensures { λ r. ⌜ r ≡ interruptPending m ⌝ }
 {
     if is_sound(m) {
         let setup = m.setup;
@@ -26,7 +26,7 @@ pub fn interrupt_pending(m: Model) -> Told
     Told::Refused(0)
 }
 
-fn told_awaited(m: Model, k: Schedule) -> Told
+fn awaited_told(m: Model, k: Schedule) -> Told
     ensures { λ r. ⌜ r ≡ awaitedTold m k ⌝ }
 {
     if is_sound(m) {
@@ -43,7 +43,7 @@ pub fn flight_awaited(m: Model) -> Told
     ensures { λ r. ⌜ r ≡ awaitedTold m (m .flight .schedule) ⌝ }
 {
     let f = m.flight;
-    told_awaited(m, f.schedule)
+    awaited_told(m, f.schedule)
 }
 
 // Whether a temperature measurement is awaited: 1 or 0.
@@ -51,12 +51,12 @@ pub fn temperature_awaited(m: Model) -> Told
     ensures { λ r. ⌜ r ≡ awaitedTold m (m .temperature .schedule) ⌝ }
 {
     let t = m.temperature;
-    told_awaited(m, t.schedule)
+    awaited_told(m, t.schedule)
 }
 
 // Whether the regulator of the user flash is on: 1 or 0.
 pub fn regulator_on(m: Model) -> Told
-    ensures { λ r. ⌜ r ≡ regulatorTold m ⌝ }
+    ensures { λ r. ⌜ r ≡ regulatorOn m ⌝ }
 {
     if is_sound(m) {
         if m.regulator {
@@ -69,7 +69,7 @@ pub fn regulator_on(m: Model) -> Told
 
 // The word that a read at address a, B0h to FFh, would give, with nothing cleared.
 pub fn peek(m: Model, a: u32) -> Told
-    ensures { λ r. ⌜ r ≡ registerTold m a ⌝ }
+    ensures { λ r. ⌜ r ≡ peek m a ⌝ }
 {
     if is_sound(m) {
         if a < 0xb0 {

@@ -3,7 +3,7 @@ ghost use mathlib.Core.Path.{_≡_};
 ghost use Prim.Native.Nat.{_<_, _≤_, _+_, _*_};
 ghost use lib.ListN.{length};
 ghost use Rattle.device.specs.Bus.{readModel};
-ghost use Rattle.device.specs.Registers.{half, calendarWord, flightWord, temperatureWord, registerWord, fill};
+ghost use Rattle.device.specs.Registers.{half, calendarWord, flightWord, temperatureWord, registerWord, fillWords};
 use device::Flight;
 use device::Model;
 use device::Temperature;
@@ -13,7 +13,7 @@ use status::no_bits;
 use status::status_word;
 
 // A register of a pair: Int at an even place, Frac at an odd one.
-fn half_of(w: u32, place: u32) -> u32
+fn half(w: u32, place: u32) -> u32
     ensures { λ r. ⌜ r ≡ half w place ⌝ }
 {
     if place % 2 == 0 { w / 65536 } else { w % 65536 }
@@ -25,15 +25,15 @@ pub fn calendar_word(m: Model, a: u32) -> u32
 {
     let clock = m.clock;
     if a == 0xb0 {
-        return calendar::words::seconds_word(clock);
+        return calendar::words::word30(clock);
     }
     if a == 0xb1 {
-        return calendar::words::time_word(clock);
+        return calendar::words::word31(clock);
     }
     if a == 0xb2 {
-        return calendar::words::date_word(clock);
+        return calendar::words::word32(clock);
     }
-    calendar::words::year_word(clock)
+    calendar::words::word33(clock)
 }
 
 // C4h to E6h.
@@ -49,7 +49,7 @@ fn flight_word(f: Flight, a: u32) -> u32
     if a < 0xd3 {
         let place = (a - 0xc5) / 2;
         let w = ups[place as usize];
-        return half_of(w, a - 0xc5);
+        return half(w, a - 0xc5);
     }
     if a < 0xd4 {
         return 0;
@@ -57,15 +57,15 @@ fn flight_word(f: Flight, a: u32) -> u32
     if a < 0xe2 {
         let place = (a - 0xd4) / 2;
         let w = downs[place as usize];
-        return half_of(w, a - 0xd4);
+        return half(w, a - 0xd4);
     }
     if a < 0xe4 {
-        return half_of(f.difference, a - 0xe2);
+        return half(f.difference, a - 0xe2);
     }
     if a == 0xe4 {
         return k.good as u32;
     }
-    half_of(difference_mean(f.sum, k.good as u32), a - 0xe5)
+    half(difference_mean(f.sum, k.good as u32), a - 0xe5)
 }
 
 // E7h to F7h.
@@ -79,14 +79,14 @@ fn temperature_word(t: Temperature, a: u32) -> u32
     if a < 0xef {
         let place = (a - 0xe7) / 2;
         let w = ports[place as usize];
-        return half_of(w, a - 0xe7);
+        return half(w, a - 0xe7);
     }
     if a == 0xef {
         return k.good as u32;
     }
     let place = (a - 0xf0) / 2;
     let sum = sums[place as usize];
-    half_of(port_mean(sum, k.good as u32), a - 0xf0)
+    half(port_mean(sum, k.good as u32), a - 0xf0)
 }
 
 // The word at read address a, B0h to FFh.
@@ -119,7 +119,7 @@ pub fn register_word(m: Model, a: u32) -> u32
 // Fills the first 2n bytes with n consecutive registers.
 pub fn fill_words(m: Model, a: u32, n: usize, out: &mut [u8])
     requires { ⌜ (176 ≤ a) × (a + n ≤ 256) × (2 * n ≤ length (now out)) ⌝ }
-    ensures { λ r. ⌜ now (out .exit) ≡ fill m a (now (out .entry)) n ⌝ }
+    ensures { λ r. ⌜ now (out .exit) ≡ fillWords m a (now (out .entry)) n ⌝ }
 {
     let mut i: usize = 0;
     while i < n {
@@ -131,7 +131,7 @@ pub fn fill_words(m: Model, a: u32, n: usize, out: &mut [u8])
 }
 
 // The model after an accepted read: reading FEh clears the status.
-pub fn after_read(m: Model, a: u32, n: usize) -> Model
+pub fn read_model(m: Model, a: u32, n: usize) -> Model
     requires { ⌜ a + n ≤ 256 ⌝ }
     ensures { λ r. ⌜ r ≡ readModel m a n ⌝ }
 {

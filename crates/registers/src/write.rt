@@ -6,7 +6,7 @@ ghost use lib.ListN.{length};
 ghost use Rattle.unit.specs.Choice.{pick};
 ghost use Rattle.calendar.specs.Words.{alarmValid};
 ghost use Rattle.setup.specs.Setup.{alarmWord};
-ghost use Rattle.device.specs.Model.{sound};
+ghost use Rattle.device.specs.Model.{isSound};
 ghost use Rattle.device.specs.Write.{written, setupAfter, ticksAfter, clockAfter, writeInvalid, writeModel};
 use crate::read::calendar_word;
 use calendar::Clock;
@@ -14,7 +14,7 @@ use device::Model;
 use unit::Ticks;
 
 // The word of register a after the write, by the one it has.
-fn word_after(words: &[u8], op: u32, n: usize, a: u32, current: u32) -> u32
+fn written(words: &[u8], op: u32, n: usize, a: u32, current: u32) -> u32
     requires { ⌜ (48 ≤ op) × (op + n ≤ 68) × (2 * n ≤ length (now words)) ⌝ }
     ensures { λ r. ⌜ r ≡ written (now (words .entry)) op n a current ⌝ }
 {
@@ -22,7 +22,7 @@ fn word_after(words: &[u8], op: u32, n: usize, a: u32, current: u32) -> u32
         return current;
     }
     if a < op + n as u32 {
-        return frame::word(words, (a - op) as usize);
+        return frame::word_at(words, (a - op) as usize);
     }
     current
 }
@@ -35,7 +35,7 @@ fn setup_after(setup: [u16; 16], words: &[u8], op: u32, n: usize) -> [u16; 16]
     let mut s = setup;
     let mut i: usize = 0;
     while i < n {
-        let w = frame::word(words, i) as u16;
+        let w = frame::word_at(words, i) as u16;
         let a = op as usize + i;
         if 0x34 <= a {
             s[a - 0x34] = w;
@@ -55,7 +55,7 @@ fn ticks_after(m: Model, words: &[u8], op: u32, n: usize) -> Ticks
         return clock.ticks;
     }
     if 0x30 < op + n as u32 {
-        return calendar::words::ticks_in(frame::word(words, (0x30 - op) as usize));
+        return calendar::words::ticks_in(frame::word_at(words, (0x30 - op) as usize));
     }
     clock.ticks
 }
@@ -64,27 +64,27 @@ fn clock_after(m: Model, words: &[u8], op: u32, n: usize) -> Clock
     requires { ⌜ (48 ≤ op) × (op + n ≤ 68) × (2 * n ≤ length (now words)) ⌝ }
     ensures { λ r. ⌜ r ≡ clockAfter (now (words .entry)) op n m ⌝ }
 {
-    let w30 = word_after(words, op, n, 0x30, calendar_word(m, 0xb0));
-    let w31 = word_after(words, op, n, 0x31, calendar_word(m, 0xb1));
-    let w32 = word_after(words, op, n, 0x32, calendar_word(m, 0xb2));
-    let w33 = word_after(words, op, n, 0x33, calendar_word(m, 0xb3));
+    let w30 = written(words, op, n, 0x30, calendar_word(m, 0xb0));
+    let w31 = written(words, op, n, 0x31, calendar_word(m, 0xb1));
+    let w32 = written(words, op, n, 0x32, calendar_word(m, 0xb2));
+    let w33 = written(words, op, n, 0x33, calendar_word(m, 0xb3));
     let ticks = ticks_after(m, words, op, n);
     calendar::words::clock_from(w30, w31, w32, w33, ticks)
 }
 
 // Whether the clock or the alarm would be invalid.
 pub fn write_invalid(m: Model, words: &[u8], op: u32, n: usize) -> bool
-    requires { ⌜ (sound m ≡ true) × (48 ≤ op) × (op + n ≤ 68) × (2 * n ≤ length (now words)) ⌝ }
+    requires { ⌜ (isSound m ≡ true) × (48 ≤ op) × (op + n ≤ 68) × (2 * n ≤ length (now words)) ⌝ }
     ensures { λ r. ⌜ r ≡ writeInvalid (now (words .entry)) op n m ⌝ }
 {
     // a write that leaves the calendar out leaves it valid
     if 0x33 < op {
         return alarm_invalid(m, words, op, n);
     }
-    let w30 = word_after(words, op, n, 0x30, calendar_word(m, 0xb0));
-    let w31 = word_after(words, op, n, 0x31, calendar_word(m, 0xb1));
-    let w32 = word_after(words, op, n, 0x32, calendar_word(m, 0xb2));
-    let w33 = word_after(words, op, n, 0x33, calendar_word(m, 0xb3));
+    let w30 = written(words, op, n, 0x30, calendar_word(m, 0xb0));
+    let w31 = written(words, op, n, 0x31, calendar_word(m, 0xb1));
+    let w32 = written(words, op, n, 0x32, calendar_word(m, 0xb2));
+    let w33 = written(words, op, n, 0x33, calendar_word(m, 0xb3));
     let ticks = ticks_after(m, words, op, n);
     if calendar::words::words_valid(w30, w31, w32, w33, ticks) {
         return alarm_invalid(m, words, op, n);
@@ -105,7 +105,7 @@ fn alarm_invalid(m: Model, words: &[u8], op: u32, n: usize) -> bool
 }
 
 pub fn write_model(m: Model, words: &[u8], op: u32, n: usize) -> Model
-    requires { ⌜ (sound m ≡ true) × (48 ≤ op) × (op + n ≤ 68) × (2 * n ≤ length (now words)) ⌝ }
+    requires { ⌜ (isSound m ≡ true) × (48 ≤ op) × (op + n ≤ 68) × (2 * n ≤ length (now words)) ⌝ }
     ensures { λ r. ⌜ r ≡ writeModel (now (words .entry)) op n m ⌝ }
 {
     let old = m.setup;

@@ -4,23 +4,23 @@ ghost use mathlib.Core.Bool.{true};
 ghost use Prim.Native.Nat.{_<_, _*_};
 ghost use Rattle.hit.specs.Words.{sixTotal};
 ghost use Rattle.device.specs.Model.{flightSound, temperatureSound};
-ghost use Rattle.device.specs.Tick.{lostFlight, lostDifference};
+ghost use Rattle.device.specs.Tick.{failedFlight, failedDifference};
 ghost use Rattle.device.specs.Delivery.{goodDifference, goodSum, goodFlight, goodSums};
 use device::Flight;
 use device::Schedule;
 use device::Temperature;
-use hit::difference::biased_difference;
+use hit::difference::biased;
 use hit::difference::difference_word;
-use hit::words::average_of;
+use hit::words::average;
 use hit::words::choose_pairs;
-use hit::words::lost_pairs;
-use hit::words::pairs;
+use hit::words::failed_pairs;
+use hit::words::filled;
 use hit::words::plus_each;
-use schedule::settle_one;
+use schedule::settle;
 use unit::Quanta;
 
-fn lost_difference(f: Flight) -> u32
-    ensures { λ r. ⌜ r ≡ lostDifference f ⌝ }
+fn failed_difference(f: Flight) -> u32
+    ensures { λ r. ⌜ r ≡ failedDifference f ⌝ }
 {
     if f.up {
         if f.down {
@@ -32,14 +32,14 @@ fn lost_difference(f: Flight) -> u32
 }
 
 // The results of a failed measurement.
-pub fn lose_flight(f: Flight, schedule: Schedule) -> Flight
-    ensures { λ r. ⌜ r ≡ lostFlight f schedule ⌝ }
+pub fn failed_flight(f: Flight, schedule: Schedule) -> Flight
+    ensures { λ r. ⌜ r ≡ failedFlight f schedule ⌝ }
 {
     let old_ups = f.ups;
     let old_downs = f.downs;
-    let ups = choose_pairs(f.up, lost_pairs(), old_ups);
-    let downs = choose_pairs(f.down, lost_pairs(), old_downs);
-    let difference = lost_difference(f);
+    let ups = choose_pairs(f.up, failed_pairs(), old_ups);
+    let downs = choose_pairs(f.down, failed_pairs(), old_downs);
+    let difference = failed_difference(f);
     Flight {
         schedule,
         up: f.up,
@@ -71,7 +71,7 @@ fn good_sum(f: Flight, up: Quanta, down: Quanta) -> u64
 {
     let k = f.schedule;
     if k.settled < k.planned {
-        return f.sum + biased_difference(up, down);
+        return f.sum + biased(up, down);
     }
     f.sum
 }
@@ -84,12 +84,12 @@ pub fn good_flight(f: Flight, hits: u32, ups: [u32; 6], downs: [u32; 6]) -> Flig
     let old_ups = f.ups;
     let old_downs = f.downs;
     let k = f.schedule;
-    let up = average_of(ups, hits);
-    let down = average_of(downs, hits);
-    let schedule = settle_one(k, true);
+    let up = average(ups, hits);
+    let down = average(downs, hits);
+    let schedule = settle(k, true);
     let sum = good_sum(f, up, down);
-    let up_pairs = choose_pairs(f.up, pairs(ups, up), old_ups);
-    let down_pairs = choose_pairs(f.down, pairs(downs, down), old_downs);
+    let up_pairs = choose_pairs(f.up, filled(ups, up), old_ups);
+    let down_pairs = choose_pairs(f.down, filled(downs, down), old_downs);
     let difference = good_difference(f, up, down);
     Flight {
         schedule,

@@ -2,7 +2,7 @@
 ghost use mathlib.Core.Path.{_≡_};
 ghost use Prim.Native.Nat.{_<_, _≤_, _+_};
 ghost use Rattle.unit.specs.Choice.{pick};
-ghost use Rattle.device.specs.Event.{noSchedule, awaits, inEvent, lastOne, startsLeft, begins, beginsGroup, fails, single, eventStart, leftAfter, waitAfter, startedAfter, settledAfter, goodAfter, tickSchedule, settle, halted, countsSound, waitSound, balanceSound, scheduleSound};
+ghost use Rattle.device.specs.Event.{noSchedule, isAwaited, inEvent, isLast, startsLeft, begins, beginsGroup, fails, startSingle, startEvent, leftAfter, waitAfter, startedAfter, settledAfter, goodAfter, tickSchedule, settle, haltSchedule, countsSound, waitSound, balanceSound, scheduleSound};
 use device::Schedule;
 use unit::Ticks;
 
@@ -112,7 +112,7 @@ pub fn schedule_sound(k: Schedule) -> bool
 }
 
 pub fn is_awaited(k: Schedule) -> bool
-    ensures { λ r. ⌜ r ≡ awaits k ⌝ }
+    ensures { λ r. ⌜ r ≡ isAwaited k ⌝ }
 {
     let left = k.left;
     if 0 < left.0 { true } else { false }
@@ -129,7 +129,7 @@ pub fn in_event(k: Schedule) -> bool
 
 // Whether settling one more settles the last of the event, or of the current group.
 pub fn is_last(k: Schedule) -> bool
-    ensures { λ r. ⌜ r ≡ lastOne k ⌝ }
+    ensures { λ r. ⌜ r ≡ isLast k ⌝ }
 {
     if k.settled < k.planned {
         if k.settled + 1 == k.planned {
@@ -151,7 +151,7 @@ fn starts_left(k: Schedule) -> bool
 }
 
 // Whether the next tick starts a measurement.
-pub fn is_due(k: Schedule) -> bool
+pub fn begins(k: Schedule) -> bool
     ensures { λ r. ⌜ r ≡ begins k ⌝ }
 {
     let wait = k.wait;
@@ -168,7 +168,7 @@ pub fn is_due(k: Schedule) -> bool
 pub fn begins_group(k: Schedule) -> bool
     ensures { λ r. ⌜ r ≡ beginsGroup k ⌝ }
 {
-    if is_due(k) {
+    if begins(k) {
         if k.started < k.planned {
             return false;
         }
@@ -178,7 +178,7 @@ pub fn begins_group(k: Schedule) -> bool
 }
 
 // Whether the awaited measurement fails in the next tick.
-pub fn expires(k: Schedule) -> bool
+pub fn fails(k: Schedule) -> bool
     ensures { λ r. ⌜ r ≡ fails k ⌝ }
 {
     let left = k.left;
@@ -187,7 +187,7 @@ pub fn expires(k: Schedule) -> bool
 
 // A single measurement starts.
 pub fn start_single(k: Schedule) -> Schedule
-    ensures { λ r. ⌜ r ≡ single k ⌝ }
+    ensures { λ r. ⌜ r ≡ startSingle k ⌝ }
 {
     let mut n = k;
     let left = Ticks(8192);
@@ -197,7 +197,7 @@ pub fn start_single(k: Schedule) -> Schedule
 
 // An event is accepted, and its first measurement starts.
 pub fn start_event(period: Ticks, planned: u8, continuous: bool) -> Schedule
-    ensures { λ r. ⌜ r ≡ eventStart period planned continuous ⌝ }
+    ensures { λ r. ⌜ r ≡ startEvent period planned continuous ⌝ }
 {
     Schedule {
         left: Ticks(8192),
@@ -215,7 +215,7 @@ fn left_after(k: Schedule) -> u32
     ensures { λ r. ⌜ r ≡ leftAfter k ⌝ }
 {
     let left = k.left;
-    if is_due(k) {
+    if begins(k) {
         return 8192;
     }
     if 0 < left.0 { left.0 - 1 } else { 0 }
@@ -235,7 +235,7 @@ fn wait_after(k: Schedule) -> u32
 fn started_after(k: Schedule) -> u8
     ensures { λ r. ⌜ r ≡ startedAfter k ⌝ }
 {
-    if is_due(k) {
+    if begins(k) {
         if k.started < k.planned {
             return k.started + 1;
         }
@@ -250,7 +250,7 @@ fn settled_after(k: Schedule) -> u8
     if begins_group(k) {
         return 0;
     }
-    if expires(k) {
+    if fails(k) {
         if k.settled < k.planned {
             return k.settled + 1;
         }
@@ -298,7 +298,7 @@ fn count_good(n: u16, good: bool) -> u16
 }
 
 // The awaited measurement is delivered.
-pub fn settle_one(k: Schedule, good: bool) -> Schedule
+pub fn settle(k: Schedule, good: bool) -> Schedule
     requires { ⌜ k .good ≤ 32 ⌝ }
     ensures { λ r. ⌜ r ≡ settle k good ⌝ }
 {
@@ -324,7 +324,7 @@ pub fn settle_one(k: Schedule, good: bool) -> Schedule
 }
 
 pub fn halt_schedule(k: Schedule) -> Schedule
-    ensures { λ r. ⌜ r ≡ halted k ⌝ }
+    ensures { λ r. ⌜ r ≡ haltSchedule k ⌝ }
 {
     let mut n = k;
     let none = Ticks(0);

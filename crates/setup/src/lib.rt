@@ -21,7 +21,7 @@ fn wide(x: u16) -> u32
 }
 
 // The factory values.
-pub fn factory_setup() -> [u16; 16]
+pub fn factory() -> [u16; 16]
     ensures { λ r. ⌜ r ≡ factory ⌝ }
 {
     [0, 0, 0, 0, 16, 0, 0, 0, 0, 0, 0, 0, 0, 0, 0, 0]
@@ -34,7 +34,7 @@ pub fn alarm_word(s: [u16; 16]) -> u32
 }
 
 // H, the number of hits of each measured direction.
-pub fn hits(s: [u16; 16]) -> u32
+pub fn hit_count(s: [u16; 16]) -> u32
     ensures { λ r. ⌜ r ≡ hitCount s ⌝ }
 {
     stop_row(word(s, 5) / 8192 % 8)
@@ -57,7 +57,7 @@ pub fn stop_row(stop: u32) -> u32
 }
 
 // TIMOUT.
-pub fn timeout_code(s: [u16; 16]) -> u32
+pub fn timeout(s: [u16; 16]) -> u32
     ensures { λ r. ⌜ r ≡ timeout s ⌝ }
 {
     word(s, 5) % 8

@@ -18,9 +18,11 @@ use Rattle.frame.proofs.Laws.{write-alone, whole-means}
 use Rattle.device.specs.declared.Model.{Model}
 use Rattle.device.specs.Model.{freshModel, freshWith}
 use Rattle.device.specs.Write.{withWord, setupAfter, writeModel}
-use Rattle.device.specs.Call.{transaction, opcode, further, words, Verdict, accepted, refused, verdict, reply, replyBy}
-use Rattle.device.specs.Call.{noFrame, wrongLength, acceptedModel}
-use Rattle.device.specs.Claim.{after}
+use Rattle.device.specs.Call.{transaction, opcode, further, words, Verdict, accepted, refused, verdict}
+use Rattle.device.specs.Reply.{reply, replyBy}
+use Rattle.device.specs.Call.{noFrame, wrongLength}
+use Rattle.device.specs.Reply.{acceptedModel}
+use Rattle.device.specs.History.{after}
 use Rattle.device.proofs.Table.{none-holds}
 use Rattle.setup_frames.specs.Frames.{differs, frames, joined}
 use Rattle.setup_frames.specs.Sending.{sent, setupFrom, onlyWrites}

@@ -15,12 +15,13 @@ use Rattle.device.specs.Model.{freshModel, freshWith, resetModel}
 use Rattle.device.specs.Registers.{calendarWord}
 use Rattle.device.specs.Write.{written, ticksAfter, setupAfter, writeInvalid, writeModel}
 use Rattle.device.specs.Tick.{tickModel}
-use Rattle.device.specs.Delivery.{flightGood, flightFailed, temperatureGood, temperatureFailed}
-use Rattle.device.specs.Bus.{isEvent, initialised, haltedModel, startedEvent, singleStarted, supplied, unsupplied, runModel, readModel}
+use Rattle.device.specs.Delivery.{goodFlightModel, failedFlightModel, goodTemperatureModel, failedTemperatureModel}
+use Rattle.device.specs.Bus.{isEvent, initialisedModel, haltedModel, startedEvent, singleStarted, supplied, unsupplied, runModel, readModel}
 use Rattle.device.specs.FlashFrame.{flashModel}
 use Rattle.device.specs.Call.{Call, transaction, tick, flight, temperature, stretch, opcode, words}
-use Rattle.device.specs.Call.{badCalendar, anyLate, portFault, acceptedModel, Verdict, accepted, refused, verdict, reply, replyBy}
-use Rattle.device.specs.Claim.{after}
+use Rattle.device.specs.Call.{badCalendar, Verdict, accepted, refused, verdict}
+use Rattle.device.specs.Reply.{anyLate, portFault, acceptedModel, reply, replyBy}
+use Rattle.device.specs.History.{after}
 use Rattle.device.proofs.Table.{picked, none-holds}
 use Rattle.device.proofs.Stretch.{setup-ticked}
 use Rattle.setup_frames.specs.Frames.{frames}
@@ -37,7 +38,7 @@ unfolding factory alarmWord
 fresh-valid m e = rw e fresh-alarm
 
 run-valid : (m : Model) (op : ℕ) → ValidAlarm m → ValidAlarm (runModel m op)
-unfolding runModel resetModel freshWith initialised haltedModel supplied unsupplied startedEvent singleStarted
+unfolding runModel resetModel freshWith initialisedModel haltedModel supplied unsupplied startedEvent singleStarted
 run-valid m op v =
     picked ValidAlarm (eqb op 4) (λ _. fresh-valid resetModel refl)
     (λ _. picked ValidAlarm (eqb op 5) (λ _. v)
@@ -75,7 +76,7 @@ write-valid bytes op n m e =
     e
 
 accepted-valid : (m : Model) (c : Call) → badCalendar m c ≡ false → ValidAlarm m → ValidAlarm (acceptedModel m c)
-unfolding acceptedModel badCalendar tickModel flightFailed flightGood temperatureFailed temperatureGood
+unfolding acceptedModel badCalendar tickModel failedFlightModel goodFlightModel failedTemperatureModel goodTemperatureModel
 accepted-valid m (transaction f o x) e v =
     by-test (isCommand (opcode f)) (λ c. rw c (run-valid m (opcode f) v))
     (λ c. by-test (isWrite (opcode f))

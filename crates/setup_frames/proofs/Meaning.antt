@@ -9,7 +9,7 @@ use lib.ListN.{length, take, drop, length-map}
 use lib.Seq.{take-at, drop-at}
 use Rattle.unit.specs.Cases.{by-test}
 use Rattle.device.specs.declared.Model.{Model}
-use Rattle.device.specs.Model.{sound}
+use Rattle.device.specs.Model.{isSound}
 use Rattle.setup_frames.specs.declared.Framed.{Framed}
 use Rattle.setup_frames.specs.Frames.{differs, differsBefore, starts, runLength, frames, joined, lengthsOf, over, framesVerdict, Written}
 use Rattle.setup_frames.specs.Sending.{cut}
@@ -67,7 +67,7 @@ cut-buffers s bytes lengths =
 -- "Models with equal words give equal frames."
 pub equal-words :
     (m n : Model) (bytes lengths b b′ l l′ : List ℕ) (r r′ : Framed) →
-    sound m ≡ sound n →
+    isSound m ≡ isSound n →
     m .setup ≡ n .setup →
     Written m bytes lengths r b l →
     Written n bytes lengths r′ b′ l′ →

@@ -10,7 +10,7 @@ use lib.Dec.{ltb}
 use borrow.Author.Tests.{lt-ltb, le-ltb}
 use Rattle.unit.specs.Cases.{by-test, by-ltb}
 use Rattle.device.specs.declared.Model.{Model}
-use Rattle.device.specs.Model.{sound}
+use Rattle.device.specs.Model.{isSound}
 use Rattle.device.specs.Call.{accepted, refused, firstOf}
 use Rattle.setup_frames.specs.declared.Framed.the-variants.{Refused, Frames}
 use Rattle.setup_frames.specs.Frames.{frames, joined, lengthsOf, over, framesVerdict, answerBy, bytesBy, lengthsBy, Written}
@@ -19,23 +19,23 @@ use Rattle.setup_frames.specs.Frames.{numberFramed, countsFramed}
 -- "number 19, short buffer, when there are fewer than 33 byte or 8 length places, whatever words the model holds, after
 -- number 0"
 module _ (m : Model) (b l : ℕ) where
-  pub unsound-refused : sound m ≡ false → framesVerdict m b l ≡ refused 0
+  pub unsound-refused : isSound m ≡ false → framesVerdict m b l ≡ refused 0
   unfolding framesVerdict firstOf
   unsound-refused s = rw s
 
-  pub short-refused : sound m ≡ true → (b < 33) ⊎ (l < 8) → framesVerdict m b l ≡ refused 19
+  pub short-refused : isSound m ≡ true → (b < 33) ⊎ (l < 8) → framesVerdict m b l ≡ refused 19
   unfolding framesVerdict firstOf
   short-refused s =
       ⊎-elim (λ h. rw (s, lt-ltb b 33 h))
       (λ h. by-ltb b 33 (λ k e. rw (s, e)) (λ k e. rw (s, e, lt-ltb l 8 h)))
 
-  pub room-accepted : sound m ≡ true → 33 ≤ b → 8 ≤ l → framesVerdict m b l ≡ accepted
+  pub room-accepted : isSound m ≡ true → 33 ≤ b → 8 ≤ l → framesVerdict m b l ≡ accepted
   unfolding framesVerdict firstOf
   room-accepted s h k = rw (s, le-ltb b 33 h, le-ltb l 8 k)
 
-  pub number-0 : (framesVerdict m b l ≡ refused 0) ↔ (sound m ≡ false)
+  pub number-0 : (framesVerdict m b l ≡ refused 0) ↔ (isSound m ≡ false)
   number-0 = (
-    λ e. by-test (sound m)
+    λ e. by-test (isSound m)
         (λ s. by-ltb b 33
         (λ h t. let z : _≡_ {A = ℕ} 19 0 = cc (short-refused s (inl h)) in absurd (omega arith))
         (λ h t. by-ltb l 8
@@ -45,9 +45,9 @@ module _ (m : Model) (b l : ℕ) where
     unsound-refused,
   )
 
-  pub number-19 : (framesVerdict m b l ≡ refused 19) ↔ ((sound m ≡ true) × ((b < 33) ⊎ (l < 8)))
+  pub number-19 : (framesVerdict m b l ≡ refused 19) ↔ ((isSound m ≡ true) × ((b < 33) ⊎ (l < 8)))
   number-19 = (
-    λ e. by-test (sound m)
+    λ e. by-test (isSound m)
         (λ s. by-ltb b 33 (λ h t. (s, inl h))
         (λ h t. by-ltb l 8 (λ k u. (s, inr k))
         (λ k u. let z : _≡_ {A = ℕ} 1 0 = cc (room-accepted s h k) in absurd (omega arith))))

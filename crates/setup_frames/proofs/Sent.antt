@@ -11,15 +11,17 @@ use Rattle.unit.specs.Choice.{pick}
 use Rattle.unit.specs.Cases.{by-test}
 use Rattle.calendar.specs.Words.{alarmValid}
 use Rattle.setup.specs.Setup.{factory, alarmWord}
-use Rattle.frame.specs.Frame.{decodeFrame, writeFrame}
+use Rattle.frame.specs.Decoding.{decodeFrame, writeFrame}
 use Rattle.frame.specs.declared.Decoded.the-variants.{Write}
 use Rattle.frame.proofs.Laws.{write-means, write-alone, whole-means, end-means}
 use Rattle.device.specs.declared.Model.{Model}
-use Rattle.device.specs.Event.{noSchedule, awaits, inEvent}
-use Rattle.device.specs.Model.{freshModel, freshWith, noFlight, noTemperature, sound, kindBusy, busy}
+use Rattle.device.specs.Event.{noSchedule, isAwaited, inEvent}
+use Rattle.device.specs.Model.{freshModel, freshWith, noFlight, noTemperature, isSound, kindBusy, isBusy}
 use Rattle.device.specs.Write.{setupAfter, writeModel}
-use Rattle.device.specs.Call.{transaction, reply, writeReply}
-use Rattle.device.specs.Claim.{after}
+use Rattle.device.specs.Call.{transaction}
+use Rattle.device.specs.Reply.{reply}
+use Rattle.device.specs.Parts.{writeReply}
+use Rattle.device.specs.History.{after}
 use Rattle.device.proofs.Sound.{fresh-sound, keeps-sound}
 use Rattle.device.proofs.Facts.{judged-by-alarm}
 use Rattle.device.proofs.Decode.{reply-write}
@@ -30,11 +32,11 @@ use Rattle.setup_frames.proofs.Reached.{reached, reached-none, reached-
 
 -- a model that takes writes
 record Idle (m : Model) : Type 0 where
-  sound-model : sound m ≡ true
-  not-busy : busy m ≡ false
+  sound-model : isSound m ≡ true
+  not-busy : isBusy m ≡ false
 
-fresh-not-busy : busy freshModel ≡ false
-unfolding busy kindBusy awaits inEvent freshModel freshWith noFlight noTemperature noSchedule
+fresh-not-busy : isBusy freshModel ≡ false
+unfolding isBusy kindBusy isAwaited inEvent freshModel freshWith noFlight noTemperature noSchedule
 fresh-not-busy = refl
 
 fresh-idle : Idle freshModel
@@ -100,7 +102,7 @@ module _ (s : List ℕ) (w : Words s) (v : alarmValid (alarmWord s) ≡ true) wh
       Idle m →
       m .setup ≡ reached s i →
       Idle (reply m (transaction ((0x34 + i) ∷ bytesOf s i n) [] []) .model)
-  unfolding busy writeModel
+  unfolding isBusy writeModel
   still-idle m i n some fits idle at =
       record {
         sound-model = keeps-sound m (transaction ((0x34 + i) ∷ bytesOf s i n) [] []) (idle .sound-model);

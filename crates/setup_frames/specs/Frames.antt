@@ -9,7 +9,7 @@ use lib.Dec.{ltb, eqb}
 use Rattle.unit.specs.Choice.{pick, either, negate}
 use Rattle.setup.specs.Setup.{factory}
 use Rattle.device.specs.declared.Model.{Model}
-use Rattle.device.specs.Model.{sound}
+use Rattle.device.specs.Model.{isSound}
 use Rattle.device.specs.Call.{Verdict, accepted, refused, row, firstOf}
 use Rattle.setup_frames.specs.declared.Framed.{Framed}
 use Rattle.setup_frames.specs.declared.Framed.the-variants.{Refused, Frames}
@@ -64,7 +64,7 @@ over buffer values = values ++ drop (length values) buffer
 -- number 0": by the number of byte and length places
 unfoldable pub framesVerdict : Model → ℕ → ℕ → Verdict
 framesVerdict m bytes lengths =
-    firstOf (row 0 (negate (sound m)) ∷ row 19 (either (ltb bytes 33) (ltb lengths 8)) ∷ [])
+    firstOf (row 0 (negate (isSound m)) ∷ row 19 (either (ltb bytes 33) (ltb lengths 8)) ∷ [])
 
 -- "counts in the answer": bytes, frames
 unfoldable pub answerBy : Verdict → List ℕ → Framed

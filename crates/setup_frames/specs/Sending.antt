@@ -8,7 +8,7 @@ use Rattle.unit.specs.Choice.{both}
 use Rattle.frame.specs.Frame.{isWrite}
 use Rattle.device.specs.Model.{freshModel}
 use Rattle.device.specs.Call.{Call, transaction, opcode}
-use Rattle.device.specs.Claim.{after}
+use Rattle.device.specs.History.{after}
 
 -- "Sending them": each frame is one transaction, with no output buffer and no memory
 abbrev pub sent : List (List ℕ) → List Call

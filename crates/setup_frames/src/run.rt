@@ -7,7 +7,7 @@ fn differs(s: [u16; 16], i: usize) -> bool
     requires { ⌜ i < 16 ⌝ }
     ensures { λ r. ⌜ r ≡ differs s i ⌝ }
 {
-    let fresh = setup::factory_setup();
+    let fresh = setup::factory();
     if s[i] == fresh[i] { false } else { true }
 }
 

@@ -2,7 +2,7 @@
 ghost use mathlib.Core.Path.{_≡_};
 ghost use Rattle.unit.specs.Choice.{pick};
 ghost use Prim.Native.Nat.{_≤_};
-ghost use Rattle.device.specs.Status.{noBits, joined, statusWord, flightBits, temperatureBits, alarmBit, initBit, haltBit, porBit, ldoBit, flashBit, withoutLdo, shown};
+ghost use Rattle.device.specs.Status.{noBits, joined, statusWord, flightBits, temperatureBits, alarmBit, initBit, haltBit, porBit, ldoBit, flashBit, withoutLdo, setsOwnBit};
 use device::Schedule;
 use device::Status;
 use schedule::in_event;
@@ -28,7 +28,7 @@ pub fn no_bits() -> Status
 }
 
 // The bits of both.
-pub fn join(a: Status, b: Status) -> Status
+pub fn joined(a: Status, b: Status) -> Status
     ensures { λ r. ⌜ r ≡ joined a b ⌝ }
 {
     let timeout = any_of(a.timeout, b.timeout);
@@ -80,8 +80,8 @@ pub fn status_word(s: Status) -> u32
 }
 
 // Whether settling a measurement sets the bit of its kind: a single one does, one of an event where each interrupts.
-fn shows(k: Schedule, each: bool) -> bool
-    ensures { λ r. ⌜ r ≡ shown k each ⌝ }
+fn sets_own_bit(k: Schedule, each: bool) -> bool
+    ensures { λ r. ⌜ r ≡ setsOwnBit k each ⌝ }
 {
     if in_event(k) { each } else { true }
 }
@@ -92,7 +92,7 @@ pub fn flight_bits(k: Schedule, each: bool, settles: bool, failed: bool) -> Stat
 {
     let mut s = no_bits();
     if settles {
-        let tof = shows(k, each);
+        let tof = sets_own_bit(k, each);
         let last = is_last(k);
         s.timeout = failed;
         s.tof = tof;
@@ -108,7 +108,7 @@ pub fn temperature_bits(k: Schedule, each: bool, settles: bool, opened: bool) ->
 {
     let mut s = no_bits();
     if settles {
-        let te = shows(k, each);
+        let te = sets_own_bit(k, each);
         let last = is_last(k);
         s.timeout = opened;
         s.te = te;

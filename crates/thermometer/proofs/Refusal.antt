@@ -8,7 +8,7 @@ use native.Mathlib.Omega.{arith}
 use Rattle.unit.specs.Choice.{pick}
 use Rattle.unit.specs.Cases.{fails, refuted}
 use Rattle.thermometer.specs.declared.Reading.the-variants.{Thousandths, Refused}
-use Rattle.thermometer.specs.Degrees.{resistance, thousandths, first, last, offTable, readingOver, numberRead, valueRead}
+use Rattle.thermometer.specs.Degrees.{resistance, thousandths, first, last, offTable, degreesOver, numberIn, valueRead}
 use Rattle.thermometer.proofs.Tests.{eqb-means, ltb-means, either-means}
 
 -- "either word is FFFFFFFFh, b is 0, or the resistance is below the first or above the last entry"
@@ -28,20 +28,20 @@ off-means table a b =
     (either-means _ _ (eqb-means b 0)
     (either-means _ _ (ltb-means (resistance a b) (first table)) (ltb-means (last table) (resistance a b)))))
 
-pub off-refused : (table : List ℕ) (a b : ℕ) → OffTable table a b → readingOver table a b ≡ Refused 13
-unfolding readingOver
+pub off-refused : (table : List ℕ) (a b : ℕ) → OffTable table a b → degreesOver table a b ≡ Refused 13
+unfolding degreesOver
 off-refused table a b h = rw (off-means table a b .1 h)
 
 pub on-answered :
     (table : List ℕ) (a b : ℕ) →
     ¬ OffTable table a b →
-    readingOver table a b ≡ Thousandths (thousandths table (resistance a b))
-unfolding readingOver
+    degreesOver table a b ≡ Thousandths (thousandths table (resistance a b))
+unfolding degreesOver
 on-answered table a b n = rw (refuted (offTable table a b) (λ h. n (off-means table a b .0 h)))
 
 -- a refusal by a test has its number exactly where the test holds
-pub refused-by : (t : Bool) (n v : ℕ) → (numberRead (pick t (Refused n) (Thousandths v)) ≡ n ∷ []) ↔ (t ≡ true)
-unfolding numberRead
+pub refused-by : (t : Bool) (n v : ℕ) → (numberIn (pick t (Refused n) (Thousandths v)) ≡ n ∷ []) ↔ (t ≡ true)
+unfolding numberIn
 refused-by true n v = (λ e. refl, λ e. refl)
 refused-by false n v = (
   λ e. let z : _≡_ {A = ℕ} 0 1 = cc in absurd (omega arith),
@@ -49,8 +49,8 @@ refused-by false n v = (
 )
 
 -- "Turned away: number 13", exactly then
-pub number-13 : (table : List ℕ) (a b : ℕ) → (numberRead (readingOver table a b) ≡ 13 ∷ []) ↔ OffTable table a b
-unfolding readingOver
+pub number-13 : (table : List ℕ) (a b : ℕ) → (numberIn (degreesOver table a b) ≡ 13 ∷ []) ↔ OffTable table a b
+unfolding degreesOver
 number-13 table a b =
     let by = refused-by (offTable table a b) 13 (thousandths table (resistance a b)) in
     let off = off-means table a b in
@@ -60,6 +60,6 @@ number-13 table a b =
 pub answer-means :
     (table : List ℕ) (a b : ℕ) →
     ¬ OffTable table a b →
-    (numberRead (readingOver table a b) ≡ []) × (valueRead (readingOver table a b) ≡ thousandths table (resistance a b) ∷ [])
-unfolding numberRead valueRead
-answer-means table a b n = let on = on-answered table a b n in (ap numberRead on, ap valueRead on)
+    (numberIn (degreesOver table a b) ≡ []) × (valueRead (degreesOver table a b) ≡ thousandths table (resistance a b) ∷ [])
+unfolding numberIn valueRead
+answer-means table a b n = let on = on-answered table a b n in (ap numberIn on, ap valueRead on)

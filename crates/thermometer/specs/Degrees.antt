@@ -47,18 +47,18 @@ offTable table a b =
     (either (eqb b 0) (either (ltb (resistance a b) (first table)) (ltb (last table) (resistance a b)))))
 
 -- the answer over a table: "Turned away: number 13"
-unfoldable pub readingOver : List ℕ → ℕ → ℕ → Reading
-readingOver table a b = pick (offTable table a b) (Refused 13) (Thousandths (thousandths table (resistance a b)))
+unfoldable pub degreesOver : List ℕ → ℕ → ℕ → Reading
+degreesOver table a b = pick (offTable table a b) (Refused 13) (Thousandths (thousandths table (resistance a b)))
 
 -- the answer over the caller's own table: "Turned away: number 14, bad table, before number 13, for any table failing these."
 -- (Note 7)
-unfoldable pub readingBy : List ℕ → ℕ → ℕ → Reading
-readingBy table a b = pick (accepted table) (readingOver table a b) (Refused 14)
+unfoldable pub degreesBy : List ℕ → ℕ → ℕ → Reading
+degreesBy table a b = pick (accepted table) (degreesOver table a b) (Refused 14)
 
 -- What an answer says: its number where it is a refusal, else its thousandths of a degree.
-unfoldable pub numberRead : Reading → List ℕ
-numberRead (Refused n) = n ∷ []
-numberRead (Thousandths t) = []
+unfoldable pub numberIn : Reading → List ℕ
+numberIn (Refused n) = n ∷ []
+numberIn (Thousandths t) = []
 
 unfoldable pub valueRead : Reading → List ℕ
 valueRead (Refused n) = []

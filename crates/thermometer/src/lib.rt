@@ -3,7 +3,7 @@ ghost use mathlib.Core.Path.{_≡_};
 ghost use Prim.Native.Nat.{_<_, _≤_};
 ghost use lib.ListN.{length};
 ghost use Rattle.thermometer.specs.Table.{pt1000, rising, accepted, Usable};
-ghost use Rattle.thermometer.specs.Degrees.{resistance, interpolated, Between, thousandths, first, last, readingOver, readingBy};
+ghost use Rattle.thermometer.specs.Degrees.{resistance, interpolated, Between, thousandths, first, last, degreesOver, degreesBy};
 
 mod table;
 
@@ -23,7 +23,7 @@ fn wide(x: u32) -> u64
 }
 
 // Milliohms, by the reference of 1,000 ohms.
-fn resistance_of(probe: u32, reference: u32) -> u64
+fn resistance(probe: u32, reference: u32) -> u64
     requires { ⌜ 0 < reference ⌝ }
     ensures { λ r. ⌜ r ≡ resistance probe reference ⌝ }
 {
@@ -49,7 +49,7 @@ fn place(table: &[u32], r: u32) -> usize
 }
 
 // Thousandths of a degree between the entries e and f of the degrees i and i + 1.
-fn interpolate(i: usize, e: u32, f: u32, r: u32) -> u32
+fn interpolated(i: usize, e: u32, f: u32, r: u32) -> u32
     requires { ⌜ (i < 512) × (e ≤ r) × (r < f) ⌝ }
     ensures { λ t. ⌜ t ≡ interpolated i e f r ⌝ }
 {
@@ -58,7 +58,7 @@ fn interpolate(i: usize, e: u32, f: u32, r: u32) -> u32
 }
 
 // Thousandths of a degree at the resistance r.
-fn thousandths_of(table: &[u32], r: u32) -> u32
+fn thousandths(table: &[u32], r: u32) -> u32
     requires { ⌜ Usable (now table) × (first (now table) ≤ r) × (r ≤ last (now table)) ⌝ }
     ensures { λ t. ⌜ t ≡ thousandths (now (table .entry)) r ⌝ }
 {
@@ -67,13 +67,13 @@ fn thousandths_of(table: &[u32], r: u32) -> u32
         return 1000 * end as u32;
     }
     let i = place(table, r);
-    interpolate(i, table[i], table[i + 1], r)
+    interpolated(i, table[i], table[i + 1], r)
 }
 
 // The answer over a table, or number 13.
-fn read(table: &[u32], probe: u32, reference: u32) -> Reading
+fn degrees_over(table: &[u32], probe: u32, reference: u32) -> Reading
     requires { ⌜ Usable (now table) ⌝ }
-    ensures { λ r. ⌜ r ≡ readingOver (now (table .entry)) probe reference ⌝ }
+    ensures { λ r. ⌜ r ≡ degreesOver (now (table .entry)) probe reference ⌝ }
 {
     if probe == 4294967295 {
         return Reading::Refused(13);
@@ -84,7 +84,7 @@ fn read(table: &[u32], probe: u32, reference: u32) -> Reading
     if reference == 0 {
         return Reading::Refused(13);
     }
-    let r = resistance_of(probe, reference);
+    let r = resistance(probe, reference);
     let end = table.len() - 1;
     if r < wide(table[0]) {
         return Reading::Refused(13);
@@ -92,15 +92,15 @@ fn read(table: &[u32], probe: u32, reference: u32) -> Reading
     if wide(table[end]) < r {
         return Reading::Refused(13);
     }
-    Reading::Thousandths(thousandths_of(table, r as u32))
+    Reading::Thousandths(thousandths(table, r as u32))
 }
 
 // The temperature of a PT1000 probe, from its word and the word of its reference resistor of 1,000 ohms. Number 13: a word is
 // FFFFFFFFh, the reference is 0, or the resistance is off the table.
 pub fn degrees(probe: u32, reference: u32) -> Reading
-    ensures { λ r. ⌜ r ≡ readingOver pt1000 probe reference ⌝ }
+    ensures { λ r. ⌜ r ≡ degreesOver pt1000 probe reference ⌝ }
 {
-    read(&PT1000, probe, reference)
+    degrees_over(&PT1000, probe, reference)
 }
 
 // Whether each entry is above the one before it.
@@ -138,10 +138,10 @@ fn is_accepted(table: &[u32]) -> bool
 // The temperature of a probe with a table of its own, milliohms at each whole degree from 0. Number 14 for a table of fewer than
 // 2 or more than 512 entries, one that does not rise, and one with an entry above 10,000,000; then number 13, as above.
 pub fn degrees_by(table: &[u32], probe: u32, reference: u32) -> Reading
-    ensures { λ r. ⌜ r ≡ readingBy (now (table .entry)) probe reference ⌝ }
+    ensures { λ r. ⌜ r ≡ degreesBy (now (table .entry)) probe reference ⌝ }
 {
     if is_accepted(table) {
-        read(table, probe, reference)
+        degrees_over(table, probe, reference)
     } else {
         Reading::Refused(14)
     }

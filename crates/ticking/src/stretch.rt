@@ -4,15 +4,15 @@ ghost use Prim.Native.Nat.{_≤_, _+_, _-_};
 ghost use lib.Dec.{leb, ltb};
 ghost use Rattle.unit.specs.Choice.{pick};
 ghost use Rattle.device.specs.Tick.{tickModel};
-ghost use Rattle.device.specs.Stretch.{least as Stretch·least, quietLeft, quietWait, quietClock, quietSchedule, quietFor, laterSchedule, laterClock, laterModel, progress, movedQuietly, noted, movedByOne, moved as Stretch·moved};
+ghost use Rattle.device.specs.StretchSteps.{least as Stretch·least, quietLeft, quietWait, quietClock, quietSchedule, quietFor, laterSchedule, laterClock, laterModel, progress, movedQuietly, noted, movedByOne, moved as Stretch·moved};
 use crate::tick::tick_model;
 use calendar::Clock;
 use device::Model;
 use device::Progress;
 use device::Schedule;
 use device::StretchReport;
-use schedule::expires;
-use schedule::is_due;
+use schedule::begins;
+use schedule::fails;
 use unit::Ticks;
 
 fn least(a: u32, b: u32) -> u32
@@ -41,7 +41,7 @@ fn quiet_wait(k: Schedule) -> u32
     let wait = k.wait;
     let period = k.period;
     if wait.0 <= 1 {
-        if is_due(k) {
+        if begins(k) {
             return 0;
         }
         if wait.0 == period.0 {
@@ -88,7 +88,7 @@ fn wait_later(k: Schedule, q: u32) -> u32
     if wait.0 <= 1 { wait.0 } else { less(wait.0, q) }
 }
 
-fn schedule_later(k: Schedule, q: u32) -> Schedule
+fn later_schedule(k: Schedule, q: u32) -> Schedule
     ensures { λ r. ⌜ r ≡ laterSchedule q k ⌝ }
 {
     let left = k.left;
@@ -100,7 +100,7 @@ fn schedule_later(k: Schedule, q: u32) -> Schedule
     n
 }
 
-fn clock_later(m: Model, q: u32) -> Clock
+fn later_clock(m: Model, q: u32) -> Clock
     requires { ⌜ q ≤ quietClock m ⌝ }
     ensures { λ r. ⌜ r ≡ laterClock q m ⌝ }
 {
@@ -117,17 +117,17 @@ fn clock_later(m: Model, q: u32) -> Clock
 }
 
 // q ticks in which nothing happens.
-fn model_later(m: Model, q: u32) -> Model
+fn later_model(m: Model, q: u32) -> Model
     requires { ⌜ q ≤ quietClock m ⌝ }
     ensures { λ r. ⌜ r ≡ laterModel q m ⌝ }
 {
-    let clock = clock_later(m, q);
+    let clock = later_clock(m, q);
     let mut flight = m.flight;
     let mut temperature = m.temperature;
     let f = flight.schedule;
     let t = temperature.schedule;
-    let f_later = schedule_later(f, q);
-    let t_later = schedule_later(t, q);
+    let f_later = later_schedule(f, q);
+    let t_later = later_schedule(t, q);
     flight.schedule = f_later;
     temperature.schedule = t_later;
     let mut n = m;
@@ -140,24 +140,24 @@ fn model_later(m: Model, q: u32) -> Model
 fn note_tick(k: Schedule, at: u32, r: StretchReport) -> StretchReport
     ensures { λ s. ⌜ s ≡ noted k at r ⌝ }
 {
-    let started = unit::choose(is_due(k), at, r.started);
-    let failed = unit::choose(expires(k), at, r.failed);
+    let started = unit::choose(begins(k), at, r.started);
+    let failed = unit::choose(fails(k), at, r.failed);
     StretchReport { started, failed }
 }
 
-fn move_quietly(p: Progress, q: u32) -> Progress
+fn moved_quietly(p: Progress, q: u32) -> Progress
     requires { ⌜ (q ≤ quietClock (p .model)) × (p .done + q ≤ 16384) ⌝ }
     ensures { λ r. ⌜ r ≡ movedQuietly q p ⌝ }
 {
     let old = p.model;
-    let model = model_later(old, q);
+    let model = later_model(old, q);
     let mut n = p;
     n.model = model;
     n.done = p.done + q;
     n
 }
 
-fn move_by_one(p: Progress) -> Progress
+fn moved_by_one(p: Progress) -> Progress
     requires { ⌜ p .done ≤ 16384 ⌝ }
     ensures { λ r. ⌜ r ≡ movedByOne p ⌝ }
 {
@@ -181,16 +181,16 @@ fn move_by_one(p: Progress) -> Progress
 }
 
 // Moves on by at least one tick, and by `most` at most.
-fn move_on(p: Progress, most: u32) -> Progress
+fn moved(p: Progress, most: u32) -> Progress
     requires { ⌜ p .done + most ≤ 16384 ⌝ }
     ensures { λ r. ⌜ r ≡ Stretch·moved most p ⌝ }
 {
     let model = p.model;
     let quiet = quiet_for(model);
     if 0 < quiet {
-        return move_quietly(p, least(quiet, most));
+        return moved_quietly(p, least(quiet, most));
     }
-    move_by_one(p)
+    moved_by_one(p)
 }
 
 fn begin(m: Model) -> Progress
@@ -220,7 +220,7 @@ pub fn quiet_tick(m: Model) -> Model
     requires { ⌜ 1 ≤ quietFor m ⌝ }
     ensures { λ r. ⌜ r ≡ tickModel m ⌝ }
 {
-    model_later(m, 1)
+    later_model(m, 1)
 }
 
 // n ticks in which nothing happens.
@@ -228,7 +228,7 @@ fn run_quietly(m: Model, n: u32) -> Progress
     requires { ⌜ (n ≤ quietFor m) × (n ≤ 16384) ⌝ }
     ensures { λ r. ⌜ r ≡ progress m n ⌝ }
 {
-    move_quietly(begin(m), n)
+    moved_quietly(begin(m), n)
 }
 
 // n ticks.
@@ -241,7 +241,7 @@ pub fn run(m: Model, n: u32) -> Progress
     }
     let mut p = begin(m);
     while p.done < n {
-        let next = move_on(p, n - p.done);
+        let next = moved(p, n - p.done);
         p = next;
     }
     p

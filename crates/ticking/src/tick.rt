@@ -1,6 +1,6 @@
 // One tick of the clock, the awaited measurements and the events.
 ghost use mathlib.Core.Path.{_≡_};
-ghost use Rattle.device.specs.Tick.{sumAfter, sumsAfter, flightTicked, flightAfter, temperatureAfter, clockTicked, alarmRaised, tickStatus, tickModel, reportOf};
+ghost use Rattle.device.specs.Tick.{sumAfter, sumsAfter, flightTicked, flightAfter, temperatureAfter, clockTicked, tickRings, tickStatus, tickModel, reportOf};
 use calendar::Clock;
 use device::Flight;
 use device::Model;
@@ -8,15 +8,15 @@ use device::Report;
 use device::Schedule;
 use device::Status;
 use device::Temperature;
-use hit::words::lost_four;
-use results::lose_flight;
+use hit::words::failed_ports;
+use results::failed_flight;
+use schedule::begins;
 use schedule::begins_group;
-use schedule::expires;
-use schedule::is_due;
+use schedule::fails;
 use schedule::tick_schedule;
 use status::alarm_bit;
 use status::flight_bits;
-use status::join;
+use status::joined;
 use status::temperature_bits;
 
 // The sums that the first start of a group sets to 0.
@@ -58,9 +58,9 @@ fn flight_after(f: Flight) -> Flight
 {
     let k = f.schedule;
     let n = flight_ticked(f);
-    if expires(k) {
+    if fails(k) {
         let next = tick_schedule(k);
-        return lose_flight(n, next);
+        return failed_flight(n, next);
     }
     n
 }
@@ -74,8 +74,8 @@ fn temperature_after(t: Temperature) -> Temperature
     let mut n = t;
     n.schedule = next;
     n.sums = sums;
-    if expires(k) {
-        let ports = lost_four();
+    if fails(k) {
+        let ports = failed_ports();
         n.ports = ports;
         return n;
     }
@@ -90,17 +90,17 @@ fn clock_ticked(m: Model) -> Clock
     if setup::clock_stands(setup) {
         return clock;
     }
-    calendar::step::tick(clock)
+    calendar::step::tick_clock(clock)
 }
 
-fn alarm_raised(m: Model, after: Clock) -> bool
-    ensures { λ r. ⌜ r ≡ alarmRaised m after ⌝ }
+fn tick_rings(m: Model, after: Clock) -> bool
+    ensures { λ r. ⌜ r ≡ tickRings m after ⌝ }
 {
     let before = m.clock;
     let setup = m.setup;
     let w = setup::alarm_word(setup);
     let mode = setup::alarm_mode(setup);
-    calendar::alarm::rings(before, after, w, mode)
+    calendar::alarm::alarm_rings(before, after, w, mode)
 }
 
 fn tick_status(m: Model, after: Clock) -> Status
@@ -112,12 +112,12 @@ fn tick_status(m: Model, after: Clock) -> Status
     let f = flight.schedule;
     let t = temperature.schedule;
     let each = setup::each_interrupt(setup);
-    let f_failed = expires(f);
-    let t_failed = expires(t);
+    let f_failed = fails(f);
+    let t_failed = fails(t);
     let old = m.status;
-    let with_alarm = join(old, alarm_bit(alarm_raised(m, after)));
-    let with_flight = join(with_alarm, flight_bits(f, each, f_failed, f_failed));
-    join(with_flight, temperature_bits(t, each, t_failed, t_failed))
+    let with_alarm = joined(old, alarm_bit(tick_rings(m, after)));
+    let with_flight = joined(with_alarm, flight_bits(f, each, f_failed, f_failed));
+    joined(with_flight, temperature_bits(t, each, t_failed, t_failed))
 }
 
 pub fn tick_model(m: Model) -> Model
@@ -141,7 +141,7 @@ pub fn tick_model(m: Model) -> Model
 pub fn report_of(k: Schedule) -> Report
     ensures { λ r. ⌜ r ≡ reportOf k ⌝ }
 {
-    let started = is_due(k);
-    let failed = expires(k);
+    let started = begins(k);
+    let failed = fails(k);
     Report { started, failed }
 }

@@ -1,5 +1,5 @@
 -- `converter::refusal_number` meets its contract.
-use Rattle.device.specs.Call.{refusalNumber}
+use Rattle.device.specs.Parts.{refusalNumber}
 use Rattle.frame.proofs.Decoded.{the-type}
 use Rattle.frame.specs.declared.Decoded.{Decoded}
 use Rattle.frame.specs.declared.Decoded.the-variants.{Command, Read, Write, Flash, Refusal}

@@ -1,7 +1,7 @@
 -- `converter::tick` meets its contract.
 use Rattle.device.specs.Call.{tick}
 use Rattle.device.proofs.Decode.{reply-unsound}
-use Rattle.device.specs.Model.{sound}
+use Rattle.device.specs.Model.{isSound}
 use mathlib.Core.Bool.{true, false}
 use mathlib.Core.Path.{_≡_, sym, _∙_}
 use borrow.Author.Needs.{needs}
@@ -30,14 +30,14 @@ tick-reply-requires c κs = sym (c .before .before .before .is-sound .ensures) �
 returns-2 : tie.Need-returns-2
 returns-2 c = search needs
 
-refused-requires : tie.Need-refused-requires
-refused-requires c κs = search needs
+refuse-requires : tie.Need-refuse-requires
+refuse-requires c κs = search needs
 
 returns-3 : tie.Need-returns-3
 returns-3 c =
     let m = c .before .before .before .args .m in
-    let e : sound m ≡ false = sym (c .before .before .is-sound .ensures) ∙ c .before .if1 .left in
-    c .refused .ensures ∙ reply-unsound m tick e .0
+    let e : isSound m ≡ false = sym (c .before .before .is-sound .ensures) ∙ c .before .if1 .left in
+    c .refuse .ensures ∙ reply-unsound m tick e .0
 
 pub tick-spec : {M : Type 1} → statement M
 tick-spec =
@@ -49,5 +49,5 @@ tick-spec =
     returns
     tick-reply-requires
     returns-2
-    refused-requires
+    refuse-requires
     returns-3)

@@ -10,13 +10,13 @@ each-interrupt-requires c κs = search needs
 flight-bits-requires : tie.Need-flight-bits-requires
 flight-bits-requires c κs = search needs
 
-join-requires : tie.Need-join-requires
-join-requires c κs = search needs
+joined-requires : tie.Need-joined-requires
+joined-requires c κs = search needs
 
 returns : tie.Need-returns
 unfolding flightStatus
-returns c = simp (← c .join .ensures, ← c .before .flight-bits .ensures, ← c .before .before .each-interrupt .ensures)
+returns c = simp (← c .joined .ensures, ← c .before .flight-bits .ensures, ← c .before .before .each-interrupt .ensures)
 
 pub flight-status-spec : {M : Type 1} → statement M
 flight-status-spec =
-    tie.close (tie.spec each-interrupt-requires flight-bits-requires join-requires returns)
+    tie.close (tie.spec each-interrupt-requires flight-bits-requires joined-requires returns)

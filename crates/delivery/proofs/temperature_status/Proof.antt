@@ -10,13 +10,13 @@ each-interrupt-requires c κs = search needs
 temperature-bits-requires : tie.Need-temperature-bits-requires
 temperature-bits-requires c κs = search needs
 
-join-requires : tie.Need-join-requires
-join-requires c κs = search needs
+joined-requires : tie.Need-joined-requires
+joined-requires c κs = search needs
 
 returns : tie.Need-returns
 unfolding temperatureStatus
-returns c = simp (← c .join .ensures, ← c .before .temperature-bits .ensures, ← c .before .before .each-interrupt .ensures)
+returns c = simp (← c .joined .ensures, ← c .before .temperature-bits .ensures, ← c .before .before .each-interrupt .ensures)
 
 pub temperature-status-spec : {M : Type 1} → statement M
 temperature-status-spec =
-    tie.close (tie.spec each-interrupt-requires temperature-bits-requires join-requires returns)
+    tie.close (tie.spec each-interrupt-requires temperature-bits-requires joined-requires returns)

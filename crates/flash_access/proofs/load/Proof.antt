@@ -1,5 +1,5 @@
 -- `flash_access::load` meets its contract.
-use Rattle.device.specs.Call.{loadReply, loadOut}
+use Rattle.device.specs.Parts.{loadReply, loadOut}
 use Rattle.device.specs.FlashFrame.{flashAddress}
 use Rattle.flash.proofs.Refusal.{address-accepted}
 use mathlib.Core.Path.{refl, sym, _∙_}
@@ -8,18 +8,18 @@ use borrow.Author.Needs.{needs}
 use Rattle.flash_access.proofs.load.Statement.{statement}
 use Rattle.flash_access.proofs.load.Tie as tie
 
-word-requires : tie.Need-word-requires
-word-requires c κs = search needs
+word-at-requires : tie.Need-word-at-requires
+word-at-requires c κs = search needs
 
 address-refused-requires : tie.Need-address-refused-requires
 address-refused-requires c κs = search needs
 
-refused-requires : tie.Need-refused-requires
-refused-requires c κs = search needs
+refuse-requires : tie.Need-refuse-requires
+refuse-requires c κs = search needs
 
 returns : tie.Need-returns
 unfolding loadReply loadOut flashAddress
-returns c = simp (← c .before .before .before .word .ensures .0, ← c .before .before .address-refused .ensures, c .before .if1 .taken) (c .refused .ensures, refl)
+returns c = simp (← c .before .before .before .word-at .ensures .0, ← c .before .before .address-refused .ensures, c .before .if1 .taken) (c .refuse .ensures, refl)
 
 cast-read-word : tie.Need-cast-read-word
 cast-read-word c = search needs
@@ -31,8 +31,8 @@ read-word-requires c κs =
 put-word-requires : tie.Need-put-word-requires
 put-word-requires c κs = search needs
 
-accepted-requires : tie.Need-accepted-requires
-accepted-requires c κs = search needs
+accept-requires : tie.Need-accept-requires
+accept-requires c κs = search needs
 
 same-length : tie.Need-same-length
 same-length c = search needs
@@ -41,24 +41,24 @@ returns-2 : tie.Need-returns-2
 unfolding loadReply loadOut flashAddress
 returns-2 c =
     simp (
-      ← c .before .before .before .before .before .before .before .before .word .ensures .0,
+      ← c .before .before .before .before .before .before .before .before .word-at .ensures .0,
       ← c .before .before .before .before .before .before .before .address-refused .ensures,
       c .before .before .before .before .before .before .if1 .left,
       ← c .before .before .before .before .before .read-word .ensures .0,
     )
-    (c .accepted .ensures, c .before .before .before .put-word .ensures)
+    (c .accept .ensures, c .before .before .before .put-word .ensures)
 
 pub load-spec : {M : Type 1} → statement M
 load-spec =
     tie.close
     (tie.spec
-    word-requires
+    word-at-requires
     address-refused-requires
-    refused-requires
+    refuse-requires
     returns
     cast-read-word
     read-word-requires
     put-word-requires
-    accepted-requires
+    accept-requires
     same-length
     returns-2)

@@ -1,5 +1,5 @@
 -- `flash_access::program` meets its contract.
-use Rattle.device.specs.Call.{accept, programReply, programLeft}
+use Rattle.device.specs.Parts.{accept, programReply, programLeft}
 use Rattle.device.specs.FlashFrame.{flashAddress, flashData}
 use Rattle.flash.proofs.Refusal.{address-accepted}
 use mathlib.Core.Bool.{false}
@@ -9,18 +9,18 @@ use borrow.Author.Needs.{needs}
 use Rattle.flash_access.proofs.program.Statement.{statement}
 use Rattle.flash_access.proofs.program.Tie as tie
 
-word-requires : tie.Need-word-requires
-word-requires c κs = search needs
+word-at-requires : tie.Need-word-at-requires
+word-at-requires c κs = search needs
 
 address-refused-requires : tie.Need-address-refused-requires
 address-refused-requires c κs = search needs
 
-refused-requires : tie.Need-refused-requires
-refused-requires c κs = search needs
+refuse-requires : tie.Need-refuse-requires
+refuse-requires c κs = search needs
 
 returns : tie.Need-returns
 unfolding programReply programLeft flashAddress flashData
-returns c = simp (← c .before .before .before .word .ensures .0, ← c .before .before .address-refused .ensures, c .before .if1 .taken) (c .refused .ensures, refl)
+returns c = simp (← c .before .before .before .word-at .ensures .0, ← c .before .before .address-refused .ensures, c .before .if1 .taken) (c .refuse .ensures, refl)
 
 cast-not-erased : tie.Need-cast-not-erased
 cast-not-erased c = search needs
@@ -29,8 +29,8 @@ not-erased-requires : tie.Need-not-erased-requires
 not-erased-requires c κs =
     let ok = address-accepted _ _ .0 (sym (c .before .before .address-refused .ensures) ∙ c .before .if1 .left) in omega arith
 
-refused-requires-2 : tie.Need-refused-requires-2
-refused-requires-2 c κs = search needs
+refuse-requires-2 : tie.Need-refuse-requires-2
+refuse-requires-2 c κs = search needs
 
 same-length : tie.Need-same-length
 same-length c = search needs
@@ -39,16 +39,16 @@ returns-2 : tie.Need-returns-2
 unfolding programReply programLeft flashAddress flashData
 returns-2 c =
     simp (
-      ← c .before .before .before .before .before .before .word .ensures .0,
+      ← c .before .before .before .before .before .before .word-at .ensures .0,
       ← c .before .before .before .before .before .address-refused .ensures,
       c .before .before .before .before .if1 .left,
       ← c .before .before .not-erased .ensures,
       c .before .if2 .taken,
     )
-    (c .refused2 .ensures, refl)
+    (c .refuse2 .ensures, refl)
 
-word-requires-2 : tie.Need-word-requires-2
-word-requires-2 c κs = search needs
+word-at-requires-2 : tie.Need-word-at-requires-2
+word-at-requires-2 c κs = search needs
 
 cast-write-word : tie.Need-cast-write-word
 cast-write-word c = search needs
@@ -56,14 +56,14 @@ cast-write-word c = search needs
 write-word-requires : tie.Need-write-word-requires
 write-word-requires c κs =
     let ok = address-accepted _ _ .0 (sym (c .before .before .before .before .before .before .address-refused .ensures) ∙ c .before .before .before .before .before .if1 .left) in
-    let w = c .before .word2 .ensures .1 in
+    let w = c .before .word-at2 .ensures .1 in
     omega arith
 
 changed-requires : tie.Need-changed-requires
 changed-requires c κs = search needs
 
-accepted-requires : tie.Need-accepted-requires
-accepted-requires c κs = search needs
+accept-requires : tie.Need-accept-requires
+accept-requires c κs = search needs
 
 same-length-2 : tie.Need-same-length-2
 same-length-2 c = search needs
@@ -72,32 +72,32 @@ returns-3 : tie.Need-returns-3
 unfolding programReply programLeft flashAddress flashData
 returns-3 c =
     simp (
-      ← c .before .before .before .before .before .before .before .before .before .before .before .before .word .ensures .0,
+      ← c .before .before .before .before .before .before .before .before .before .before .before .before .word-at .ensures .0,
       ← c .before .before .before .before .before .before .before .before .before .before .before .address-refused .ensures,
       c .before .before .before .before .before .before .before .before .before .before .if1 .left,
       ← c .before .before .before .before .before .before .before .before .not-erased .ensures,
       c .before .before .before .before .before .before .before .if2 .left,
-      ← c .before .before .before .before .before .before .word2 .ensures .0,
+      ← c .before .before .before .before .before .before .word-at2 .ensures .0,
     )
-    (c .accepted .ensures ∙ ap (accept false false) (c .before .changed .ensures .0), c .before .before .before .before .write-word .ensures)
+    (c .accept .ensures ∙ ap (accept false false) (c .before .changed .ensures .0), c .before .before .before .before .write-word .ensures)
 
 pub program-spec : {M : Type 1} → statement M
 program-spec =
     tie.close
     (tie.spec
-    word-requires
+    word-at-requires
     address-refused-requires
-    refused-requires
+    refuse-requires
     returns
     cast-not-erased
     not-erased-requires
-    refused-requires-2
+    refuse-requires-2
     same-length
     returns-2
-    word-requires-2
+    word-at-requires-2
     cast-write-word
     write-word-requires
     changed-requires
-    accepted-requires
+    accept-requires
     same-length-2
     returns-3)

@@ -40,7 +40,8 @@ use denote.Triple.Spec.{Meets, tripleOf}
 use denote.Triple.Table.{entered, cited}
 use denote.Triple.Walked.{says, Stays, stay-ref, stay-none, walkOf, goes-none, goes-ref, Walks, ends-at, walked, walk-meets}
 use denote.Exit.{yes}
-use Rattle.device.specs.Call.{reply, stretch as stretch-call}
+use Rattle.device.specs.Reply.{reply}
+use Rattle.device.specs.Call.{stretch as stretch-call}
 use Rattle.device.specs.declared.Model.{Model}
 use Rattle.device.specs.declared.Reply.{Reply}
 use Rattle.device.specs.declared.Answer.{Answer}

@@ -1,6 +1,6 @@
 -- `question::interrupt_pending` meets its contract.
 use borrow.Author.Tests.{eq-eqb, ne-eqb}
-use Rattle.device.specs.Call.{interruptTold}
+use Rattle.device.specs.Question.{interruptPending}
 use borrow.Author.Needs.{needs}
 use Rattle.question.proofs.interrupt_pending.Statement.{statement}
 use Rattle.question.proofs.interrupt_pending.Tie as tie
@@ -15,19 +15,19 @@ status-word-requires : tie.Need-status-word-requires
 status-word-requires c κs = search needs
 
 returns : tie.Need-returns
-unfolding interruptTold
+unfolding interruptPending
 returns c = simp (eq-eqb _ _ (c .if3 .taken), ← c .before .status-word .ensures, c .before .before .if2 .taken, ← c .before .before .before .interrupt-enabled .ensures, c .before .before .before .before .before .before .if1 .taken, ← c .before .before .before .before .before .before .before .is-sound .ensures)
 
 returns-2 : tie.Need-returns-2
-unfolding interruptTold
+unfolding interruptPending
 returns-2 c = simp (ne-eqb _ _ (c .if3 .left), ← c .before .status-word .ensures, c .before .before .if2 .taken, ← c .before .before .before .interrupt-enabled .ensures, c .before .before .before .before .before .before .if1 .taken, ← c .before .before .before .before .before .before .before .is-sound .ensures)
 
 returns-3 : tie.Need-returns-3
-unfolding interruptTold
+unfolding interruptPending
 returns-3 c = simp (c .if2 .left, ← c .before .interrupt-enabled .ensures, c .before .before .before .before .if1 .taken, ← c .before .before .before .before .before .is-sound .ensures)
 
 returns-4 : tie.Need-returns-4
-unfolding interruptTold
+unfolding interruptPending
 returns-4 c = simp (c .if1 .left, ← c .before .is-sound .ensures)
 
 pub interrupt-pending-spec : {M : Type 1} → statement M

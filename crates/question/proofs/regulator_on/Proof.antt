@@ -1,5 +1,5 @@
 -- `question::regulator_on` meets its contract.
-use Rattle.device.specs.Call.{regulatorTold}
+use Rattle.device.specs.Question.{regulatorOn}
 use borrow.Author.Needs.{needs}
 use Rattle.question.proofs.regulator_on.Statement.{statement}
 use Rattle.question.proofs.regulator_on.Tie as tie
@@ -8,15 +8,15 @@ is-sound-requires : tie.Need-is-sound-requires
 is-sound-requires c κs = search needs
 
 returns : tie.Need-returns
-unfolding regulatorTold
+unfolding regulatorOn
 returns c = simp (c .if2 .taken, c .before .if1 .taken, ← c .before .before .is-sound .ensures)
 
 returns-2 : tie.Need-returns-2
-unfolding regulatorTold
+unfolding regulatorOn
 returns-2 c = simp (c .if2 .left, c .before .if1 .taken, ← c .before .before .is-sound .ensures)
 
 returns-3 : tie.Need-returns-3
-unfolding regulatorTold
+unfolding regulatorOn
 returns-3 c = simp (c .if1 .left, ← c .before .is-sound .ensures)
 
 pub regulator-on-spec : {M : Type 1} → statement M

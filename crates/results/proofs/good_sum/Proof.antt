@@ -7,8 +7,8 @@ use borrow.Author.Needs.{needs}
 use Rattle.results.proofs.good_sum.Statement.{statement}
 use Rattle.results.proofs.good_sum.Tie as tie
 
-biased-difference-requires : tie.Need-biased-difference-requires
-biased-difference-requires c κs = search needs
+biased-requires : tie.Need-biased-requires
+biased-requires c κs = search needs
 
 add-result : tie.Need-add-result
 add-result c =
@@ -18,11 +18,11 @@ add-result c =
 
 returns : tie.Need-returns
 unfolding goodSum
-returns c = simp (← c .before .biased-difference .ensures .0, lt-ltb _ _ (c .before .before .if1 .taken))
+returns c = simp (← c .before .biased .ensures .0, lt-ltb _ _ (c .before .before .if1 .taken))
 
 returns-2 : tie.Need-returns-2
 unfolding goodSum
 returns-2 c = simp (le-ltb _ _ (c .if1 .left))
 
 pub good-sum-spec : {M : Type 1} → statement M
-good-sum-spec = tie.close (tie.spec biased-difference-requires add-result returns returns-2)
+good-sum-spec = tie.close (tie.spec biased-requires add-result returns returns-2)

@@ -1,5 +1,5 @@
 -- `schedule::halt_schedule` meets its contract.
-use Rattle.device.specs.Event.{halted}
+use Rattle.device.specs.Event.{haltSchedule}
 use Rattle.unit.specs.Tests.{tests}
 use borrow.Author.Needs.{needs}
 use Rattle.schedule.proofs.halt_schedule.Statement.{statement}
@@ -8,7 +8,7 @@ use Rattle.schedule.proofs.halt_schedule.Reads as reads
 use Rattle.schedule.proofs.halt_schedule.Lts as lts
 
 returns : tie.Need-returns
-unfolding halted
+unfolding haltSchedule
 returns c = search (needs, tests)
 
 pub halt-schedule-spec : {M : Type 1} → statement M

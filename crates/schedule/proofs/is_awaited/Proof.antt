@@ -1,16 +1,16 @@
 -- `schedule::is_awaited` meets its contract.
 use borrow.Author.Needs.{needs}
 use Rattle.unit.specs.Tests.{tests}
-use Rattle.device.specs.Event.{awaits}
+use Rattle.device.specs.Event.{isAwaited}
 use Rattle.schedule.proofs.is_awaited.Statement.{statement}
 use Rattle.schedule.proofs.is_awaited.Tie as tie
 
 returns : tie.Need-returns
-unfolding awaits
+unfolding isAwaited
 returns c = search (needs, tests)
 
 returns-2 : tie.Need-returns-2
-unfolding awaits
+unfolding isAwaited
 returns-2 c = search (needs, tests)
 
 pub is-awaited-spec : {M : Type 1} → statement M

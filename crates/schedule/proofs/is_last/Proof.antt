@@ -1,6 +1,6 @@
 -- `schedule::is_last` meets its contract.
 use Rattle.unit.specs.Tests.{tests}
-use Rattle.device.specs.Event.{lastOne}
+use Rattle.device.specs.Event.{isLast}
 use borrow.Author.Needs.{needs}
 use Rattle.schedule.proofs.is_last.Statement.{statement}
 use Rattle.schedule.proofs.is_last.Tie as tie
@@ -9,15 +9,15 @@ add-if2 : tie.Need-add-if2
 add-if2 c = search needs
 
 returns : tie.Need-returns
-unfolding lastOne
+unfolding isLast
 returns c = search (needs, tests)
 
 returns-2 : tie.Need-returns-2
-unfolding lastOne
+unfolding isLast
 returns-2 c = search (needs, tests)
 
 returns-3 : tie.Need-returns-3
-unfolding lastOne
+unfolding isLast
 returns-3 c = search (needs, tests)
 
 pub is-last-spec : {M : Type 1} → statement M

@@ -1,5 +1,5 @@
 -- `schedule::start_event` meets its contract.
-use Rattle.device.specs.Event.{eventStart}
+use Rattle.device.specs.Event.{startEvent}
 use Rattle.unit.specs.Tests.{tests}
 use borrow.Author.Needs.{needs}
 use Rattle.schedule.proofs.start_event.Statement.{statement}
@@ -8,7 +8,7 @@ use Rattle.schedule.proofs.start_event.Reads as reads
 use Rattle.schedule.proofs.start_event.Lts as lts
 
 returns : tie.Need-returns
-unfolding eventStart
+unfolding startEvent
 returns c = search (needs, tests)
 
 pub start-event-spec : {M : Type 1} → statement M

@@ -1,12 +1,12 @@
 -- `schedule::start_single` meets its contract.
 use borrow.Author.Needs.{needs}
 use Rattle.unit.specs.Tests.{tests}
-use Rattle.device.specs.Event.{single}
+use Rattle.device.specs.Event.{startSingle}
 use Rattle.schedule.proofs.start_single.Statement.{statement}
 use Rattle.schedule.proofs.start_single.Tie as tie
 
 returns : tie.Need-returns
-unfolding single
+unfolding startSingle
 returns c = search (needs, tests)
 
 pub start-single-spec : {M : Type 1} → statement M

@@ -6,25 +6,25 @@ use Rattle.schedule.proofs.started_after.Statement.{statement}
 use Rattle.schedule.proofs.started_after.Tie as tie
 use Rattle.schedule.proofs.started_after.Reads as reads
 use Rattle.schedule.proofs.started_after.Lts as lts
-use Rattle.schedule.proofs.is_due.Reads as is-due-reads
+use Rattle.schedule.proofs.begins.Reads as begins-reads
 
-is-due-requires : tie.Need-is-due-requires
-is-due-requires c κs = search needs
+begins-requires : tie.Need-begins-requires
+begins-requires c κs = search needs
 
 add-result : tie.Need-add-result
 add-result c = search needs
 
 returns : tie.Need-returns
 unfolding startedAfter
-returns c = search (needs, tests, c .before .if2 .taken, c .before .before .before .if1 .taken, ← c .before .before .before .before .is-due .ensures)
+returns c = search (needs, tests, c .before .if2 .taken, c .before .before .before .if1 .taken, ← c .before .before .before .before .begins .ensures)
 
 returns-2 : tie.Need-returns-2
 unfolding startedAfter
-returns-2 c = search (needs, tests, c .if2 .left, c .before .before .if1 .taken, ← c .before .before .before .is-due .ensures)
+returns-2 c = search (needs, tests, c .if2 .left, c .before .before .if1 .taken, ← c .before .before .before .begins .ensures)
 
 returns-3 : tie.Need-returns-3
 unfolding startedAfter
-returns-3 c = search (needs, tests, c .if1 .left, ← c .before .is-due .ensures)
+returns-3 c = search (needs, tests, c .if1 .left, ← c .before .begins .ensures)
 
 pub started-after-spec : {M : Type 1} → statement M
-started-after-spec = tie.close (tie.spec is-due-requires add-result returns returns-2 returns-3)
+started-after-spec = tie.close (tie.spec begins-requires add-result returns returns-2 returns-3)

@@ -8,15 +8,15 @@ use Rattle.status.proofs.flight_bits.Tie as tie
 no-bits-requires : tie.Need-no-bits-requires
 no-bits-requires c κs = search needs
 
-shows-requires : tie.Need-shows-requires
-shows-requires c κs = search needs
+sets-own-bit-requires : tie.Need-sets-own-bit-requires
+sets-own-bit-requires c κs = search needs
 
 is-last-requires : tie.Need-is-last-requires
 is-last-requires c κs = search needs
 
 returns : tie.Need-returns
 unfolding flightBits noBits
-returns c = simp (← c .is-last .ensures, ← c .before .shows .ensures, c .before .before .if1 .taken, c .before .before .before .no-bits .ensures)
+returns c = simp (← c .is-last .ensures, ← c .before .sets-own-bit .ensures, c .before .before .if1 .taken, c .before .before .before .no-bits .ensures)
 
 returns-2 : tie.Need-returns-2
 unfolding flightBits
@@ -24,4 +24,4 @@ returns-2 c = simp (c .if1 .left, ← c .before .no-bits .ensures)
 
 pub flight-bits-spec : {M : Type 1} → statement M
 flight-bits-spec =
-    tie.close (tie.spec no-bits-requires shows-requires is-last-requires returns returns-2)
+    tie.close (tie.spec no-bits-requires sets-own-bit-requires is-last-requires returns returns-2)

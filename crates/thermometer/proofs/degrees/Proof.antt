@@ -2,24 +2,24 @@
 use Prim.Native.Nat.{ℕ}
 use mathlib.Core.Path.{refl, ap, _∙_}
 use mathlib.Core.List.{List}
-use Rattle.thermometer.specs.Degrees.{readingOver}
+use Rattle.thermometer.specs.Degrees.{degreesOver}
 use Rattle.thermometer.proofs.Pt1000.{passes, passed-same, passed-usable}
 use borrow.Author.Needs.{needs}
 use Rattle.thermometer.proofs.degrees.Statement.{statement}
 use Rattle.thermometer.proofs.degrees.Tie as tie
 
-slice-aggregate-read : tie.Need-slice-aggregate-read
-slice-aggregate-read c = search needs
+slice-aggregate-degrees-over : tie.Need-slice-aggregate-degrees-over
+slice-aggregate-degrees-over c = search needs
 
-read-requires : tie.Need-read-requires
+degrees-over-requires : tie.Need-degrees-over-requires
 unfolding passes
-read-requires c κs = passed-usable _ refl
+degrees-over-requires c κs = passed-usable _ refl
 
 returns : tie.Need-returns
 unfolding passes
 returns c =
     let at = c .before .before .args in
-    c .read .ensures ∙ ap (λ (t : List ℕ). readingOver t (at .probe) (at .reference)) (passed-same _ refl)
+    c .degrees-over .ensures ∙ ap (λ (t : List ℕ). degreesOver t (at .probe) (at .reference)) (passed-same _ refl)
 
 pub degrees-spec : {M : Type 1} → statement M
-degrees-spec = tie.close (tie.spec slice-aggregate-read read-requires returns)
+degrees-spec = tie.close (tie.spec slice-aggregate-degrees-over degrees-over-requires returns)

@@ -21,24 +21,24 @@ returns-4 : tie.Need-returns-4
 unfolding dateFits
 returns-4 c = search (needs, tests, c .if4 .taken, c .before .before .if3 .left, c .before .before .before .before .if2 .left, c .before .before .before .before .before .before .if1 .left)
 
-length-of-month-requires : tie.Need-length-of-month-requires
-length-of-month-requires c κs = search needs
+month-length-requires : tie.Need-month-length-requires
+month-length-requires c κs = search needs
 
 returns-5 : tie.Need-returns-5
 unfolding dateFits
-returns-5 c = search (needs, tests, c .if5 .taken, ← c .before .before .length-of-month .ensures, c .before .before .before .if4 .left, c .before .before .before .before .before .if3 .left, c .before .before .before .before .before .before .before .if2 .left, c .before .before .before .before .before .before .before .before .before .if1 .left)
+returns-5 c = search (needs, tests, c .if5 .taken, ← c .before .before .month-length .ensures, c .before .before .before .if4 .left, c .before .before .before .before .before .if3 .left, c .before .before .before .before .before .before .before .if2 .left, c .before .before .before .before .before .before .before .before .before .if1 .left)
 
 returns-6 : tie.Need-returns-6
 unfolding dateFits
-returns-6 c = search (needs, tests, c .if6 .taken, c .before .before .if5 .left, ← c .before .before .before .before .length-of-month .ensures, c .before .before .before .before .before .if4 .left, c .before .before .before .before .before .before .before .if3 .left, c .before .before .before .before .before .before .before .before .before .if2 .left, c .before .before .before .before .before .before .before .before .before .before .before .if1 .left)
+returns-6 c = search (needs, tests, c .if6 .taken, c .before .before .if5 .left, ← c .before .before .before .before .month-length .ensures, c .before .before .before .before .before .if4 .left, c .before .before .before .before .before .before .before .if3 .left, c .before .before .before .before .before .before .before .before .before .if2 .left, c .before .before .before .before .before .before .before .before .before .before .before .if1 .left)
 
 returns-7 : tie.Need-returns-7
 unfolding dateFits
-returns-7 c = search (needs, tests, c .if7 .taken, c .before .before .if6 .left, c .before .before .before .before .if5 .left, ← c .before .before .before .before .before .before .length-of-month .ensures, c .before .before .before .before .before .before .before .if4 .left, c .before .before .before .before .before .before .before .before .before .if3 .left, c .before .before .before .before .before .before .before .before .before .before .before .if2 .left, c .before .before .before .before .before .before .before .before .before .before .before .before .before .if1 .left)
+returns-7 c = search (needs, tests, c .if7 .taken, c .before .before .if6 .left, c .before .before .before .before .if5 .left, ← c .before .before .before .before .before .before .month-length .ensures, c .before .before .before .before .before .before .before .if4 .left, c .before .before .before .before .before .before .before .before .before .if3 .left, c .before .before .before .before .before .before .before .before .before .before .before .if2 .left, c .before .before .before .before .before .before .before .before .before .before .before .before .before .if1 .left)
 
 returns-8 : tie.Need-returns-8
 unfolding dateFits
-returns-8 c = search (needs, tests, c .if7 .left, c .before .before .if6 .left, c .before .before .before .before .if5 .left, ← c .before .before .before .before .before .before .length-of-month .ensures, c .before .before .before .before .before .before .before .if4 .left, c .before .before .before .before .before .before .before .before .before .if3 .left, c .before .before .before .before .before .before .before .before .before .before .before .if2 .left, c .before .before .before .before .before .before .before .before .before .before .before .before .before .if1 .left)
+returns-8 c = search (needs, tests, c .if7 .left, c .before .before .if6 .left, c .before .before .before .before .if5 .left, ← c .before .before .before .before .before .before .month-length .ensures, c .before .before .before .before .before .before .before .if4 .left, c .before .before .before .before .before .before .before .before .before .if3 .left, c .before .before .before .before .before .before .before .before .before .before .before .if2 .left, c .before .before .before .before .before .before .before .before .before .before .before .before .before .if1 .left)
 
 pub date-fits-spec : {M : Type 1} → statement M
 date-fits-spec =
@@ -48,7 +48,7 @@ date-fits-spec =
     returns-2
     returns-3
     returns-4
-    length-of-month-requires
+    month-length-requires
     returns-5
     returns-6
     returns-7

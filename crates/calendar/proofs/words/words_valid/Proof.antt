@@ -14,12 +14,12 @@ hour-fits-requires c κs = search needs
 clock-from-requires : tie.Need-clock-from-requires
 clock-from-requires c κs = search needs
 
-valid-requires : tie.Need-valid-requires
-valid-requires c κs = search needs
+clock-valid-requires : tie.Need-clock-valid-requires
+clock-valid-requires c κs = search needs
 
 returns : tie.Need-returns
 unfolding wordsValid
-returns c = search (needs, tests, ← c .valid .ensures, ← c .before .clock-from .ensures, c .before .before .if2 .taken, ← c .before .before .before .hour-fits .ensures, c .before .before .before .before .if1 .taken, ← c .before .before .before .before .before .digits-fit .ensures)
+returns c = search (needs, tests, ← c .clock-valid .ensures, ← c .before .clock-from .ensures, c .before .before .if2 .taken, ← c .before .before .before .hour-fits .ensures, c .before .before .before .before .if1 .taken, ← c .before .before .before .before .before .digits-fit .ensures)
 
 returns-2 : tie.Need-returns-2
 unfolding wordsValid
@@ -36,7 +36,7 @@ words-valid-spec =
     digits-fit-requires
     hour-fits-requires
     clock-from-requires
-    valid-requires
+    clock-valid-requires
     returns
     returns-2
     returns-3)

@@ -1,6 +1,6 @@
 -- `hit::words::four_words` meets its contract.
 use Rattle.unit.specs.Tests.{tests}
-use Rattle.hit.specs.Words.{four}
+use Rattle.hit.specs.Words.{fourWords}
 use borrow.Author.Needs.{needs}
 use Rattle.hit.proofs.words.four_words.Statement.{statement}
 use Rattle.hit.proofs.words.four_words.Tie as tie
@@ -18,7 +18,7 @@ word-or-zero-requires-4 : tie.Need-word-or-zero-requires-4
 word-or-zero-requires-4 c κs = search needs
 
 returns : tie.Need-returns
-unfolding four
+unfolding fourWords
 returns c = search (needs, tests)
 
 pub four-words-spec : {M : Type 1} → statement M

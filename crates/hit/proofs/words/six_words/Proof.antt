@@ -1,6 +1,6 @@
 -- `hit::words::six_words` meets its contract.
 use Rattle.unit.specs.Tests.{tests}
-use Rattle.hit.specs.Words.{six}
+use Rattle.hit.specs.Words.{sixWords}
 use borrow.Author.Needs.{needs}
 use Rattle.hit.proofs.words.six_words.Statement.{statement}
 use Rattle.hit.proofs.words.six_words.Tie as tie
@@ -24,7 +24,7 @@ word-or-zero-requires-6 : tie.Need-word-or-zero-requires-6
 word-or-zero-requires-6 c κs = search needs
 
 returns : tie.Need-returns
-unfolding six
+unfolding sixWords
 returns c = search (needs, tests, ← c .word-or-zero6 .ensures, ← c .before .word-or-zero5 .ensures, ← c .before .before .word-or-zero4 .ensures, ← c .before .before .before .word-or-zero3 .ensures, ← c .before .before .before .before .word-or-zero2 .ensures, ← c .before .before .before .before .before .word-or-zero .ensures)
 
 pub six-words-spec : {M : Type 1} → statement M

@@ -1,11 +1,11 @@
 -- `model::state::is_sound` meets its contract.
-use Rattle.device.specs.Model.{sound}
+use Rattle.device.specs.Model.{isSound}
 use borrow.Author.Needs.{needs}
 use Rattle.model.proofs.state.is_sound.Statement.{statement}
 use Rattle.model.proofs.state.is_sound.Tie as tie
 
-valid-requires : tie.Need-valid-requires
-valid-requires c κs = search needs
+clock-valid-requires : tie.Need-clock-valid-requires
+clock-valid-requires c κs = search needs
 
 flight-sound-requires : tie.Need-flight-sound-requires
 flight-sound-requires c κs = search needs
@@ -14,22 +14,22 @@ temperature-sound-requires : tie.Need-temperature-sound-requires
 temperature-sound-requires c κs = search needs
 
 returns : tie.Need-returns
-unfolding sound
-returns c = simp (← c .temperature-sound .ensures, c .before .if2 .taken, ← c .before .before .flight-sound .ensures, c .before .before .before .if1 .taken, ← c .before .before .before .before .valid .ensures)
+unfolding isSound
+returns c = simp (← c .temperature-sound .ensures, c .before .if2 .taken, ← c .before .before .flight-sound .ensures, c .before .before .before .if1 .taken, ← c .before .before .before .before .clock-valid .ensures)
 
 returns-2 : tie.Need-returns-2
-unfolding sound
-returns-2 c = simp (c .if2 .left, ← c .before .flight-sound .ensures, c .before .before .if1 .taken, ← c .before .before .before .valid .ensures)
+unfolding isSound
+returns-2 c = simp (c .if2 .left, ← c .before .flight-sound .ensures, c .before .before .if1 .taken, ← c .before .before .before .clock-valid .ensures)
 
 returns-3 : tie.Need-returns-3
-unfolding sound
-returns-3 c = simp (c .if1 .left, ← c .before .valid .ensures)
+unfolding isSound
+returns-3 c = simp (c .if1 .left, ← c .before .clock-valid .ensures)
 
 pub is-sound-spec : {M : Type 1} → statement M
 is-sound-spec =
     tie.close
     (tie.spec
-    valid-requires
+    clock-valid-requires
     flight-sound-requires
     temperature-sound-requires
     returns

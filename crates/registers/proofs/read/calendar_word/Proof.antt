@@ -5,29 +5,29 @@ use borrow.Author.Needs.{needs}
 use Rattle.registers.proofs.read.calendar_word.Statement.{statement}
 use Rattle.registers.proofs.read.calendar_word.Tie as tie
 
-seconds-word-requires : tie.Need-seconds-word-requires
-seconds-word-requires c κs = search needs
+word30-requires : tie.Need-word30-requires
+word30-requires c κs = search needs
 
 returns : tie.Need-returns
 unfolding calendarWord
 returns c = search (needs, tests)
 
-time-word-requires : tie.Need-time-word-requires
-time-word-requires c κs = search needs
+word31-requires : tie.Need-word31-requires
+word31-requires c κs = search needs
 
 returns-2 : tie.Need-returns-2
 unfolding calendarWord
 returns-2 c = search (needs, tests)
 
-date-word-requires : tie.Need-date-word-requires
-date-word-requires c κs = search needs
+word32-requires : tie.Need-word32-requires
+word32-requires c κs = search needs
 
 returns-3 : tie.Need-returns-3
 unfolding calendarWord
 returns-3 c = search (needs, tests)
 
-year-word-requires : tie.Need-year-word-requires
-year-word-requires c κs = search needs
+word33-requires : tie.Need-word33-requires
+word33-requires c κs = search needs
 
 returns-4 : tie.Need-returns-4
 unfolding calendarWord
@@ -37,11 +37,11 @@ pub calendar-word-spec : {M : Type 1} → statement M
 calendar-word-spec =
     tie.close
     (tie.spec
-    seconds-word-requires
+    word30-requires
     returns
-    time-word-requires
+    word31-requires
     returns-2
-    date-word-requires
+    word32-requires
     returns-3
-    year-word-requires
+    word33-requires
     returns-4)

@@ -7,7 +7,7 @@ use native.Mathlib.Omega.{arith}
 use mathlib.Core.Path.{_≡_, refl, _∙_, ap}
 use lib.ListN.{length, length-set}
 use borrow.Author.Needs.{needs}
-use Rattle.device.specs.Registers.{fill, putWord, registerWord}
+use Rattle.device.specs.Registers.{fillWords, putWord, registerWord}
 use Rattle.device.specs.declared.Model.{Model}
 use Rattle.registers.proofs.read.fill_words.Statement.{statement}
 use Rattle.registers.proofs.read.fill_words.Tie as tie
@@ -15,20 +15,20 @@ use Rattle.registers.proofs.read.fill_words.Tie as tie
 -- one word more
 filled :
     (m : Model) (a i w : ℕ) (start out : List ℕ) →
-    out ≡ fill m a start i →
+    out ≡ fillWords m a start i →
     w ≡ registerWord m (a + i) →
-    putWord out i w ≡ fill m a start (i + 1)
-unfolding fill
+    putWord out i w ≡ fillWords m a start (i + 1)
+unfolding fillWords
 filled m a i w start out e r = rw (add-one i) (cc)
 
 abbrev Inv-loop : tie.InvT-loop
-Inv-loop m a n out₀ i₀ out i = (i ≤ n) × (out ≡ fill m a out₀ i) × (length out ≡ length out₀)
+Inv-loop m a n out₀ i₀ out i = (i ≤ n) × (out ≡ fillWords m a out₀ i) × (length out ≡ length out₀)
 
 abbrev μ-loop : tie.MeasureT-loop
 μ-loop m a n out₀ i₀ out i = n - i
 
 loop-holds : tie.Need-loop-holds Inv-loop μ-loop
-unfolding fill
+unfolding fillWords
 loop-holds c = (omega arith, refl, refl)
 
 cast-register-word : tie.Need-cast-register-word Inv-loop μ-loop
@@ -85,7 +85,7 @@ returns c =
     let start = c .before .before .before .args in
     let head = c .before .loop in
     head .inv .1 ∙
-    ap (fill (start .m) (start .a) (now (start .out))) (omega arith)
+    ap (fillWords (start .m) (start .a) (now (start .out))) (omega arith)
 
 pub fill-words-spec : {M : Type 1} → statement M
 fill-words-spec =

@@ -17,15 +17,15 @@ mul-w c = search needs
 array-read-w : tie.Need-array-read-w
 array-read-w c = search needs
 
-sub-half-of : tie.Need-sub-half-of
-sub-half-of c = search needs
+sub-half : tie.Need-sub-half
+sub-half c = search needs
 
-half-of-requires : tie.Need-half-of-requires
-half-of-requires c κs = search needs
+half-requires : tie.Need-half-requires
+half-requires c κs = search needs
 
 returns : tie.Need-returns
 unfolding temperatureWord
-returns c = simp (← c .half-of .ensures, lt-ltb _ _ (c .before .if1 .taken))
+returns c = simp (← c .half .ensures, lt-ltb _ _ (c .before .if1 .taken))
 
 cast-result : tie.Need-cast-result
 cast-result c = search needs
@@ -52,15 +52,15 @@ cast-port-mean c = search needs
 port-mean-requires : tie.Need-port-mean-requires
 port-mean-requires c κs = search needs
 
-sub-half-of-2 : tie.Need-sub-half-of-2
-sub-half-of-2 c = search needs
+sub-half-2 : tie.Need-sub-half-2
+sub-half-2 c = search needs
 
-half-of-requires-2 : tie.Need-half-of-requires-2
-half-of-requires-2 c κs = search needs
+half-requires-2 : tie.Need-half-requires-2
+half-requires-2 c κs = search needs
 
 returns-3 : tie.Need-returns-3
 unfolding temperatureWord
-returns-3 c = simp (← c .half-of2 .ensures, ← c .before .port-mean .ensures, ne-eqb _ _ (c .before .before .before .if2 .left), le-ltb _ _ (c .before .before .before .before .if1 .left))
+returns-3 c = simp (← c .half2 .ensures, ← c .before .port-mean .ensures, ne-eqb _ _ (c .before .before .before .if2 .left), le-ltb _ _ (c .before .before .before .before .if1 .left))
 
 pub temperature-word-spec : {M : Type 1} → statement M
 temperature-word-spec =
@@ -70,8 +70,8 @@ temperature-word-spec =
     cast-w
     mul-w
     array-read-w
-    sub-half-of
-    half-of-requires
+    sub-half
+    half-requires
     returns
     cast-result
     returns-2
@@ -81,6 +81,6 @@ temperature-word-spec =
     array-read-sum
     cast-port-mean
     port-mean-requires
-    sub-half-of-2
-    half-of-requires-2
+    sub-half-2
+    half-requires-2
     returns-3)

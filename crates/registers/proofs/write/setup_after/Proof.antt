@@ -45,8 +45,8 @@ loop-holds : tie.Need-loop-holds Inv-loop μ-loop
 unfolding setupAfter
 loop-holds c = (omega arith, refl)
 
-word-requires : tie.Need-word-requires Inv-loop μ-loop
-word-requires c κs = search needs
+word-at-requires : tie.Need-word-at-requires Inv-loop μ-loop
+word-at-requires c κs = search needs
 
 cast-w : tie.Need-cast-w Inv-loop μ-loop
 cast-w c = search needs
@@ -73,8 +73,8 @@ loop-again c =
       omega arith,
       ⊎-elim
           (λ w.
-          extended (now (start .words)) (start .op) (head .i) (c .before .word .result) (start .setup) (head .s) (c .if1 .s)
-          (head .inv .1) (c .before .word .ensures .0) (w .0 .taken) (w .1))
+          extended (now (start .words)) (start .op) (head .i) (c .before .word-at .result) (start .setup) (head .s) (c .if1 .s)
+          (head .inv .1) (c .before .word-at .ensures .0) (w .0 .taken) (w .1))
           (λ w. passed (now (start .words)) (start .op) (head .i) (start .setup) (head .s) (c .if1 .s) (head .inv .1) (w .0 .left) (w .1))
           (c .if1 .came),
     )
@@ -91,7 +91,7 @@ setup-after-spec =
     Inv-loop
     μ-loop
     loop-holds
-    word-requires
+    word-at-requires
     cast-w
     add-a
     mul-s

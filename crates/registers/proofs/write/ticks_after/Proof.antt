@@ -15,18 +15,18 @@ cast-if2 c = search needs
 add-if2 : tie.Need-add-if2
 add-if2 c = search needs
 
-cast-word : tie.Need-cast-word
-cast-word c = search needs
+cast-word-at : tie.Need-cast-word-at
+cast-word-at c = search needs
 
-word-requires : tie.Need-word-requires
-word-requires c κs = search needs
+word-at-requires : tie.Need-word-at-requires
+word-at-requires c κs = search needs
 
 ticks-in-requires : tie.Need-ticks-in-requires
 ticks-in-requires c κs = search needs
 
 returns-2 : tie.Need-returns-2
 unfolding ticksAfter covers
-returns-2 c = simp (← c .ticks-in .ensures, ← c .before .word .ensures .0, lt-ltb _ _ (c .before .before .if2 .taken), le-ltb _ _ (c .before .before .before .if1 .left))
+returns-2 c = simp (← c .ticks-in .ensures, ← c .before .word-at .ensures .0, lt-ltb _ _ (c .before .before .if2 .taken), le-ltb _ _ (c .before .before .before .if1 .left))
 
 returns-3 : tie.Need-returns-3
 unfolding ticksAfter covers
@@ -39,8 +39,8 @@ ticks-after-spec =
     returns
     cast-if2
     add-if2
-    cast-word
-    word-requires
+    cast-word-at
+    word-at-requires
     ticks-in-requires
     returns-2
     returns-3)

@@ -15,26 +15,26 @@ returns c = c .alarm-invalid .ensures ∙ sym (judged-by-alarm _ _ _ _ (c .befor
 calendar-word-requires : tie.Need-calendar-word-requires
 calendar-word-requires c κs = search needs
 
-word-after-requires : tie.Need-word-after-requires
-word-after-requires c κs = search needs
+written-requires : tie.Need-written-requires
+written-requires c κs = search needs
 
 calendar-word-requires-2 : tie.Need-calendar-word-requires-2
 calendar-word-requires-2 c κs = search needs
 
-word-after-requires-2 : tie.Need-word-after-requires-2
-word-after-requires-2 c κs = search needs
+written-requires-2 : tie.Need-written-requires-2
+written-requires-2 c κs = search needs
 
 calendar-word-requires-3 : tie.Need-calendar-word-requires-3
 calendar-word-requires-3 c κs = search needs
 
-word-after-requires-3 : tie.Need-word-after-requires-3
-word-after-requires-3 c κs = search needs
+written-requires-3 : tie.Need-written-requires-3
+written-requires-3 c κs = search needs
 
 calendar-word-requires-4 : tie.Need-calendar-word-requires-4
 calendar-word-requires-4 c κs = search needs
 
-word-after-requires-4 : tie.Need-word-after-requires-4
-word-after-requires-4 c κs = search needs
+written-requires-4 : tie.Need-written-requires-4
+written-requires-4 c κs = search needs
 
 ticks-after-requires : tie.Need-ticks-after-requires
 ticks-after-requires c κs = search needs
@@ -47,11 +47,11 @@ alarm-invalid-requires-2 c κs = search needs
 
 returns-2 : tie.Need-returns-2
 unfolding writeInvalid
-returns-2 c = simp (← c .alarm-invalid2 .ensures, c .before .if2 .taken, ← c .before .before .words-valid .ensures, ← c .before .before .before .ticks-after .ensures, ← c .before .before .before .before .word-after4 .ensures, ← c .before .before .before .before .before .calendar-word4 .ensures, ← c .before .before .before .before .before .before .word-after3 .ensures, ← c .before .before .before .before .before .before .before .calendar-word3 .ensures, ← c .before .before .before .before .before .before .before .before .word-after2 .ensures, ← c .before .before .before .before .before .before .before .before .before .calendar-word2 .ensures, ← c .before .before .before .before .before .before .before .before .before .before .word-after .ensures, ← c .before .before .before .before .before .before .before .before .before .before .before .calendar-word .ensures)
+returns-2 c = simp (← c .alarm-invalid2 .ensures, c .before .if2 .taken, ← c .before .before .words-valid .ensures, ← c .before .before .before .ticks-after .ensures, ← c .before .before .before .before .written4 .ensures, ← c .before .before .before .before .before .calendar-word4 .ensures, ← c .before .before .before .before .before .before .written3 .ensures, ← c .before .before .before .before .before .before .before .calendar-word3 .ensures, ← c .before .before .before .before .before .before .before .before .written2 .ensures, ← c .before .before .before .before .before .before .before .before .before .calendar-word2 .ensures, ← c .before .before .before .before .before .before .before .before .before .before .written .ensures, ← c .before .before .before .before .before .before .before .before .before .before .before .calendar-word .ensures)
 
 returns-3 : tie.Need-returns-3
 unfolding writeInvalid
-returns-3 c = simp (c .if2 .left, ← c .before .words-valid .ensures, ← c .before .before .ticks-after .ensures, ← c .before .before .before .word-after4 .ensures, ← c .before .before .before .before .calendar-word4 .ensures, ← c .before .before .before .before .before .word-after3 .ensures, ← c .before .before .before .before .before .before .calendar-word3 .ensures, ← c .before .before .before .before .before .before .before .word-after2 .ensures, ← c .before .before .before .before .before .before .before .before .calendar-word2 .ensures, ← c .before .before .before .before .before .before .before .before .before .word-after .ensures, ← c .before .before .before .before .before .before .before .before .before .before .calendar-word .ensures)
+returns-3 c = simp (c .if2 .left, ← c .before .words-valid .ensures, ← c .before .before .ticks-after .ensures, ← c .before .before .before .written4 .ensures, ← c .before .before .before .before .calendar-word4 .ensures, ← c .before .before .before .before .before .written3 .ensures, ← c .before .before .before .before .before .before .calendar-word3 .ensures, ← c .before .before .before .before .before .before .before .written2 .ensures, ← c .before .before .before .before .before .before .before .before .calendar-word2 .ensures, ← c .before .before .before .before .before .before .before .before .before .written .ensures, ← c .before .before .before .before .before .before .before .before .before .before .calendar-word .ensures)
 
 pub write-invalid-spec : {M : Type 1} → statement M
 write-invalid-spec =
@@ -60,13 +60,13 @@ write-invalid-spec =
     alarm-invalid-requires
     returns
     calendar-word-requires
-    word-after-requires
+    written-requires
     calendar-word-requires-2
-    word-after-requires-2
+    written-requires-2
     calendar-word-requires-3
-    word-after-requires-3
+    written-requires-3
     calendar-word-requires-4
-    word-after-requires-4
+    written-requires-4
     ticks-after-requires
     words-valid-requires
     alarm-invalid-requires-2

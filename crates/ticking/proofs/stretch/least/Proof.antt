@@ -1,6 +1,6 @@
 -- `ticking::stretch::least` meets its contract.
 use Rattle.unit.specs.Tests.{tests}
-use Rattle.device.specs.Stretch.{least}
+use Rattle.device.specs.StretchSteps.{least}
 use borrow.Author.Needs.{needs}
 use Rattle.ticking.proofs.stretch.least.Statement.{statement}
 use Rattle.ticking.proofs.stretch.least.Tie as tie

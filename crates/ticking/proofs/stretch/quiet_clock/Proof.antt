@@ -1,5 +1,5 @@
 -- `ticking::stretch::quiet_clock` meets its contract.
-use Rattle.device.specs.Stretch.{quietClock}
+use Rattle.device.specs.StretchSteps.{quietClock}
 use borrow.Author.Needs.{needs}
 use Rattle.ticking.proofs.stretch.quiet_clock.Statement.{statement}
 use Rattle.ticking.proofs.stretch.quiet_clock.Tie as tie

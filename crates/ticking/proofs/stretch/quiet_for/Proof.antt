@@ -1,5 +1,5 @@
 -- `ticking::stretch::quiet_for` meets its contract.
-use Rattle.device.specs.Stretch.{quietFor}
+use Rattle.device.specs.StretchSteps.{quietFor}
 use borrow.Author.Needs.{needs}
 use Rattle.ticking.proofs.stretch.quiet_for.Statement.{statement}
 use Rattle.ticking.proofs.stretch.quiet_for.Tie as tie

@@ -1,6 +1,6 @@
 -- `ticking::stretch::quiet_left` meets its contract.
 use Rattle.unit.specs.Tests.{tests}
-use Rattle.device.specs.Stretch.{quietLeft}
+use Rattle.device.specs.StretchSteps.{quietLeft}
 use borrow.Author.Needs.{needs}
 use Rattle.ticking.proofs.stretch.quiet_left.Statement.{statement}
 use Rattle.ticking.proofs.stretch.quiet_left.Tie as tie

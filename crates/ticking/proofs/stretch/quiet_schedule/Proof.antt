@@ -1,5 +1,5 @@
 -- `ticking::stretch::quiet_schedule` meets its contract.
-use Rattle.device.specs.Stretch.{quietSchedule}
+use Rattle.device.specs.StretchSteps.{quietSchedule}
 use borrow.Author.Needs.{needs}
 use Rattle.ticking.proofs.stretch.quiet_schedule.Statement.{statement}
 use Rattle.ticking.proofs.stretch.quiet_schedule.Tie as tie

@@ -2,7 +2,7 @@
 use Prim.Native.Nat.{_-_, _≤_}
 use native.Mathlib.Omega.{arith}
 use mathlib.Core.Path.{_≡_}
-use Rattle.device.specs.Stretch.{progress}
+use Rattle.device.specs.StretchSteps.{progress}
 use Rattle.device.proofs.Quiet.{loop-keeps, loop-starts, loop-ends}
 use borrow.Author.Needs.{needs}
 use Rattle.ticking.proofs.stretch.run.Statement.{statement}
@@ -29,20 +29,20 @@ begin-requires c κs = search needs
 loop-holds : tie.Need-loop-holds Inv-loop μ-loop
 loop-holds c = let (e, z) = loop-starts _ _ (c .begin .ensures) in (e, omega (arith, z))
 
-sub-move-on : tie.Need-sub-move-on Inv-loop μ-loop
-sub-move-on c = search needs
+sub-moved : tie.Need-sub-moved Inv-loop μ-loop
+sub-moved c = search needs
 
-move-on-requires : tie.Need-move-on-requires Inv-loop μ-loop
-move-on-requires c κs = search needs
+moved-requires : tie.Need-moved-requires Inv-loop μ-loop
+moved-requires c κs = search needs
 
 loop-less : tie.Need-loop-less Inv-loop μ-loop
 loop-less c =
-    let k = loop-keeps _ _ _ _ (c .before .before .before .before .loop .inv .0) (c .before .before .if2 .taken) (c .move-on .ensures) in
+    let k = loop-keeps _ _ _ _ (c .before .before .before .before .loop .inv .0) (c .before .before .if2 .taken) (c .moved .ensures) in
     omega (arith, k .farther, k .within)
 
 loop-again : tie.Need-loop-again Inv-loop μ-loop
 loop-again c =
-    let k = loop-keeps _ _ _ _ (c .before .before .before .before .loop .inv .0) (c .before .before .if2 .taken) (c .move-on .ensures) in
+    let k = loop-keeps _ _ _ _ (c .before .before .before .before .loop .inv .0) (c .before .before .if2 .taken) (c .moved .ensures) in
     (k .progressed, k .within)
 
 returns-2 : tie.Need-returns-2 Inv-loop μ-loop
@@ -59,8 +59,8 @@ run-spec =
     returns
     begin-requires
     loop-holds
-    sub-move-on
-    move-on-requires
+    sub-moved
+    moved-requires
     loop-less
     loop-again
     returns-2)

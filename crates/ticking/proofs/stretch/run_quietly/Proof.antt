@@ -2,7 +2,8 @@
 use native.Mathlib.Omega.{arith}
 use mathlib.Core.Path.{_≡_, ap}
 use Rattle.device.specs.declared.Progress.{Progress}
-use Rattle.device.specs.Stretch.{progress, ticked}
+use Rattle.device.specs.StretchSteps.{progress}
+use Rattle.device.specs.Stretch.{modelTicked}
 use Rattle.device.proofs.Quiet.{quiet-run, quiet-fits}
 use borrow.Author.Needs.{needs}
 use Rattle.ticking.proofs.stretch.run_quietly.Statement.{statement}
@@ -11,9 +12,9 @@ use Rattle.ticking.proofs.stretch.run_quietly.Tie as tie
 begin-requires : tie.Need-begin-requires
 begin-requires c κs = search needs
 
-move-quietly-requires : tie.Need-move-quietly-requires
-unfolding progress ticked
-move-quietly-requires c κs =
+moved-quietly-requires : tie.Need-moved-quietly-requires
+unfolding progress modelTicked
+moved-quietly-requires c κs =
     let m = c .before .args .m in
     let n = c .before .args .n in
     let e = c .begin .ensures in
@@ -22,7 +23,7 @@ move-quietly-requires c κs =
     (rw model (quiet-fits m n (c .before .pre .0)), omega (arith, done, c .before .pre .1))
 
 returns : tie.Need-returns
-returns c = simp (c .move-quietly .ensures, c .before .begin .ensures, quiet-run _ _ (c .before .before .pre .0))
+returns c = simp (c .moved-quietly .ensures, c .before .begin .ensures, quiet-run _ _ (c .before .before .pre .0))
 
 pub run-quietly-spec : {M : Type 1} → statement M
-run-quietly-spec = tie.close (tie.spec begin-requires move-quietly-requires returns)
+run-quietly-spec = tie.close (tie.spec begin-requires moved-quietly-requires returns)

@@ -11,12 +11,12 @@ returns : tie.Need-returns
 unfolding clockTicked
 returns c = simp (c .if1 .taken, ← c .before .clock-stands .ensures)
 
-tick-requires : tie.Need-tick-requires
-tick-requires c κs = search needs
+tick-clock-requires : tie.Need-tick-clock-requires
+tick-clock-requires c κs = search needs
 
 returns-2 : tie.Need-returns-2
 unfolding clockTicked
-returns-2 c = simp (← c .tick .ensures, c .before .if1 .left, ← c .before .before .clock-stands .ensures)
+returns-2 c = simp (← c .tick-clock .ensures, c .before .if1 .left, ← c .before .before .clock-stands .ensures)
 
 pub clock-ticked-spec : {M : Type 1} → statement M
-clock-ticked-spec = tie.close (tie.spec clock-stands-requires returns tick-requires returns-2)
+clock-ticked-spec = tie.close (tie.spec clock-stands-requires returns tick-clock-requires returns-2)

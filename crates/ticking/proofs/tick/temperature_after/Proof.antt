@@ -10,19 +10,19 @@ tick-schedule-requires c κs = search needs
 sums-after-requires : tie.Need-sums-after-requires
 sums-after-requires c κs = search needs
 
-expires-requires : tie.Need-expires-requires
-expires-requires c κs = search needs
+fails-requires : tie.Need-fails-requires
+fails-requires c κs = search needs
 
-lost-four-requires : tie.Need-lost-four-requires
-lost-four-requires c κs = search needs
+failed-ports-requires : tie.Need-failed-ports-requires
+failed-ports-requires c κs = search needs
 
 returns : tie.Need-returns
 unfolding temperatureAfter
-returns c = simp (← c .lost-four .ensures, c .before .if1 .taken, ← c .before .before .expires .ensures, ← c .before .before .before .sums-after .ensures, ← c .before .before .before .before .tick-schedule .ensures)
+returns c = simp (← c .failed-ports .ensures, c .before .if1 .taken, ← c .before .before .fails .ensures, ← c .before .before .before .sums-after .ensures, ← c .before .before .before .before .tick-schedule .ensures)
 
 returns-2 : tie.Need-returns-2
 unfolding temperatureAfter
-returns-2 c = simp (c .if1 .left, ← c .before .expires .ensures, ← c .before .before .sums-after .ensures, ← c .before .before .before .tick-schedule .ensures)
+returns-2 c = simp (c .if1 .left, ← c .before .fails .ensures, ← c .before .before .sums-after .ensures, ← c .before .before .before .tick-schedule .ensures)
 
 pub temperature-after-spec : {M : Type 1} → statement M
 temperature-after-spec =
@@ -30,7 +30,7 @@ temperature-after-spec =
     (tie.spec
     tick-schedule-requires
     sums-after-requires
-    expires-requires
-    lost-four-requires
+    fails-requires
+    failed-ports-requires
     returns
     returns-2)

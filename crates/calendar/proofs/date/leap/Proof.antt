@@ -1,0 +1,17 @@
+-- `calendar::date::leap` meets its contract.
+use borrow.Author.Needs.{needs}
+use Rattle.unit.specs.Tests.{tests}
+use Rattle.calendar.specs.Calendar.{leap}
+use Rattle.calendar.proofs.date.leap.Statement.{statement}
+use Rattle.calendar.proofs.date.leap.Tie as tie
+
+returns : tie.Need-returns
+unfolding leap
+returns c = search (needs, tests)
+
+returns-2 : tie.Need-returns-2
+unfolding leap
+returns-2 c = search (needs, tests)
+
+pub leap-spec : {M : Type 1} → statement M
+leap-spec = tie.close (tie.spec returns returns-2)

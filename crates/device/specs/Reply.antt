@@ -1,0 +1,125 @@
+-- What each call answers and leaves: of an accepted one the answer, the next model, the output and the memory; of a refused one its
+-- number and nothing else.
+use Prim.Native.Nat.{ℕ}
+use mathlib.Core.Bool.{Bool, false}
+use mathlib.Core.List.{List, [], _∷_}
+use lib.ListN.{drop}
+use Rattle.unit.specs.Choice.{pick, either}
+use Rattle.setup.specs.Setup.{hitCount, timeout, portCycle}
+use Rattle.hit.specs.Limit.{lateFrom, openFrom, anyFrom, anyFault}
+use Rattle.hit.specs.Words.{sixWords, fourWords}
+use Rattle.device.specs.declared.Model.{Model}
+use Rattle.device.specs.declared.Reply.{Reply}
+use Rattle.device.specs.declared.Answer.{Answer}
+use Rattle.device.specs.declared.Answer.the-variants.{Refused, Accepted, Ticked, Stretched, Good, Failed}
+use Rattle.device.specs.Registers.{fillWords}
+use Rattle.device.specs.Write.{writeModel}
+use Rattle.device.specs.Tick.{tickModel, reportOf}
+use Rattle.device.specs.Stretch.{modelTicked, stretchReport}
+use Rattle.device.specs.Delivery.{goodFlightModel, failedFlightModel, goodTemperatureModel, failedTemperatureModel}
+use Rattle.device.specs.FlashFrame.{flashModel, flashOutput, flashMemory}
+use Rattle.device.specs.Bus.{startsFlight, startsTemperature, runModel, readModel}
+use Rattle.device.specs.Call.{Call, opcode, words, bySort, Verdict, verdict, transaction, tick, flight, temperature, stretch, accepted, refused}
+
+-- What an accepted call answers: "An accepted transaction answers the kinds that it started, none for a read, a write or
+-- another command." "A delivery's answer says good or failed; a tick's answer says for each kind whether one started and
+-- whether one failed in it." A stretch's answer names the ticks (Note 1).
+unfoldable pub anyLate : Model → List ℕ → List ℕ → Bool
+anyLate m u d = either (anyFrom (lateFrom (timeout (m .setup))) u) (anyFrom (lateFrom (timeout (m .setup))) d)
+
+unfoldable pub anyOpen : Model → List ℕ → Bool
+anyOpen m w = anyFrom (openFrom (portCycle (m .setup))) w
+
+-- "A word below 32 × 65,536 .. and the cycle counts as failed" (Note 3)
+unfoldable pub portFault : Model → List ℕ → Bool
+portFault m w = anyFault (openFrom (portCycle (m .setup))) w
+
+unfoldable pub acceptedAnswer : Model → Call → Answer
+acceptedAnswer m (transaction f o x) =
+    bySort f (Accepted (startsFlight (opcode f)) (startsTemperature (opcode f))) (Accepted false false) (Accepted false false)
+    (Accepted false false)
+acceptedAnswer m tick = Ticked (reportOf (m .flight .schedule)) (reportOf (m .temperature .schedule))
+acceptedAnswer m (flight u d) = pick (anyLate m u d) Failed Good
+acceptedAnswer m (temperature w) = pick (portFault m w) Failed Good
+acceptedAnswer m (stretch n) =
+    Stretched (stretchReport (m .flight .schedule) n) (stretchReport (m .temperature .schedule) n)
+
+-- The model that an accepted call leaves.
+unfoldable pub acceptedModel : Model → Call → Model
+acceptedModel m (transaction f o x) =
+    bySort f (runModel m (opcode f)) (writeModel (drop 1 f) (opcode f) (words f) m) (flashModel m (opcode f))
+    (readModel m (opcode f) (words f))
+acceptedModel m tick = tickModel m
+acceptedModel m (flight u d) =
+    pick (anyLate m u d) (failedFlightModel m) (goodFlightModel m (hitCount (m .setup)) (sixWords u) (sixWords d))
+acceptedModel m (temperature w) =
+    pick (portFault m w) (failedTemperatureModel m (openFrom (portCycle (m .setup))) (anyOpen m w) (fourWords w))
+    (goodTemperatureModel m (fourWords w))
+acceptedModel m (stretch n) = modelTicked n m
+
+-- The output buffer that an accepted transaction leaves.
+unfoldable pub acceptedOutput : Model → Call → List ℕ
+acceptedOutput m (transaction f o x) =
+    bySort f o o (flashOutput (opcode f) (drop 1 f) o x) (fillWords m (opcode f) o (words f))
+acceptedOutput m tick = []
+acceptedOutput m (flight u d) = []
+acceptedOutput m (temperature w) = []
+acceptedOutput m (stretch n) = []
+
+-- The user flash that an accepted transaction leaves: "Every byte outside the word or block keeps its value, and a refusal or any
+-- other frame leaves the whole memory as it was." (Note 8)
+unfoldable pub acceptedMemory : Call → List ℕ
+acceptedMemory (transaction f o x) = bySort f x x (flashMemory (opcode f) (drop 1 f) x) x
+acceptedMemory tick = []
+acceptedMemory (flight u d) = []
+acceptedMemory (temperature w) = []
+acceptedMemory (stretch n) = []
+
+-- "A refusal answers its number; model and output buffer keep every value."
+abbrev pub refuse : ℕ → Model → Reply
+refuse n m = record { answer = Refused n; model = m }
+
+unfoldable pub replyBy : Verdict → Model → Call → Reply
+replyBy accepted m c = record { answer = acceptedAnswer m c; model = acceptedModel m c }
+replyBy (refused n) m c = refuse n m
+
+unfoldable pub reply : Model → Call → Reply
+reply m c = replyBy (verdict m c) m c
+
+-- What each answer says in 01's terms: its number where it is a refusal, the kinds started by a transaction, what a tick
+-- reports, good or failed.
+unfoldable pub numberIn : Answer → List ℕ
+numberIn (Refused n) = n ∷ []
+numberIn (Accepted f t) = []
+numberIn (Ticked f t) = []
+numberIn (Stretched f t) = []
+numberIn Good = []
+numberIn Failed = []
+
+unfoldable pub bufferOf : Call → List ℕ
+bufferOf (transaction f o x) = o
+bufferOf tick = []
+bufferOf (flight u d) = []
+bufferOf (temperature w) = []
+bufferOf (stretch n) = []
+
+unfoldable pub outputBy : Verdict → Model → Call → List ℕ
+outputBy accepted m c = acceptedOutput m c
+outputBy (refused n) m c = bufferOf c
+
+unfoldable pub output : Model → Call → List ℕ
+output m c = outputBy (verdict m c) m c
+
+unfoldable pub memoryOf : Call → List ℕ
+memoryOf (transaction f o x) = x
+memoryOf tick = []
+memoryOf (flight u d) = []
+memoryOf (temperature w) = []
+memoryOf (stretch n) = []
+
+unfoldable pub memoryBy : Verdict → Call → List ℕ
+memoryBy accepted c = acceptedMemory c
+memoryBy (refused n) c = memoryOf c
+
+unfoldable pub memory : Model → Call → List ℕ
+memory m c = memoryBy (verdict m c) c

@@ -1,0 +1,52 @@
+-- `frame::word_at` meets its contract.
+use Rattle.unit.specs.Tests.{tests}
+use Rattle.frame.specs.Frame.{wordAt}
+use borrow.Author.Needs.{needs}
+use Rattle.frame.proofs.word_at.Statement.{statement}
+use Rattle.frame.proofs.word_at.Tie as tie
+
+mul-byte : tie.Need-mul-byte
+mul-byte c = search needs
+
+shared-slice-read-byte : tie.Need-shared-slice-read-byte
+shared-slice-read-byte c = search needs
+
+byte-requires : tie.Need-byte-requires
+byte-requires c κs = search needs
+
+mul-result : tie.Need-mul-result
+mul-result c = search needs
+
+mul-byte-2 : tie.Need-mul-byte-2
+mul-byte-2 c = search needs
+
+add-byte : tie.Need-add-byte
+add-byte c = search needs
+
+shared-slice-read-byte-2 : tie.Need-shared-slice-read-byte-2
+shared-slice-read-byte-2 c = search needs
+
+byte-requires-2 : tie.Need-byte-requires-2
+byte-requires-2 c κs = search needs
+
+add-result : tie.Need-add-result
+add-result c = search needs
+
+returns : tie.Need-returns
+unfolding wordAt
+returns c = search (needs, tests)
+
+pub word-at-spec : {M : Type 1} → statement M
+word-at-spec =
+    tie.close
+    (tie.spec
+    mul-byte
+    shared-slice-read-byte
+    byte-requires
+    mul-result
+    mul-byte-2
+    add-byte
+    shared-slice-read-byte-2
+    byte-requires-2
+    add-result
+    returns)

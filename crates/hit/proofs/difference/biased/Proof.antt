@@ -1,0 +1,19 @@
+-- `hit::difference::biased` meets its contract.
+use Rattle.unit.specs.Tests.{tests}
+use Rattle.hit.specs.Difference.{biased}
+use borrow.Author.Needs.{needs}
+use Rattle.hit.proofs.difference.biased.Statement.{statement}
+use Rattle.hit.proofs.difference.biased.Tie as tie
+
+add-result : tie.Need-add-result
+add-result c = search needs
+
+sub-result : tie.Need-sub-result
+sub-result c = search needs
+
+returns : tie.Need-returns
+unfolding biased
+returns c = search (needs, tests)
+
+pub biased-spec : {M : Type 1} → statement M
+biased-spec = tie.close (tie.spec add-result sub-result returns)

@@ -1,0 +1,13 @@
+-- `hit::words::failed_ports` meets its contract.
+use borrow.Author.Needs.{needs}
+use Rattle.unit.specs.Tests.{tests}
+use Rattle.hit.specs.Words.{failedPorts}
+use Rattle.hit.proofs.words.failed_ports.Statement.{statement}
+use Rattle.hit.proofs.words.failed_ports.Tie as tie
+
+returns : tie.Need-returns
+unfolding failedPorts
+returns c = search (needs, tests)
+
+pub failed-ports-spec : {M : Type 1} → statement M
+failed-ports-spec = tie.close (tie.spec returns)

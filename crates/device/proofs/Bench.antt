@@ -12,7 +12,8 @@ use Rattle.device.specs.Event.{noSchedule, startSingle, startEvent, isAw
 use Rattle.device.specs.Event.{leftAfter, waitAfter, startedAfter, settledAfter, goodAfter}
 use Rattle.device.specs.Model.{freshModel, freshWith, noFlight}
 use Rattle.device.specs.Registers.{half, flightWord, registerWord}
-use Rattle.device.specs.Delivery.{goodDifference, goodSum, goodFlight, goodFlightModel}
+use Rattle.device.specs.Results.{goodDifference, goodSum, goodFlight}
+use Rattle.device.specs.Delivery.{goodFlightModel}
 use Rattle.device.specs.Bus.{startsFlight, flightStarted, flightEvent, eventFlight, startedEvent, singleStarted}
 use Rattle.device.specs.Bench.{Example, bench, modelTicked, startTicks}
 

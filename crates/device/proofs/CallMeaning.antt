@@ -21,7 +21,8 @@ use Rattle.device.specs.Event.{isAwaited, beginsGroup, fails as expires,
 use Rattle.device.specs.declared.Status.{Status}
 use Rattle.device.specs.Status.{noBits, joined, alarmBit, flightBits, temperatureBits}
 use Rattle.device.specs.Model.{isSound}
-use Rattle.device.specs.Tick.{failedDifference, failedFlight, sumAfter, sumsAfter, flightTicked, flightAfter, temperatureAfter, clockTicked, tickRings, tickStatus, tickModel}
+use Rattle.device.specs.Results.{failedDifference, failedFlight}
+use Rattle.device.specs.Tick.{sumAfter, sumsAfter, flightTicked, flightAfter, temperatureAfter, clockTicked, tickRings, tickStatus, tickModel}
 use Rattle.device.specs.Delivery.{sameCount, flightMiscounted, flightStatus, failedFlightModel, temperatureStatus, failedTemperatureModel}
 use Rattle.device.specs.Bus.{flightStarted, flightEvent}
 use Rattle.device.proofs.Sound.{bounds-of, fails-alone}

@@ -20,11 +20,12 @@ use Rattle.hit.proofs.Meaning.{short-not-open, whole-means}
 use Rattle.device.specs.declared.Flight.{Flight}
 use Rattle.device.specs.declared.Model.{Model}
 use Rattle.device.specs.Registers.{half, flightWord, registerWord, upwards}
-use Rattle.device.specs.Tick.{failedDifference, failedFlight}
+use Rattle.device.specs.Results.{failedDifference, failedFlight}
 use Rattle.device.specs.declared.Answer.the-variants.{Good}
 use Rattle.device.specs.Event.{settle}
 use Rattle.device.specs.Status.{joined, temperatureBits}
-use Rattle.device.specs.Delivery.{goodDifference, goodFlight, failedFlightModel, temperatureStatus, goodTemperatureModel, failedTemperatureModel}
+use Rattle.device.specs.Results.{goodDifference, goodFlight}
+use Rattle.device.specs.Delivery.{failedFlightModel, temperatureStatus, goodTemperatureModel, failedTemperatureModel}
 use Rattle.device.specs.Call.{temperature, miscounted}
 use Rattle.device.specs.Reply.{anyOpen, portFault, acceptedAnswer, acceptedModel}
 use Rattle.device.specs.Claim.{Holds, Whole}

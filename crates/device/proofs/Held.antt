@@ -28,9 +28,11 @@ use Rattle.device.specs.declared.Reply.{Reply}
 use Rattle.device.specs.declared.Answer.the-variants.{Refused}
 use Rattle.device.specs.Event.{begins, beginsGroup, fails, settle}
 use Rattle.device.specs.Registers.{half, flightWord, temperatureWord, registerWord}
-use Rattle.device.specs.Tick.{sumAfter, sumsAfter, failedFlight, flightTicked, flightAfter, temperatureAfter, tickModel, reportOf}
+use Rattle.device.specs.Tick.{sumAfter, sumsAfter, flightTicked, flightAfter, temperatureAfter, tickModel, reportOf}
+use Rattle.device.specs.Results.{failedFlight}
 use Rattle.device.specs.Stretch.{modelTicked, scheduleTicked, lastTick, stretchReport}
-use Rattle.device.specs.Delivery.{sameCount, flightMiscounted, goodSum, goodFlight, goodSums, goodFlightModel, failedFlightModel, goodTemperatureModel, failedTemperatureModel}
+use Rattle.device.specs.Delivery.{sameCount, flightMiscounted, goodFlightModel, failedFlightModel, goodTemperatureModel, failedTemperatureModel}
+use Rattle.device.specs.Results.{goodSum, goodFlight, goodSums}
 use Rattle.device.specs.Call.{Call, flight, temperature, notAwaited, miscounted}
 use Rattle.device.specs.Reply.{anyLate, portFault}
 use Rattle.device.specs.History.{Kind, differences, temperatures, periodOf, countOf, Plan, planOf, History, opensGroup, noteTick, noteGood, noteFailed, note}

@@ -32,9 +32,11 @@ use Rattle.device.specs.declared.Temperature.{Temperature}
 use Rattle.device.specs.declared.Model.{Model}
 use Rattle.device.specs.Model.{isSound, isBusy, kindBusy, flightSound, temperatureSound, sumFits, freshWith, freshModel, resetModel, noFlight, noTemperature}
 use Rattle.device.specs.Write.{clockAfter, writeInvalid, writeModel}
-use Rattle.device.specs.Tick.{sumAfter, sumsAfter, failedFlight, flightTicked, flightAfter, temperatureAfter, clockTicked, tickModel}
+use Rattle.device.specs.Tick.{sumAfter, sumsAfter, flightTicked, flightAfter, temperatureAfter, clockTicked, tickModel}
+use Rattle.device.specs.Results.{failedFlight}
 use Rattle.device.specs.Stretch.{modelTicked}
-use Rattle.device.specs.Delivery.{sameCount, flightMiscounted, goodSum, goodSums, goodFlight, goodFlightModel, failedFlightModel, goodTemperatureModel, failedTemperatureModel}
+use Rattle.device.specs.Delivery.{sameCount, flightMiscounted, goodFlightModel, failedFlightModel, goodTemperatureModel, failedTemperatureModel}
+use Rattle.device.specs.Results.{goodSum, goodSums, goodFlight}
 use Rattle.device.specs.Bus.{mustBeIdle, commandBusy, startsFlight, startsTemperature, isEvent, flightStarted, flightEvent, temperatureEvent}
 use Rattle.device.specs.Bus.{eventFlight, eventTemperature, startedEvent, initialisedModel, haltedModel, singleStarted, supplied, unsupplied, runModel, readModel}
 use Rattle.device.specs.FlashFrame.{flashModel}

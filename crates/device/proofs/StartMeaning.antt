@@ -17,9 +17,11 @@ use Rattle.device.specs.Event.{isAwaited, inEvent, startsLeft, begins, b
 use Rattle.device.specs.Event.{tickSchedule, leftAfter, startedAfter, settledAfter, goodAfter}
 use Rattle.device.specs.Model.{isSound, kindBusy, isBusy, withFlight}
 use Rattle.device.specs.Registers.{calendarWord, flightWord, temperatureWord, registerWord, upwards}
-use Rattle.device.specs.Tick.{failedFlight, sumAfter, sumsAfter, flightTicked, flightAfter, temperatureAfter, tickModel, reportOf}
+use Rattle.device.specs.Results.{failedFlight}
+use Rattle.device.specs.Tick.{sumAfter, sumsAfter, flightTicked, flightAfter, temperatureAfter, tickModel, reportOf}
 use Rattle.device.specs.Stretch.{modelTicked, scheduleTicked, lastTick, stretchReport}
-use Rattle.device.specs.Delivery.{goodSum, goodSums, goodFlight, goodFlightModel, failedFlightModel, goodTemperatureModel, failedTemperatureModel}
+use Rattle.device.specs.Results.{goodSum, goodSums, goodFlight}
+use Rattle.device.specs.Delivery.{goodFlightModel, failedFlightModel, goodTemperatureModel, failedTemperatureModel}
 use Rattle.device.specs.Bus.{flightStarted, isEvent, startedEvent, initialisedModel, haltedModel, singleStarted, supplied, unsupplied, runModel}
 use Rattle.device.specs.Call.{tick, flight, temperature, stretch, notAwaited}
 use Rattle.device.specs.Reply.{anyLate, portFault, acceptedModel, acceptedAnswer}

@@ -17,7 +17,8 @@ use Rattle.unit.specs.declared.Ticks.{Ticks}
 use Rattle.device.specs.declared.Schedule.{Schedule}
 use Rattle.device.specs.declared.Model.{Model}
 use Rattle.device.specs.Event.{startsLeft, begins, fails, leftAfter, waitAfter, tickSchedule}
-use Rattle.device.specs.Tick.{failedFlight, flightTicked, flightAfter, temperatureAfter, clockTicked, tickModel}
+use Rattle.device.specs.Results.{failedFlight}
+use Rattle.device.specs.Tick.{flightTicked, flightAfter, temperatureAfter, clockTicked, tickModel}
 use Rattle.device.specs.Stretch.{modelTicked, scheduleTicked, lastTick}
 use Rattle.device.specs.History.{Kind, differences, temperatures, Plan, History}
 use Rattle.device.proofs.Table.{picked}

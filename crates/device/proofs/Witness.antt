@@ -21,8 +21,10 @@ use Rattle.device.specs.Status.{porBit, joined}
 use Rattle.device.specs.Model.{freshModel, freshWith, noFlight, noTemperature, sumFits, flightSound, temperatureSound, isSound, kindBusy, isBusy}
 use Rattle.device.specs.Registers.{calendarWord, half, flightWord, temperatureWord, registerWord}
 use Rattle.device.specs.Write.{covers, written, withWord, setupAfter, ticksAfter, clockAfter, writeInvalid, writeModel}
-use Rattle.device.specs.Tick.{failedDifference, failedFlight, sumAfter, sumsAfter, flightTicked, flightAfter, temperatureAfter, clockTicked, tickModel, reportOf}
-use Rattle.device.specs.Delivery.{sameCount, flightMiscounted, goodDifference, goodSum, goodFlight, goodFlightModel, failedFlightModel, goodSums, goodTemperatureModel, failedTemperatureModel}
+use Rattle.device.specs.Results.{failedDifference, failedFlight}
+use Rattle.device.specs.Tick.{sumAfter, sumsAfter, flightTicked, flightAfter, temperatureAfter, clockTicked, tickModel, reportOf}
+use Rattle.device.specs.Delivery.{sameCount, flightMiscounted, goodFlightModel, failedFlightModel, goodTemperatureModel, failedTemperatureModel}
+use Rattle.device.specs.Results.{goodDifference, goodSum, goodFlight, goodSums}
 use Rattle.device.specs.Bus.{mustBeIdle, startsFlight, startsTemperature, isEvent, commandBusy, beforeInitialize, flightSideUnset}
 use Rattle.device.specs.Bus.{temperatureSideUnset, eventSideUnset, commandUnset, flightEvent, temperatureEvent, eventFlight}
 use Rattle.device.specs.Bus.{eventTemperature, startedEvent, initialisedModel, runModel}

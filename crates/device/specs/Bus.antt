@@ -10,22 +10,22 @@ use Rattle.device.specs.declared.Temperature.{Temperature}
 use Rattle.device.specs.declared.Model.{Model}
 use Rattle.device.specs.Event.{startSingle, startEvent, haltSchedule}
 use Rattle.device.specs.Status.{joined, initBit, haltBit, ldoBit, withoutLdo, noBits}
-use Rattle.device.specs.Model.{isBusy, resetModel, withFlight, withTemperature, withStatus, withRegulator}
+use Rattle.device.specs.Model.{isBusy, resetModel, withFlight, withTemperature, withStatus, withRegulator, withInitialised, flightWith, temperatureWith}
 
 -- "a command but HALT and Reset"
 unfoldable pub mustBeIdle : ℕ → Bool
-mustBeIdle op = pick (eqb op 4) false (pick (eqb op 10) false true)
+mustBeIdle op = pick (eqb op 0x04) false (pick (eqb op 0x0A) false true)
 
 -- "TOF_Up (00h), TOF_Down (01h), TOF_Diff (02h) start a flight measurement, Temperature (03h) a temperature one"; "07h
 -- runs both kinds, 08h differences, 09h temperatures."
 unfoldable pub startsFlight : ℕ → Bool
-startsFlight op = pick (ltb op 3) true (pick (eqb op 7) true (pick (eqb op 8) true false))
+startsFlight op = pick (ltb op 0x03) true (pick (eqb op 0x07) true (pick (eqb op 0x08) true false))
 
 unfoldable pub startsTemperature : ℕ → Bool
-startsTemperature op = pick (eqb op 3) true (pick (eqb op 7) true (pick (eqb op 9) true false))
+startsTemperature op = pick (eqb op 0x03) true (pick (eqb op 0x07) true (pick (eqb op 0x09) true false))
 
 unfoldable pub isEvent : ℕ → Bool
-isEvent op = pick (ltb op 7) false (pick (ltb 9 op) false true)
+isEvent op = pick (ltb op 0x07) false (pick (ltb 0x09 op) false true)
 
 -- Number 6, busy: "a command but HALT and Reset, while a measurement is awaited or an event runs"
 unfoldable pub commandBusy : Model → ℕ → Bool
@@ -55,8 +55,8 @@ unfoldable pub flightStarted : Flight → ℕ → Flight
 flightStarted f op =
     record {
       schedule = startSingle (f .schedule);
-      up = negate (eqb op 1);
-      down = negate (eqb op 0);
+      up = negate (eqb op 0x01);
+      down = negate (eqb op 0x00);
       sum = f .sum;
       ups = f .ups;
       downs = f .downs;
@@ -92,66 +92,22 @@ eventTemperature m op =
     pick (startsTemperature op) (temperatureEvent (m .temperature) (m .setup)) (m .temperature)
 
 unfoldable pub startedEvent : Model → ℕ → Model
-startedEvent m op =
-    record {
-      clock = m .clock;
-      setup = m .setup;
-      status = m .status;
-      initialised = m .initialised;
-      regulator = m .regulator;
-      flight = eventFlight m op;
-      temperature = eventTemperature m op;
-    }
+startedEvent m op = withTemperature (withFlight m (eventFlight m op)) (eventTemperature m op)
 
 -- "05h Initialize makes the model initialised, until a Reset, and sets INIT."
 unfoldable pub initialisedModel : Model → Model
-initialisedModel m =
-    record {
-      clock = m .clock;
-      setup = m .setup;
-      status = joined (m .status) initBit;
-      initialised = true;
-      regulator = m .regulator;
-      flight = m .flight;
-      temperature = m .temperature;
-    }
+initialisedModel m = withInitialised (withStatus m (joined (m .status) initBit)) true
 
 -- "0Ah HALT drops awaited measurements, ends the event, sets HALT, also when idle."
 unfoldable pub haltedModel : Model → Model
 haltedModel m =
-    record {
-      clock = m .clock;
-      setup = m .setup;
-      status = joined (m .status) haltBit;
-      initialised = m .initialised;
-      regulator = m .regulator;
-      flight =
-          record {
-            schedule = haltSchedule (m .flight .schedule);
-            up = m .flight .up;
-            down = m .flight .down;
-            sum = m .flight .sum;
-            ups = m .flight .ups;
-            downs = m .flight .downs;
-            difference = m .flight .difference;
-          };
-      temperature =
-          record {
-            schedule = haltSchedule (m .temperature .schedule);
-            sums = m .temperature .sums;
-            ports = m .temperature .ports;
-          };
-    }
+    withTemperature
+    (withFlight (withStatus m (joined (m .status) haltBit)) (flightWith (m .flight) (haltSchedule (m .flight .schedule))))
+    (temperatureWith (m .temperature) (haltSchedule (m .temperature .schedule)))
 
 unfoldable pub singleStarted : Model → ℕ → Model
 singleStarted m op =
-    pick (eqb op 3)
-    (withTemperature m
-    (record {
-      schedule = startSingle (m .temperature .schedule);
-      sums = m .temperature .sums;
-      ports = m .temperature .ports;
-    }))
+    pick (eqb op 0x03) (withTemperature m (temperatureWith (m .temperature) (startSingle (m .temperature .schedule))))
     (withFlight m (flightStarted (m .flight) op))
 
 -- "LDO_ON sets status bit 10" (Note 8), and the regulator is on from then on, "until the LDO OFF command is received" (000)
@@ -163,11 +119,11 @@ unsupplied m = withRegulator (withStatus m (withoutLdo (m .status))) false
 
 unfoldable pub runModel : Model → ℕ → Model
 runModel m op =
-    pick (eqb op 4) resetModel
-    (pick (eqb op 5) (initialisedModel m)
-    (pick (eqb op 10) (haltedModel m)
-    (pick (eqb op 12) (supplied m)
-    (pick (eqb op 13) (unsupplied m) (pick (isEvent op) (startedEvent m op) (singleStarted m op))))))
+    pick (eqb op 0x04) resetModel
+    (pick (eqb op 0x05) (initialisedModel m)
+    (pick (eqb op 0x0A) (haltedModel m)
+    (pick (eqb op 0x0C) (supplied m)
+    (pick (eqb op 0x0D) (unsupplied m) (pick (isEvent op) (startedEvent m op) (singleStarted m op))))))
 
 -- "FEh is the interrupt status; reading it clears it after the word is taken."
 unfoldable pub readModel : Model → ℕ → ℕ → Model

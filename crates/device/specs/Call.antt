@@ -37,110 +37,65 @@ words f = further f / 2
 abbrev pub bySort : {A : Type 0} → List ℕ → A → A → A → A → A
 bySort f c w u r = pick (isCommand (opcode f)) c (pick (isWrite (opcode f)) w (pick (isFlash (opcode f)) u r))
 
+-- A condition that frames alone can meet, and one that deliveries and stretches alone can.
+abbrev pub onFrame : Call → (List ℕ → List ℕ → List ℕ → Bool) → Bool
+onFrame (transaction f o x) holds = holds f o x
+onFrame tick holds = false
+onFrame (flight u d) holds = false
+onFrame (temperature w) holds = false
+onFrame (stretch n) holds = false
+
 -- The conditions of the table, one for each number.
 
 -- 1 "no bytes"
 unfoldable pub noFrame : Call → Bool
-noFrame (transaction f o x) = eqb (length f) 0
-noFrame tick = false
-noFrame (flight u d) = false
-noFrame (temperature w) = false
-noFrame (stretch n) = false
+noFrame c = onFrame c (λ f o x. eqb (length f) 0)
 
 -- 2 "first byte not carried"
 unfoldable pub notCarried : Call → Bool
-notCarried (transaction f o x) = bySort f false false false (negate (isRead (opcode f)))
-notCarried tick = false
-notCarried (flight u d) = false
-notCarried (temperature w) = false
-notCarried (stretch n) = false
+notCarried c = onFrame c (λ f o x. bySort f false false false (negate (isRead (opcode f))))
 
 -- 3 "a command with more bytes, or a read or write whose further bytes are not n ≥ 1 whole words"; "exactly for a length other than
 -- five bytes, for erase three" (Note 8)
 unfoldable pub wrongLength : Call → Bool
-wrongLength (transaction f o x) =
-    bySort f (negate (eqb (further f) 0)) (notWhole (further f)) (negate (eqb (further f) (flashFurther (opcode f))))
-    (notWhole (further f))
-wrongLength tick = false
-wrongLength (flight u d) = false
-wrongLength (temperature w) = false
-wrongLength (stretch n) = false
+wrongLength c = onFrame c (λ f o x. bySort f (negate (eqb (further f) 0)) (notWhole (further f)) (negate (eqb (further f) (flashFurther (opcode f)))) (notWhole (further f)))
 
 -- 4 "a write past 43h or a read past FFh"
 unfoldable pub pastRegisters : Call → Bool
-pastRegisters (transaction f o x) =
-    bySort f false (pastEnd (opcode f) (words f) 0x44) false (pastEnd (opcode f) (words f) 0x100)
-pastRegisters tick = false
-pastRegisters (flight u d) = false
-pastRegisters (temperature w) = false
-pastRegisters (stretch n) = false
+pastRegisters c = onFrame c (λ f o x. bySort f false (pastEnd (opcode f) (words f) 0x44) false (pastEnd (opcode f) (words f) 0x100))
 
 -- 5 "a read with an output buffer below 2n bytes"; "a flash read with an output below two bytes" (Note 8)
 unfoldable pub shortOutput : Call → Bool
-shortOutput (transaction f o x) =
-    bySort f false false (pick (eqb (opcode f) 0x90) (ltb (length o) 2) false) (ltb (length o) (2 * words f))
-shortOutput tick = false
-shortOutput (flight u d) = false
-shortOutput (temperature w) = false
-shortOutput (stretch n) = false
+shortOutput c = onFrame c (λ f o x. bySort f false false (pick (eqb (opcode f) 0x90) (ltb (length o) 2) false) (ltb (length o) (2 * words f)))
 
 -- 6 "a write, or a command but HALT and Reset, while a measurement is awaited or an event runs"; "6 to all five, the flash read
 -- too" (Note 8)
 unfoldable pub whileBusy : Model → Call → Bool
-whileBusy m (transaction f o x) = bySort f (commandBusy m (opcode f)) (isBusy m) (isBusy m) false
-whileBusy m tick = false
-whileBusy m (flight u d) = false
-whileBusy m (temperature w) = false
-whileBusy m (stretch n) = false
+whileBusy m c = onFrame c (λ f o x. bySort f (commandBusy m (opcode f)) (isBusy m) (isBusy m) false)
 
 -- 15 "supply off when the regulator isn't on" (Note 8)
 unfoldable pub supplyOff : Model → Call → Bool
-supplyOff m (transaction f o x) = bySort f false false (negate (m .regulator)) false
-supplyOff m tick = false
-supplyOff m (flight u d) = false
-supplyOff m (temperature w) = false
-supplyOff m (stretch n) = false
+supplyOff m c = onFrame c (λ f o x. bySort f false false (negate (m .regulator)) false)
 
 -- 16 "flash address for a memory of another size, an odd address in a read or write, or one above 1FFFh" (Note 8)
 unfoldable pub unreachable : Call → Bool
-unreachable (transaction f o x) =
-    bySort f false false (flashUnreachable (opcode f) (length x) (flashAddress (drop 1 f))) false
-unreachable tick = false
-unreachable (flight u d) = false
-unreachable (temperature w) = false
-unreachable (stretch n) = false
+unreachable c = onFrame c (λ f o x. bySort f false false (flashUnreachable (opcode f) (length x) (flashAddress (drop 1 f))) false)
 
 -- 17 "not erased for a write on another word" (Note 8)
 unfoldable pub unerased : Call → Bool
-unerased (transaction f o x) = bySort f false false (flashUnerased (opcode f) x (flashAddress (drop 1 f))) false
-unerased tick = false
-unerased (flight u d) = false
-unerased (temperature w) = false
-unerased (stretch n) = false
+unerased c = onFrame c (λ f o x. bySort f false false (flashUnerased (opcode f) x (flashAddress (drop 1 f))) false)
 
 -- 7 "the clock after the write, or the alarm, would be invalid"
 unfoldable pub badCalendar : Model → Call → Bool
-badCalendar m (transaction f o x) = bySort f false (writeInvalid (drop 1 f) (opcode f) (words f) m) false false
-badCalendar m tick = false
-badCalendar m (flight u d) = false
-badCalendar m (temperature w) = false
-badCalendar m (stretch n) = false
+badCalendar m c = onFrame c (λ f o x. bySort f false (writeInvalid (drop 1 f) (opcode f) (words f) m) false false)
 
 -- 8 "00h to 03h, 07h to 09h before Initialize"
 unfoldable pub notInitialised : Model → Call → Bool
-notInitialised m (transaction f o x) = bySort f (beforeInitialize m (opcode f)) false false false
-notInitialised m tick = false
-notInitialised m (flight u d) = false
-notInitialised m (temperature w) = false
-notInitialised m (stretch n) = false
+notInitialised m c = onFrame c (λ f o x. bySort f (beforeInitialize m (opcode f)) false false false)
 
 -- 9 "see each command"
 unfoldable pub badSetup : Model → Call → Bool
-badSetup m (transaction f o x) = bySort f (commandUnset m (opcode f)) false false false
-badSetup m tick = false
-badSetup m (flight u d) = false
-badSetup m (temperature w) = false
-badSetup m (stretch n) = false
+badSetup m c = onFrame c (λ f o x. bySort f (commandUnset m (opcode f)) false false false)
 
 -- 10 "a delivery of a kind that is not awaited"
 unfoldable pub notAwaited : Model → Call → Bool

@@ -9,6 +9,33 @@ use Rattle.device.specs.declared.Schedule.{Schedule}
 abbrev pub ticks : ℕ → Ticks
 ticks n = record { 0 = n }
 
+-- Setters: a schedule with one count anew.
+abbrev pub withLeft : Schedule → ℕ → Schedule
+withLeft k n =
+    record {
+      left = ticks n;
+      wait = k .wait;
+      period = k .period;
+      planned = k .planned;
+      started = k .started;
+      settled = k .settled;
+      continuous = k .continuous;
+      good = k .good;
+    }
+
+abbrev pub withSettled : Schedule → ℕ → ℕ → Schedule
+withSettled k settled good =
+    record {
+      left = k .left;
+      wait = k .wait;
+      period = k .period;
+      planned = k .planned;
+      started = k .started;
+      settled = settled;
+      continuous = k .continuous;
+      good = good;
+    }
+
 unfoldable pub noSchedule : Schedule
 noSchedule =
     record {
@@ -55,17 +82,7 @@ fails k = pick (eqb (k .left .0) 1) true false
 
 -- A single measurement starts.
 unfoldable pub startSingle : Schedule → Schedule
-startSingle k =
-    record {
-      left = ticks 8192;
-      wait = k .wait;
-      period = k .period;
-      planned = k .planned;
-      started = k .started;
-      settled = k .settled;
-      continuous = k .continuous;
-      good = k .good;
-    }
+startSingle k = withLeft k 8192
 
 -- "Elapsed ticks count from acceptance at 0." "The start at 0 is reported by the command's answer"
 unfoldable pub startEvent : Ticks → ℕ → Bool → Schedule
@@ -120,26 +137,8 @@ tickSchedule k =
 unfoldable pub settle : Schedule → Bool → Schedule
 settle k good =
     pick (ltb (k .settled) (k .planned))
-    (record {
-      left = ticks 0;
-      wait = k .wait;
-      period = k .period;
-      planned = k .planned;
-      started = k .started;
-      settled = k .settled + 1;
-      continuous = k .continuous;
-      good = pick good (k .good + 1) (k .good);
-    })
-    (record {
-      left = ticks 0;
-      wait = k .wait;
-      period = k .period;
-      planned = k .planned;
-      started = k .started;
-      settled = k .settled;
-      continuous = k .continuous;
-      good = k .good;
-    })
+    (withSettled (withLeft k 0) (k .settled + 1) (pick good (k .good + 1) (k .good)))
+    (withLeft k 0)
 
 -- "HALT drops awaited measurements, ends the event": what was to start or to settle no longer is.
 unfoldable pub haltSchedule : Schedule → Schedule

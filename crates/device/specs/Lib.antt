@@ -3,6 +3,7 @@ pub mod Status
 pub mod Model
 pub mod Registers
 pub mod Write
+pub mod Results
 pub mod Tick
 pub mod Stretch
 pub mod StretchSteps

@@ -16,33 +16,81 @@ use Rattle.device.specs.declared.Model.{Model}
 use Rattle.device.specs.Event.{noSchedule, scheduleSound, isAwaited, inEvent}
 use Rattle.device.specs.Status.{porBit, noBits}
 
--- Setters: the model with one part anew.
+-- Setters: a model, and the measurements of a kind, with one part anew.
+abbrev pub withClock : Model → Clock → Model
+withClock m x =
+    record {
+      clock = x;
+      setup = m .setup;
+      status = m .status;
+      initialised = m .initialised;
+      regulator = m .regulator;
+      flight = m .flight;
+      temperature = m .temperature;
+    }
+
+abbrev pub withSetup : Model → List ℕ → Model
+withSetup m x =
+    record {
+      clock = m .clock;
+      setup = x;
+      status = m .status;
+      initialised = m .initialised;
+      regulator = m .regulator;
+      flight = m .flight;
+      temperature = m .temperature;
+    }
+
 abbrev pub withStatus : Model → Status → Model
-withStatus m s =
+withStatus m x =
     record {
       clock = m .clock;
       setup = m .setup;
-      status = s;
+      status = x;
       initialised = m .initialised;
       regulator = m .regulator;
+      flight = m .flight;
+      temperature = m .temperature;
+    }
+
+abbrev pub withInitialised : Model → Bool → Model
+withInitialised m x =
+    record {
+      clock = m .clock;
+      setup = m .setup;
+      status = m .status;
+      initialised = x;
+      regulator = m .regulator;
+      flight = m .flight;
+      temperature = m .temperature;
+    }
+
+abbrev pub withRegulator : Model → Bool → Model
+withRegulator m x =
+    record {
+      clock = m .clock;
+      setup = m .setup;
+      status = m .status;
+      initialised = m .initialised;
+      regulator = x;
       flight = m .flight;
       temperature = m .temperature;
     }
 
 abbrev pub withFlight : Model → Flight → Model
-withFlight m f =
+withFlight m x =
     record {
       clock = m .clock;
       setup = m .setup;
       status = m .status;
       initialised = m .initialised;
       regulator = m .regulator;
-      flight = f;
+      flight = x;
       temperature = m .temperature;
     }
 
 abbrev pub withTemperature : Model → Temperature → Model
-withTemperature m t =
+withTemperature m x =
     record {
       clock = m .clock;
       setup = m .setup;
@@ -50,19 +98,27 @@ withTemperature m t =
       initialised = m .initialised;
       regulator = m .regulator;
       flight = m .flight;
-      temperature = t;
+      temperature = x;
     }
 
-abbrev pub withRegulator : Model → Bool → Model
-withRegulator m on =
+abbrev pub flightWith : Flight → Schedule → Flight
+flightWith f x =
     record {
-      clock = m .clock;
-      setup = m .setup;
-      status = m .status;
-      initialised = m .initialised;
-      regulator = on;
-      flight = m .flight;
-      temperature = m .temperature;
+      schedule = x;
+      up = f .up;
+      down = f .down;
+      sum = f .sum;
+      ups = f .ups;
+      downs = f .downs;
+      difference = f .difference;
+    }
+
+abbrev pub temperatureWith : Temperature → Schedule → Temperature
+temperatureWith t x =
+    record {
+      schedule = x;
+      sums = t .sums;
+      ports = t .ports;
     }
 
 -- "results 0"

@@ -15,23 +15,9 @@ use Rattle.device.specs.declared.Temperature.{Temperature}
 use Rattle.device.specs.declared.Model.{Model}
 use Rattle.device.specs.declared.Report.{Report}
 use Rattle.device.specs.Event.{begins, beginsGroup, fails, tickSchedule}
+use Rattle.device.specs.Model.{withClock, withStatus, withFlight, withTemperature}
+use Rattle.device.specs.Results.{failedFlight}
 use Rattle.device.specs.Status.{joined, flightBits, temperatureBits, alarmBit}
-
--- "the measurement fails, every HIT and AVG of the measured directions and, for a difference, TOF_DIFF become FFFFh"
-unfoldable pub failedDifference : Flight → ℕ
-failedDifference f = pick (f .up) (pick (f .down) 0xFFFFFFFF (f .difference)) (f .difference)
-
-unfoldable pub failedFlight : Flight → Schedule → Flight
-failedFlight f k =
-    record {
-      schedule = k;
-      up = f .up;
-      down = f .down;
-      sum = f .sum;
-      ups = pick (f .up) failedPairs (f .ups);
-      downs = pick (f .down) failedPairs (f .downs);
-      difference = failedDifference f;
-    }
 
 -- "at the first start of a group that kind's sums, count and averages go to 0" (Note 5)
 unfoldable pub sumAfter : Flight → ℕ
@@ -82,15 +68,9 @@ tickStatus m after =
 
 unfoldable pub tickModel : Model → Model
 tickModel m =
-    record {
-      clock = clockTicked m;
-      setup = m .setup;
-      status = tickStatus m (clockTicked m);
-      initialised = m .initialised;
-      regulator = m .regulator;
-      flight = flightAfter (m .flight);
-      temperature = temperatureAfter (m .temperature);
-    }
+    withTemperature
+    (withFlight (withStatus (withClock m (clockTicked m)) (tickStatus m (clockTicked m))) (flightAfter (m .flight)))
+    (temperatureAfter (m .temperature))
 
 -- "a tick's answer says for each kind whether one started and whether one failed in it"
 unfoldable pub reportOf : Schedule → Report

@@ -11,6 +11,7 @@ use Rattle.calendar.specs.Words.{ticksIn, clockFrom, wordsValid, alarmValid}
 use Rattle.setup.specs.Setup.{alarmWord}
 use Rattle.frame.specs.Frame.{wordAt}
 use Rattle.device.specs.declared.Model.{Model}
+use Rattle.device.specs.Model.{withClock, withSetup}
 use Rattle.device.specs.Registers.{calendarWord}
 
 -- "n ≥ 1 words follow, to consecutive registers"
@@ -57,13 +58,4 @@ writeInvalid bytes op n m =
     true
 
 unfoldable pub writeModel : List ℕ → ℕ → ℕ → Model → Model
-writeModel bytes op n m =
-    record {
-      clock = clockAfter bytes op n m;
-      setup = setupAfter bytes op (m .setup) n;
-      status = m .status;
-      initialised = m .initialised;
-      regulator = m .regulator;
-      flight = m .flight;
-      temperature = m .temperature;
-    }
+writeModel bytes op n m = withSetup (withClock m (clockAfter bytes op n m)) (setupAfter bytes op (m .setup) n)

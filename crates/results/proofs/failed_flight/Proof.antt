@@ -1,5 +1,5 @@
 -- `ticking::tick::lose_flight` meets its contract.
-use Rattle.device.specs.Tick.{failedFlight}
+use Rattle.device.specs.Results.{failedFlight}
 use borrow.Author.Needs.{needs}
 use Rattle.results.proofs.failed_flight.Statement.{statement}
 use Rattle.results.proofs.failed_flight.Tie as tie

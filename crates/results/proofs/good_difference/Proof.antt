@@ -1,5 +1,5 @@
 -- `delivery::good_difference` meets its contract.
-use Rattle.device.specs.Delivery.{goodDifference}
+use Rattle.device.specs.Results.{goodDifference}
 use borrow.Author.Needs.{needs}
 use Rattle.results.proofs.good_difference.Statement.{statement}
 use Rattle.results.proofs.good_difference.Tie as tie

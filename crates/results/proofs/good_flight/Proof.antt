@@ -1,7 +1,7 @@
 -- `delivery::good_flight` meets its contract.
 use native.Mathlib.Omega.{arith}
 use Rattle.device.proofs.Sound.{flight-of}
-use Rattle.device.specs.Delivery.{goodFlight}
+use Rattle.device.specs.Results.{goodFlight}
 use borrow.Author.Needs.{needs}
 use Rattle.results.proofs.good_flight.Statement.{statement}
 use Rattle.results.proofs.good_flight.Tie as tie

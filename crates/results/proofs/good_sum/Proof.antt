@@ -2,7 +2,7 @@
 use borrow.Author.Tests.{le-ltb, lt-ltb}
 use native.Mathlib.Omega.{arith}
 use Rattle.device.proofs.Sound.{flight-of}
-use Rattle.device.specs.Delivery.{goodSum}
+use Rattle.device.specs.Results.{goodSum}
 use borrow.Author.Needs.{needs}
 use Rattle.results.proofs.good_sum.Statement.{statement}
 use Rattle.results.proofs.good_sum.Tie as tie

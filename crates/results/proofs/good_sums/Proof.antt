@@ -2,7 +2,7 @@
 use borrow.Author.Tests.{le-ltb, lt-ltb}
 use native.Mathlib.Omega.{arith}
 use Rattle.device.proofs.Sound.{temperature-of}
-use Rattle.device.specs.Delivery.{goodSums}
+use Rattle.device.specs.Results.{goodSums}
 use Rattle.results.proofs.good_sums.Statement.{statement}
 use Rattle.results.proofs.good_sums.Tie as tie
 

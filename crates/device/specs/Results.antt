@@ -1,0 +1,54 @@
+-- What a good and a failed measurement leave in the results of its kind.
+use Prim.Native.Nat.{ℕ, _+_}
+use mathlib.Core.Bool.{true}
+use mathlib.Core.List.{List}
+use lib.Dec.{ltb}
+use Rattle.unit.specs.Choice.{pick}
+use Rattle.unit.specs.declared.Quanta.{Quanta}
+use Rattle.hit.specs.Words.{average, filled, failedPairs, plusEach}
+use Rattle.hit.specs.Difference.{differenceWord, biased}
+use Rattle.device.specs.declared.Schedule.{Schedule}
+use Rattle.device.specs.declared.Flight.{Flight}
+use Rattle.device.specs.declared.Temperature.{Temperature}
+use Rattle.device.specs.Event.{settle}
+
+-- "for a difference TOF_DIFF = AVGUP − AVGDN"
+unfoldable pub goodDifference : Flight → Quanta → Quanta → ℕ
+goodDifference f up down =
+    pick (f .up) (pick (f .down) (differenceWord up down) (f .difference)) (f .difference)
+
+-- "the averages become the sums of the good differences .. ÷ count"; of an event alone
+unfoldable pub goodSum : Flight → Quanta → Quanta → ℕ
+goodSum f up down = pick (ltb (f .schedule .settled) (f .schedule .planned)) (f .sum + biased up down) (f .sum)
+
+-- "No word late: HIT pairs 1 to H hold the words, later HIT pairs 0, AVG the sum ÷ H rounded down"
+unfoldable pub goodFlight : Flight → ℕ → List ℕ → List ℕ → Flight
+goodFlight f hits ups downs =
+    record {
+      schedule = settle (f .schedule) true;
+      up = f .up;
+      down = f .down;
+      sum = goodSum f (average ups hits) (average downs hits);
+      ups = pick (f .up) (filled ups (average ups hits)) (f .ups);
+      downs = pick (f .down) (filled downs (average downs hits)) (f .downs);
+      difference = goodDifference f (average ups hits) (average downs hits);
+    }
+
+unfoldable pub goodSums : Temperature → List ℕ → List ℕ
+goodSums t w = pick (ltb (t .schedule .settled) (t .schedule .planned)) (plusEach (t .sums) w) (t .sums)
+
+-- "the measurement fails, every HIT and AVG of the measured directions and, for a difference, TOF_DIFF become FFFFh"
+unfoldable pub failedDifference : Flight → ℕ
+failedDifference f = pick (f .up) (pick (f .down) 0xFFFFFFFF (f .difference)) (f .difference)
+
+unfoldable pub failedFlight : Flight → Schedule → Flight
+failedFlight f k =
+    record {
+      schedule = k;
+      up = f .up;
+      down = f .down;
+      sum = f .sum;
+      ups = pick (f .up) failedPairs (f .ups);
+      downs = pick (f .down) failedPairs (f .downs);
+      difference = failedDifference f;
+    }

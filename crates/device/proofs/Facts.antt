@@ -9,7 +9,7 @@ use lib.ListN.{length, getD, set, length-set}
 use lib.Seq.{getD-set-same, getD-set-other}
 use lib.Dec.{ltb, eqb}
 use borrow.Author.Tests.{lt-ltb, le-ltb, le-leb, lt-leb, eq-eqb, ne-eqb}
-use Rattle.unit.specs.Choice.{pick}
+use Rattle.unit.specs.Choice.{pick, both, negate}
 use Rattle.unit.specs.Cases.{by-test, by-ltb}
 use Rattle.unit.specs.declared.Ticks.{Ticks}
 use Rattle.calendar.specs.declared.Clock.{Clock}
@@ -281,10 +281,10 @@ pub keeps-clock :
 unfolding clockAfter written covers ticksAfter calendarWord
 keeps-clock m bytes op n s h =
     rw (
-      lt-ltb 0x30 op (omega arith),
-      lt-ltb 0x31 op (omega arith),
-      lt-ltb 0x32 op (omega arith),
-      lt-ltb 0x33 op (omega arith),
+      lt-leb op 0x30 (omega arith),
+      lt-leb op 0x31 (omega arith),
+      lt-leb op 0x32 (omega arith),
+      lt-leb op 0x33 (omega arith),
     )
     (round-trip (m .clock) (bounds-of m s .clock))
 
@@ -292,24 +292,24 @@ pub judged-by-alarm :
     (m : Model) (bytes : List ℕ) (op n : ℕ) →
     isSound m ≡ true →
     0x34 ≤ op →
-    writeInvalid bytes op n m ≡ pick (alarmValid (alarmWord (setupAfter bytes op (m .setup) n))) false true
+    writeInvalid bytes op n m ≡ negate (alarmValid (alarmWord (setupAfter bytes op (m .setup) n)))
 unfolding writeInvalid written covers ticksAfter calendarWord
 judged-by-alarm m bytes op n s h =
     rw (
-      lt-ltb 0x30 op (omega arith),
-      lt-ltb 0x31 op (omega arith),
-      lt-ltb 0x32 op (omega arith),
-      lt-ltb 0x33 op (omega arith),
+      lt-leb op 0x30 (omega arith),
+      lt-leb op 0x31 (omega arith),
+      lt-leb op 0x32 (omega arith),
+      lt-leb op 0x33 (omega arith),
       words-valid (m .clock) (bounds-of m s .clock),
     )
 
 pub judged-together :
     (m : Model) (bytes : List ℕ) →
     writeInvalid bytes 0x32 2 m
-    ≡ pick
+    ≡ negate
+    (both
     (wordsValid (word30 (m .clock)) (word31 (m .clock)) (wordAt bytes 0) (wordAt bytes 1) (m .clock .ticks))
-    (pick (alarmValid (alarmWord (m .setup))) false true)
-    true
+    (alarmValid (alarmWord (m .setup))))
 unfolding writeInvalid written covers ticksAfter calendarWord setupAfter withWord
 judged-together m bytes = refl
 

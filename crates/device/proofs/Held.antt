@@ -7,7 +7,7 @@ use mathlib.Core.List.{List, [], _∷_, _++_, map, map-append}
 use lib.ListN.{length, length-map, getD}
 use lib.Dec.{ltb, eqb}
 use borrow.Author.Tests.{ltb-true, lt-ltb, eqb-true}
-use Rattle.unit.specs.Choice.{pick, negate}
+use Rattle.unit.specs.Choice.{pick, both, negate}
 use Rattle.unit.specs.Cases.{by-test}
 use Rattle.calendar.proofs.Laws.{held}
 use Rattle.setup.specs.Setup.{hitCount, portCycle, differencePeriod, differenceCount, temperaturePeriod, temperatureCount}
@@ -97,9 +97,9 @@ below-at (w ∷ ws) (suc i) b = below-at ws i (b .1)
 -- with both directions measured, both lists have H words
 same-as : (hits given : ℕ) → sameCount true hits given ≡ true → given ≡ hits
 unfolding sameCount
-same-as hits given e = eqb-true given hits (held (eqb given hits) e .0)
+same-as hits given e = eqb-true given hits e
 
-counted-both : (a b : Bool) → pick a (pick b false true) true ≡ false → (a ≡ true) × (b ≡ true)
+counted-both : (a b : Bool) → negate (both a b) ≡ false → (a ≡ true) × (b ≡ true)
 counted-both true true e = (refl, refl)
 counted-both true false e = (refl, cc)
 counted-both false b e = (cc, cc)

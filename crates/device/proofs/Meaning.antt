@@ -93,10 +93,10 @@ pub event-means : (op : ℕ) → (isEvent op ≡ true) ↔ ((7 ≤ op) × (op �
 unfolding isEvent
 event-means op =
     by-ltb op 7
-    (λ h e. rw e (fails false (λ x. omega arith)))
+    (λ h e. rw (lt-leb 7 op h) (fails false (λ x. omega arith)))
     (λ h e. by-ltb 9 op
-    (λ i f. rw (e, f) (fails false (λ x. omega arith)))
-    (λ i f. rw (e, f) (holds (omega arith))))
+    (λ i f. rw (le-leb 7 op h, lt-leb op 9 i) (fails false (λ x. omega arith)))
+    (λ i f. rw (le-leb 7 op h, le-leb op 9 i) (holds (omega arith))))
 
 -- "busy: a write, or a command but HALT and Reset, while a measurement is awaited or an event runs"
 pub command-busy-means :

@@ -7,7 +7,7 @@ use mathlib.Core.Logic.{_↔_, _⊎_, inl, inr, ⊎-elim}
 use mathlib.Core.Path.{_≡_, refl, _∙_}
 use lib.ListN.{length, getD, set, length-set}
 use lib.Seq.{getD-set-same, getD-set-other}
-use borrow.Author.Tests.{lt-ltb, le-ltb, ne-eqb}
+use borrow.Author.Tests.{lt-ltb, le-ltb, le-leb, lt-leb, ne-eqb}
 use Rattle.unit.specs.Cases.{by-ltb, by-eqb, holds, fails}
 use Rattle.calendar.specs.Calendar.{start}
 use Rattle.calendar.specs.Words.{bcd, hourDigits, hundredthsOf, word30, word31, word32, word33}
@@ -255,10 +255,10 @@ pub covers-means : (op n a : ℕ) → (covers op n a ≡ true) ↔ ((op ≤ a) �
 unfolding covers
 covers-means op n a =
     by-ltb a op
-    (λ h e. rw e (fails false (λ x. omega arith)))
+    (λ h e. rw (lt-leb op a h) (fails false (λ x. omega arith)))
     (λ h e. by-ltb a (op + n)
-    (λ i f. rw (e, f) (holds (h, i)))
-    (λ i f. rw (e, f) (fails false (λ x. omega arith))))
+    (λ i f. rw (le-leb op a h, f) (holds (h, i)))
+    (λ i f. rw (le-leb op a h, f) (fails false (λ x. omega arith))))
 
 with-word-length : (s : List ℕ) (a w : ℕ) → length (withWord s a w) ≡ length s
 unfolding withWord
@@ -317,10 +317,10 @@ module _ (bytes : List ℕ) (op : ℕ) (s : List ℕ) where
   unfolding written covers
   setup-means n a l h i =
       by-ltb a op
-      (λ j e. rw e (setup-kept n a h (inl j)))
+      (λ j e. rw (lt-leb op a j) (setup-kept n a h (inl j)))
       (λ j e. by-ltb a (op + n)
-      (λ k f. rw (e, f) (setup-written n a l h i j k))
-      (λ k f. rw (e, f) (setup-kept n a h (inr k))))
+      (λ k f. rw (le-leb op a j, f) (setup-written n a l h i j k))
+      (λ k f. rw (le-leb op a j, f) (setup-kept n a h (inr k))))
 
 -- "Words go high byte first."
 pub word-means : (bytes : List ℕ) (i : ℕ) → wordAt bytes i ≡ 256 * getD bytes (2 * i) 0 + getD bytes (2 * i + 1) 0

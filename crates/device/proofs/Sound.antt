@@ -6,7 +6,7 @@ use mathlib.Core.List.{List}
 use mathlib.Core.Path.{_≡_, refl, sym}
 use lib.ListN.{length, getD, drop}
 use lib.Dec.{ltb, leb, eqb}
-use borrow.Author.Tests.{ltb-true, ltb-false, lt-ltb, le-ltb, le-leb, lt-leb, eqb-true, eq-eqb}
+use borrow.Author.Tests.{ltb-true, ltb-false, leb-true, lt-ltb, le-ltb, le-leb, lt-leb, eqb-true, eq-eqb}
 use Rattle.unit.specs.Choice.{pick, either, both, negate}
 use Rattle.unit.specs.Cases.{by-test, by-ltb, by-eqb}
 use Rattle.unit.specs.declared.Ticks.{Ticks}
@@ -44,7 +44,7 @@ use Rattle.device.specs.Call.{Call, transaction, tick, flight, temperatu
 use Rattle.device.specs.Parts.{flightFits}
 use Rattle.device.specs.Reply.{anyLate, portFault, acceptedModel, reply, replyBy}
 use Rattle.device.specs.Call.{miscounted, whileBusy, supplyOff, unreachable, unerased, notAwaited, badCalendar, verdict}
-use Rattle.device.proofs.Table.{NoneHolds, none-holds, negated, picked}
+use Rattle.device.proofs.Table.{NoneHolds, none-holds, negated, both-true, picked}
 use Rattle.device.specs.Event.{countsSound, waitSound, balanceSound, scheduleSound, noSchedule, isAwaited, inEvent, startsLeft, begins}
 use Rattle.device.specs.Event.{beginsGroup, leftAfter, waitAfter, startedAfter, settledAfter, goodAfter, fails, startSingle, startEvent}
 use Rattle.device.specs.Event.{tickSchedule, settle, haltSchedule}
@@ -101,10 +101,6 @@ neither-picked true e = (e, cc)
 neither-picked false e = (refl, e)
 
 -- Where a test had to hold, it did.
-failed : (t : Bool) {r : Bool} → pick t r true ≡ false → (t ≡ true) × (r ≡ false)
-failed true e = (refl, e)
-failed false e = (sym e, cc)
-
 -- The test and the bounds say the same.
 counts-of :
     (k : Schedule) →
@@ -222,11 +218,11 @@ schedule-sound k b =
 
 sum-of : (s g most : ℕ) → sumFits s g most ≡ true → s ≤ g * most
 unfolding sumFits
-sum-of s g most e = ltb-false (g * most) s (passed (ltb (g * most) s) e .0)
+sum-of s g most e = leb-true s (g * most) e
 
 sum-fits : (s g most : ℕ) → s ≤ g * most → sumFits s g most ≡ true
 unfolding sumFits
-sum-fits s g most h = rw (le-ltb (g * most) s h)
+sum-fits s g most h = le-leb s (g * most) h
 
 pub flight-of : (f : Flight) → flightSound f ≡ true → FlightBounds f
 unfolding flightSound
@@ -520,7 +516,7 @@ module _ (k : Schedule) (b : ScheduleBounds k) where
 pub fails-alone : (k : Schedule) → ScheduleBounds k → fails k ≡ true → beginsGroup k ≡ false
 unfolding fails
 fails-alone k b e =
-    let l : k .left .0 ≡ 1 = eqb-true (k .left .0) 1 (held (eqb (k .left .0) 1) e .0) in
+    let l : k .left .0 ≡ 1 = eqb-true (k .left .0) 1 e in
     by-begins k (λ s w t. absurd (omega (arith, b .wait s .apart (omega arith)))) (λ f t. no-group k t .0)
 
 -- A failed one adds none to the count.
@@ -703,7 +699,7 @@ write-bounds :
 unfolding writeInvalid writeModel clockAfter
 write-bounds bytes op n m e b =
     record {
-      clock = words-clock _ _ _ _ _ (failed _ e .0);
+      clock = words-clock _ _ _ _ _ (both-true _ _ (negated _ e) .0);
       flight = b .flight;
       temperature = b .temperature;
     }
@@ -779,8 +775,8 @@ flash-bounds m op b =
 -- A delivered list that row 11 lets pass has at most H words.
 same-count : (measured : Bool) (hits given : ℕ) → sameCount measured hits given ≡ true → given ≤ hits
 unfolding sameCount
-same-count true hits given e = omega (arith, eqb-true given hits (held (eqb given hits) e .0))
-same-count false hits given e = omega (arith, eqb-true given 0 (held (eqb given 0) e .0))
+same-count true hits given e = omega (arith, eqb-true given hits e)
+same-count false hits given e = omega (arith, eqb-true given 0 e)
 
 pub hits-counted :
     (f : Flight) (hits ups downs : ℕ) →
@@ -788,8 +784,7 @@ pub hits-counted :
     (ups ≤ hits) × (downs ≤ hits)
 unfolding flightMiscounted
 hits-counted f hits ups downs e =
-    let (u, e1) = failed (sameCount (f .up) hits ups) e in
-    let (d, _) = failed (sameCount (f .down) hits downs) e1 in
+    let (u, d) = both-true (sameCount (f .up) hits ups) (sameCount (f .down) hits downs) (negated _ e) in
     (same-count (f .up) hits ups u, same-count (f .down) hits downs d)
 
 -- Where no word is late, the six words of each direction have an average below 2^31.
@@ -810,7 +805,7 @@ hits-below m u d e late =
 -- A delivery is accepted only while its kind is awaited.
 pub left-some : (k : Schedule) → negate (isAwaited k) ≡ false → 0 < k .left .0
 unfolding isAwaited
-left-some k a = ltb-true 0 (k .left .0) (held (ltb 0 (k .left .0)) (negated (isAwaited k) a) .0)
+left-some k a = ltb-true 0 (k .left .0) (negated (isAwaited k) a)
 
 flight-bounds :
     (m : Model) (u d : List ℕ) →

@@ -59,13 +59,13 @@ told m k =
 
 expiring-plain : (k : Schedule) → expires k ≡ expiring k
 unfolding expires
-expiring-plain k = same (eqb (k .left .0) 1)
+expiring-plain k = refl
 
 nth-plain : (k : Schedule) → isLast k ≡ nth k
 unfolding isLast
 nth-plain k =
     by-ltb (k .settled) (k .planned)
-    (λ h e. rw e (same (nth k)))
+    (λ h e. rw e refl)
     (λ h e. rw e
     (by-eqb (k .settled + 1) (k .planned) (λ i f. absurd (omega arith)) (λ i f. sym f)))
 

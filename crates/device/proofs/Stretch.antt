@@ -213,7 +213,7 @@ rests-all k j (suc i) a e l =
 
 fails-left : (k : Schedule) → fails k ≡ true → k .left .0 ≡ 1
 unfolding fails
-fails-left k e = eqb-true (k .left .0) 1 (held (eqb (k .left .0) 1) e .0)
+fails-left k e = eqb-true (k .left .0) 1 e
 
 left-fails : (k : Schedule) → ¬ (k .left .0 ≡ 1) → fails k ≡ false
 unfolding fails

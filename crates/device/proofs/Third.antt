@@ -7,8 +7,8 @@ use mathlib.Core.Path.{_≡_, refl, ap, sym, subst, _∙_}
 use mathlib.Core.Bool.{Bool, true, false}
 use mathlib.Core.List.{List, [], _∷_}
 use mathlib.Core.Logic.{_⊎_, inl, inr, ⊎-elim}
-use lib.Dec.{ltb, eqb}
-use borrow.Author.Tests.{ltb-false, lt-ltb, le-ltb}
+use lib.Dec.{ltb, leb, eqb}
+use borrow.Author.Tests.{leb-true, le-leb, lt-ltb, le-ltb}
 use Rattle.unit.specs.Choice.{pick, both}
 use Rattle.unit.specs.Cases.{by-test, by-eqb}
 use Rattle.calendar.specs.declared.Clock.{Clock}
@@ -16,7 +16,7 @@ use Rattle.calendar.specs.Calendar.{tickClock}
 use Rattle.calendar.specs.Moment.{moment}
 use Rattle.calendar.specs.Bounds.{afterTicks}
 use Rattle.calendar.specs.Words.{clockFrom}
-use Rattle.calendar.proofs.Laws.{passed, after-moment, after-weekday, after-form}
+use Rattle.calendar.proofs.Laws.{after-moment, after-weekday, after-form}
 use Rattle.calendar.proofs.RoundTrip.{round-trip}
 use Rattle.setup.specs.Setup.{wordOf, clockStands, eventContinuous, differencePeriod, differenceCount, temperaturePeriod, temperatureCount}
 use Rattle.setup.proofs.Laws.{difference-period-bounds, difference-count-bounds, temperature-period-bounds, temperature-count-bounds}
@@ -37,15 +37,11 @@ use Rattle.device.specs.History.{Kind, differences, temperatures, Plan, 
 use Rattle.device.specs.History.{startReported, beginning, runs, isRefusal, spanOf, stretchIn, named, noteTicks}
 use Rattle.device.specs.Claim.{ticksIn, tickCount}
 use Rattle.device.specs.Claim.{command, toldOf, StillBusy, ThirdDemand}
-use Rattle.device.proofs.Table.{none-holds, picked}
+use Rattle.device.proofs.Table.{none-holds, both-true, picked}
 use Rattle.device.proofs.Sound.{neither-picked, bounds-of, fresh-sound, keeps-sound}
 use Rattle.device.proofs.Going.{going-start}
 use Rattle.device.proofs.Calls.{stepped, setup-kept, clock-step}
 use Rattle.device.proofs.Held.{KindHeld, held-step, held-claim}
-
-both-true : (a b : Bool) → both a b ≡ true → (a ≡ true) × (b ≡ true)
-both-true true b e = (refl, e)
-both-true false b e = (e, cc)
 
 -- The whole list.
 all-held :
@@ -97,11 +93,10 @@ sound-after (c ∷ cs) m v = sound-after cs (reply m c .model) (keeps-sound m c 
 by-event : (G : ℕ → Type 0) (op : ℕ) → isEvent op ≡ true → G 7 → G 8 → G 9 → G op
 unfolding isEvent
 by-event G op e x y z =
-    let (l, d) = passed (ltb op 7) e in
-    let (u, _) = passed (ltb 9 op) d in
+    let (l, u) = both-true (leb 7 op) (leb op 9) e in
     by-eqb op 7 (λ e _. rw e x)
     (λ n _. by-eqb op 8 (λ e _. rw e y)
-    (λ k _. let q : op ≡ 9 = omega (arith, ltb-false) in rw q z))
+    (λ k _. let q : op ≡ 9 = omega (arith, leb-true 7 op l, leb-true op 9 u) in rw q z))
 
 accepted-event :
     (m : Model) (op : ℕ) (o x : List ℕ) →
@@ -208,7 +203,7 @@ all-counted k s (c ∷ cs) m h =
 
 event-codes : (op : ℕ) → 0x07 ≤ op → op ≤ 0x09 → isEvent op ≡ true
 unfolding isEvent
-event-codes op a b = rw (le-ltb op 7 a, le-ltb 9 op b)
+event-codes op a b = rw (le-leb 7 op a, le-leb op 9 b)
 
 -- what B0h to B3h read of a sound model is its clock
 reads-clock :

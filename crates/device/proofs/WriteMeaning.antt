@@ -7,7 +7,8 @@ use mathlib.Core.List.{List}
 use mathlib.Core.Logic.{_↔_, _⊎_, inl, inr, ⊎-elim}
 use mathlib.Core.Path.{_≡_, refl, sym, _∙_}
 use lib.ListN.{length}
-use Rattle.unit.specs.Choice.{pick}
+use borrow.Author.Tests.{le-leb, lt-leb}
+use Rattle.unit.specs.Choice.{pick, both, negate}
 use Rattle.unit.specs.Cases.{by-ltb}
 use Rattle.calendar.specs.Words.{ticksIn, hundredthsOf, clockFrom, wordsValid, alarmValid}
 use Rattle.calendar.proofs.Laws.{bounds}
@@ -49,10 +50,10 @@ by-cover :
 unfolding covers
 by-cover op n a f g =
     by-ltb a op
-    (λ h e. g (inl h) (rw e))
-    (λ h e. by-ltb a (op + n) (λ k d. f h k (rw (e, d))) (λ k d. g (inr k) (rw (e, d))))
+    (λ h e. g (inl h) (rw (lt-leb op a h)))
+    (λ h e. by-ltb a (op + n) (λ k d. f h k (rw (le-leb op a h, d))) (λ k d. g (inr k) (rw (le-leb op a h, d))))
 
-both-hold : (a b : Bool) → (pick a (pick b false true) true ≡ false) ↔ ((a ≡ true) × (b ≡ true))
+both-hold : (a b : Bool) → (negate (both a b) ≡ false) ↔ ((a ≡ true) × (b ≡ true))
 both-hold true true = (λ e. (refl, refl), λ h. refl)
 both-hold true false = (λ e. (refl, sym e), λ h. sym (h .1))
 both-hold false b = (λ e. (sym e, cc), λ h. sym (h .0))
@@ -135,9 +136,8 @@ module _
   by-words :
       (clockAfter bytes op n m ≡ clockFrom w30 w31 w32 w33 (ticksAfter bytes op n m)) ×
       (writeInvalid bytes op n m
-      ≡ pick (wordsValid w30 w31 w32 w33 (ticksAfter bytes op n m))
-      (pick (alarmValid (alarmWord (setupAfter bytes op (m .setup) n))) false true)
-      true)
+      ≡ negate
+      (both (wordsValid w30 w31 w32 w33 (ticksAfter bytes op n m)) (alarmValid (alarmWord (setupAfter bytes op (m .setup) n)))))
   unfolding clockAfter writeInvalid registerWord
   by-words =
       rw (

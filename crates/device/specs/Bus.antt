@@ -3,7 +3,7 @@ use Prim.Native.Nat.{ℕ, _+_}
 use mathlib.Core.Bool.{Bool, true, false}
 use mathlib.Core.List.{List, [], _∷_}
 use lib.Dec.{ltb, leb, eqb}
-use Rattle.unit.specs.Choice.{pick, negate}
+use Rattle.unit.specs.Choice.{pick, either, both, negate}
 use Rattle.setup.specs.Setup.{flightUnset, temperatureUnset, clockStands, eventContinuous, differencePeriod, differenceCount, temperaturePeriod, temperatureCount}
 use Rattle.device.specs.declared.Flight.{Flight}
 use Rattle.device.specs.declared.Temperature.{Temperature}
@@ -14,18 +14,18 @@ use Rattle.device.specs.Model.{isBusy, resetModel, withFlight, withTempe
 
 -- "a command but HALT and Reset"
 unfoldable pub mustBeIdle : ℕ → Bool
-mustBeIdle op = pick (eqb op 0x04) false (pick (eqb op 0x0A) false true)
+mustBeIdle op = negate (either (eqb op 0x04) (eqb op 0x0A))
 
 -- "TOF_Up (00h), TOF_Down (01h), TOF_Diff (02h) start a flight measurement, Temperature (03h) a temperature one"; "07h
 -- runs both kinds, 08h differences, 09h temperatures."
 unfoldable pub startsFlight : ℕ → Bool
-startsFlight op = pick (ltb op 0x03) true (pick (eqb op 0x07) true (pick (eqb op 0x08) true false))
+startsFlight op = either (ltb op 0x03) (either (eqb op 0x07) (eqb op 0x08))
 
 unfoldable pub startsTemperature : ℕ → Bool
-startsTemperature op = pick (eqb op 0x03) true (pick (eqb op 0x07) true (pick (eqb op 0x09) true false))
+startsTemperature op = either (eqb op 0x03) (either (eqb op 0x07) (eqb op 0x09))
 
 unfoldable pub isEvent : ℕ → Bool
-isEvent op = pick (ltb op 0x07) false (pick (ltb 0x09 op) false true)
+isEvent op = both (leb 0x07 op) (leb op 0x09)
 
 -- Number 6, busy: "a command but HALT and Reset, while a measurement is awaited or an event runs"
 unfoldable pub commandBusy : Model → ℕ → Bool

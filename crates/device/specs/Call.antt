@@ -37,7 +37,7 @@ words f = further f / 2
 abbrev pub bySort : {A : Type 0} → List ℕ → A → A → A → A → A
 bySort f c w u r = pick (isCommand (opcode f)) c (pick (isWrite (opcode f)) w (pick (isFlash (opcode f)) u r))
 
--- A condition that frames alone can meet, and one that deliveries and stretches alone can.
+-- A condition that frames alone can meet
 abbrev pub onFrame : Call → (List ℕ → List ℕ → List ℕ → Bool) → Bool
 onFrame (transaction f o x) holds = holds f o x
 onFrame tick holds = false
@@ -58,15 +58,23 @@ notCarried c = onFrame c (λ f o x. bySort f false false false (negate (isRead (
 -- 3 "a command with more bytes, or a read or write whose further bytes are not n ≥ 1 whole words"; "exactly for a length other than
 -- five bytes, for erase three" (Note 8)
 unfoldable pub wrongLength : Call → Bool
-wrongLength c = onFrame c (λ f o x. bySort f (negate (eqb (further f) 0)) (notWhole (further f)) (negate (eqb (further f) (flashFurther (opcode f)))) (notWhole (further f)))
+wrongLength c =
+    onFrame c
+    (λ f o x.
+    bySort f (negate (eqb (further f) 0)) (notWhole (further f)) (negate (eqb (further f) (flashFurther (opcode f))))
+    (notWhole (further f)))
 
 -- 4 "a write past 43h or a read past FFh"
 unfoldable pub pastRegisters : Call → Bool
-pastRegisters c = onFrame c (λ f o x. bySort f false (pastEnd (opcode f) (words f) 0x44) false (pastEnd (opcode f) (words f) 0x100))
+pastRegisters c =
+    onFrame c
+    (λ f o x. bySort f false (pastEnd (opcode f) (words f) 0x44) false (pastEnd (opcode f) (words f) 0x100))
 
 -- 5 "a read with an output buffer below 2n bytes"; "a flash read with an output below two bytes" (Note 8)
 unfoldable pub shortOutput : Call → Bool
-shortOutput c = onFrame c (λ f o x. bySort f false false (pick (eqb (opcode f) 0x90) (ltb (length o) 2) false) (ltb (length o) (2 * words f)))
+shortOutput c =
+    onFrame c
+    (λ f o x. bySort f false false (pick (eqb (opcode f) 0x90) (ltb (length o) 2) false) (ltb (length o) (2 * words f)))
 
 -- 6 "a write, or a command but HALT and Reset, while a measurement is awaited or an event runs"; "6 to all five, the flash read
 -- too" (Note 8)
@@ -79,7 +87,9 @@ supplyOff m c = onFrame c (λ f o x. bySort f false false (negate (m .regulator)
 
 -- 16 "flash address for a memory of another size, an odd address in a read or write, or one above 1FFFh" (Note 8)
 unfoldable pub unreachable : Call → Bool
-unreachable c = onFrame c (λ f o x. bySort f false false (flashUnreachable (opcode f) (length x) (flashAddress (drop 1 f))) false)
+unreachable c =
+    onFrame c
+    (λ f o x. bySort f false false (flashUnreachable (opcode f) (length x) (flashAddress (drop 1 f))) false)
 
 -- 17 "not erased for a write on another word" (Note 8)
 unfoldable pub unerased : Call → Bool

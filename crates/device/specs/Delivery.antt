@@ -3,7 +3,7 @@ use Prim.Native.Nat.{ℕ, _+_}
 use mathlib.Core.Bool.{Bool, true, false}
 use mathlib.Core.List.{List}
 use lib.Dec.{ltb, eqb}
-use Rattle.unit.specs.Choice.{pick}
+use Rattle.unit.specs.Choice.{pick, both, negate}
 use Rattle.unit.specs.declared.Quanta.{Quanta}
 use Rattle.setup.specs.Setup.{eachInterrupt}
 use Rattle.hit.specs.Words.{average, filled, portPairs, plusEach}
@@ -19,11 +19,11 @@ use Rattle.device.specs.Status.{joined, flightBits, temperatureBits}
 
 -- "an up list and a down list, each of H words ..; the unmeasured direction's list is empty"
 unfoldable pub sameCount : Bool → ℕ → ℕ → Bool
-sameCount measured hits given = pick measured (pick (eqb given hits) true false) (pick (eqb given 0) true false)
+sameCount measured hits given = eqb given (pick measured hits 0)
 
 unfoldable pub flightMiscounted : Flight → ℕ → ℕ → ℕ → Bool
 flightMiscounted f hits ups downs =
-    pick (sameCount (f .up) hits ups) (pick (sameCount (f .down) hits downs) false true) true
+    negate (both (sameCount (f .up) hits ups) (sameCount (f .down) hits downs))
 
 unfoldable pub flightStatus : Model → Bool → Status
 flightStatus m failed =

@@ -2,7 +2,7 @@
 use Prim.Native.Nat.{ℕ, _+_, _-_}
 use mathlib.Core.Bool.{Bool, true, false}
 use lib.Dec.{ltb, leb, eqb}
-use Rattle.unit.specs.Choice.{pick}
+use Rattle.unit.specs.Choice.{pick, either, both, negate}
 use Rattle.unit.specs.declared.Ticks.{Ticks}
 use Rattle.device.specs.declared.Schedule.{Schedule}
 
@@ -51,34 +51,34 @@ noSchedule =
 
 -- "A kind is awaited from its start until an accepted delivery, the tick that fails it, HALT or Reset."
 unfoldable pub isAwaited : Schedule → Bool
-isAwaited k = pick (ltb 0 (k .left .0)) true false
+isAwaited k = ltb 0 (k .left .0)
 
 -- "The event ends when all are settled." A continuous one "ends only by HALT or Reset" (Note 5).
 unfoldable pub inEvent : Schedule → Bool
-inEvent k = pick (k .continuous) true (pick (ltb (k .settled) (k .planned)) true false)
+inEvent k = either (k .continuous) (ltb (k .settled) (k .planned))
 
 -- "Settling the N-th sets TOF_EVTMG or TEMP_EVTMG.", of a continuous event the N-th of each group: "its N-th settling sets the
 -- EVTMG bit" (Note 5)
 unfoldable pub isLast : Schedule → Bool
 isLast k =
-    pick (ltb (k .settled) (k .planned)) (pick (eqb (k .settled + 1) (k .planned)) true false) false
+    both (ltb (k .settled) (k .planned)) (eqb (k .settled + 1) (k .planned))
 
 -- Whether a start is to come: of an event while fewer than N are started; of a continuous one always, "Starts go on at j × P for
 -- every j." (Note 5)
 unfoldable pub startsLeft : Schedule → Bool
-startsLeft k = pick (k .continuous) true (pick (ltb (k .started) (k .planned)) true false)
+startsLeft k = either (k .continuous) (ltb (k .started) (k .planned))
 
 -- A tick starts a measurement where a start is to come and the wait for it ends.
 unfoldable pub begins : Schedule → Bool
-begins k = pick (startsLeft k) (pick (leb (k .wait .0) 1) true false) false
+begins k = both (startsLeft k) (leb (k .wait .0) 1)
 
 -- Whether the measurement that a tick starts is the first of a group: "Each N starts of a kind make a group" (Note 5).
 unfoldable pub beginsGroup : Schedule → Bool
-beginsGroup k = pick (begins k) (pick (ltb (k .started) (k .planned)) false true) false
+beginsGroup k = both (begins k) (negate (ltb (k .started) (k .planned)))
 
 -- "A measurement undelivered 8,192 ticks after its start fails in that tick"
 unfoldable pub fails : Schedule → Bool
-fails k = pick (eqb (k .left .0) 1) true false
+fails k = eqb (k .left .0) 1
 
 -- A single measurement starts.
 unfoldable pub startSingle : Schedule → Schedule

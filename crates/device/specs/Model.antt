@@ -3,7 +3,7 @@ use Prim.Native.Nat.{ℕ, _*_}
 use mathlib.Core.Bool.{Bool, true, false}
 use mathlib.Core.List.{List, [], _∷_}
 use lib.ListN.{getD}
-use lib.Dec.{ltb}
+use lib.Dec.{leb}
 use Rattle.unit.specs.Choice.{pick}
 use Rattle.calendar.specs.declared.Clock.{Clock}
 use Rattle.calendar.specs.Calendar.{clockValid, start}
@@ -163,7 +163,7 @@ resetModel = freshWith noBits
 -- Sound: the clock is valid, the schedule of each kind is one that the calls make, and each sum is at most the count times the
 -- largest value. The calls need it so that no field leaves its range.
 unfoldable pub sumFits : ℕ → ℕ → ℕ → Bool
-sumFits sum good most = pick (ltb (good * most) sum) false true
+sumFits sum good most = leb sum (good * most)
 
 unfoldable pub flightSound : Flight → Bool
 flightSound f =

@@ -3,8 +3,8 @@ use Prim.Native.Nat.{ℕ, zero, suc, _+_, _-_}
 use mathlib.Core.Bool.{Bool, true, false}
 use mathlib.Core.List.{List}
 use lib.ListN.{set}
-use lib.Dec.{ltb}
-use Rattle.unit.specs.Choice.{pick}
+use lib.Dec.{ltb, leb}
+use Rattle.unit.specs.Choice.{pick, both, negate}
 use Rattle.unit.specs.declared.Ticks.{Ticks}
 use Rattle.calendar.specs.declared.Clock.{Clock}
 use Rattle.calendar.specs.Words.{ticksIn, clockFrom, wordsValid, alarmValid}
@@ -16,7 +16,7 @@ use Rattle.device.specs.Registers.{calendarWord}
 
 -- "n ≥ 1 words follow, to consecutive registers"
 unfoldable pub covers : ℕ → ℕ → ℕ → Bool
-covers op n a = pick (ltb a op) false (pick (ltb a (op + n)) true false)
+covers op n a = both (leb op a) (ltb a (op + n))
 
 -- a register's word after the write, by the one it has
 unfoldable pub written : List ℕ → ℕ → ℕ → ℕ → ℕ → ℕ
@@ -34,28 +34,23 @@ setupAfter bytes op s (suc n) = withWord (setupAfter bytes op s n) (op + n) (wor
 unfoldable pub ticksAfter : List ℕ → ℕ → ℕ → Model → Ticks
 ticksAfter bytes op n m = pick (covers op n 0x30) (ticksIn (wordAt bytes (0x30 - op))) (m .clock .ticks)
 
--- 30h to 33h after the whole write, those that it leaves out as they read
-unfoldable pub clockAfter : List ℕ → ℕ → ℕ → Model → Clock
-clockAfter bytes op n m =
-    clockFrom
+-- What is made of the words of 30h to 33h after the whole write, those that it leaves out as they read, and of s
+abbrev pub ofCalendar : {A : Type 0} → List ℕ → ℕ → ℕ → Model → (ℕ → ℕ → ℕ → ℕ → Ticks → A) → A
+ofCalendar bytes op n m make =
+    make
     (written bytes op n 0x30 (calendarWord m 0xB0))
     (written bytes op n 0x31 (calendarWord m 0xB1))
     (written bytes op n 0x32 (calendarWord m 0xB2))
     (written bytes op n 0x33 (calendarWord m 0xB3))
     (ticksAfter bytes op n m)
 
+unfoldable pub clockAfter : List ℕ → ℕ → ℕ → Model → Clock
+clockAfter bytes op n m = ofCalendar bytes op n m clockFrom
+
 -- "the clock after the write, or the alarm, would be invalid"; "30h to 33h are judged together after the whole write."
 unfoldable pub writeInvalid : List ℕ → ℕ → ℕ → Model → Bool
 writeInvalid bytes op n m =
-    pick
-    (wordsValid
-    (written bytes op n 0x30 (calendarWord m 0xB0))
-    (written bytes op n 0x31 (calendarWord m 0xB1))
-    (written bytes op n 0x32 (calendarWord m 0xB2))
-    (written bytes op n 0x33 (calendarWord m 0xB3))
-    (ticksAfter bytes op n m))
-    (pick (alarmValid (alarmWord (setupAfter bytes op (m .setup) n))) false true)
-    true
+    negate (both (ofCalendar bytes op n m wordsValid) (alarmValid (alarmWord (setupAfter bytes op (m .setup) n))))
 
 unfoldable pub writeModel : List ℕ → ℕ → ℕ → Model → Model
 writeModel bytes op n m = withSetup (withClock m (clockAfter bytes op n m)) (setupAfter bytes op (m .setup) n)

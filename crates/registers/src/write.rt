@@ -1,9 +1,9 @@
 // A write of consecutive registers, judged as a whole.
 ghost use mathlib.Core.Path.{_≡_};
 ghost use Prim.Native.Nat.{_<_, _≤_, _+_, _*_};
-ghost use mathlib.Core.Bool.{true, false};
+ghost use mathlib.Core.Bool.{true};
 ghost use lib.ListN.{length};
-ghost use Rattle.unit.specs.Choice.{pick};
+ghost use Rattle.unit.specs.Choice.{negate};
 ghost use Rattle.calendar.specs.Words.{alarmValid};
 ghost use Rattle.setup.specs.Setup.{alarmWord};
 ghost use Rattle.device.specs.Model.{isSound};
@@ -94,7 +94,7 @@ pub fn write_invalid(m: Model, words: &[u8], op: u32, n: usize) -> bool
 
 fn alarm_invalid(m: Model, words: &[u8], op: u32, n: usize) -> bool
     requires { ⌜ (48 ≤ op) × (op + n ≤ 68) × (2 * n ≤ length (now words)) ⌝ }
-    ensures { λ r. ⌜ r ≡ pick (alarmValid (alarmWord (setupAfter (now (words .entry)) op (m .setup) n))) false true ⌝ }
+    ensures { λ r. ⌜ r ≡ negate (alarmValid (alarmWord (setupAfter (now (words .entry)) op (m .setup) n))) ⌝ }
 {
     let old = m.setup;
     let setup = setup_after(old, words, op, n);

@@ -12,8 +12,7 @@ use Rattle.setup.specs.Setup.{factory, alarmWord}
 use Rattle.frame.specs.Frame.{isCommand, isWrite, isFlash}
 use Rattle.device.specs.declared.Model.{Model}
 use Rattle.device.specs.Model.{freshModel, freshWith, resetModel}
-use Rattle.device.specs.Registers.{calendarWord}
-use Rattle.device.specs.Write.{written, ticksAfter, setupAfter, writeInvalid, writeModel}
+use Rattle.device.specs.Write.{ofCalendar, setupAfter, writeInvalid, writeModel}
 use Rattle.device.specs.Tick.{tickModel}
 use Rattle.device.specs.Delivery.{goodFlightModel, failedFlightModel, goodTemperatureModel, failedTemperatureModel}
 use Rattle.device.specs.Bus.{isEvent, initialisedModel, haltedModel, startedEvent, singleStarted, supplied, unsupplied, runModel, readModel}
@@ -22,7 +21,7 @@ use Rattle.device.specs.Call.{Call, transaction, tick, flight, temperature, str
 use Rattle.device.specs.Call.{badCalendar, Verdict, accepted, refused, verdict}
 use Rattle.device.specs.Reply.{anyLate, portFault, acceptedModel, reply, replyBy}
 use Rattle.device.specs.History.{after}
-use Rattle.device.proofs.Table.{picked, none-holds}
+use Rattle.device.proofs.Table.{picked, both-true, negated, none-holds}
 use Rattle.device.proofs.Stretch.{setup-ticked}
 use Rattle.setup_frames.specs.Frames.{frames}
 use Rattle.setup_frames.specs.Sending.{sent, setupFrom, Words}
@@ -56,24 +55,11 @@ flash-valid : (m : Model) (op : ℕ) → ValidAlarm m → ValidAlarm (flashModel
 unfolding flashModel
 flash-valid m op v = picked ValidAlarm (eqb op 0x90) (λ _. v) (λ _. v)
 
-judged : (words alarm : Bool) → pick words (pick alarm false true) true ≡ false → alarm ≡ true
-judged true true e = refl
-judged true false e = sym e
-judged false alarm e = cc
-
 -- number 7: "the clock after the write, or the alarm, would be invalid" (01)
 write-valid : (bytes : List ℕ) (op n : ℕ) (m : Model) → writeInvalid bytes op n m ≡ false → ValidAlarm (writeModel bytes op n m)
 unfolding writeInvalid writeModel
 write-valid bytes op n m e =
-    judged
-    (wordsValid
-    (written bytes op n 0x30 (calendarWord m 0xB0))
-    (written bytes op n 0x31 (calendarWord m 0xB1))
-    (written bytes op n 0x32 (calendarWord m 0xB2))
-    (written bytes op n 0x33 (calendarWord m 0xB3))
-    (ticksAfter bytes op n m))
-    (alarmValid (alarmWord (setupAfter bytes op (m .setup) n)))
-    e
+    both-true (ofCalendar bytes op n m wordsValid) (alarmValid (alarmWord (setupAfter bytes op (m .setup) n))) (negated _ e) .1
 
 accepted-valid : (m : Model) (c : Call) → badCalendar m c ≡ false → ValidAlarm m → ValidAlarm (acceptedModel m c)
 unfolding acceptedModel badCalendar tickModel failedFlightModel goodFlightModel failedTemperatureModel goodTemperatureModel

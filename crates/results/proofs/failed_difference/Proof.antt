@@ -1,4 +1,4 @@
--- `ticking::tick::lost_difference` meets its contract.
+-- `results::failed_difference` meets its contract.
 use borrow.Author.Needs.{needs}
 use Rattle.unit.specs.Tests.{tests}
 use Rattle.device.specs.Results.{failedDifference}

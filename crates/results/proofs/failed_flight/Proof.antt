@@ -1,4 +1,4 @@
--- `ticking::tick::lose_flight` meets its contract.
+-- `results::failed_flight` meets its contract.
 use Rattle.device.specs.Results.{failedFlight}
 use borrow.Author.Needs.{needs}
 use Rattle.results.proofs.failed_flight.Statement.{statement}

@@ -1,4 +1,4 @@
--- `delivery::good_difference` meets its contract.
+-- `results::good_difference` meets its contract.
 use Rattle.device.specs.Results.{goodDifference}
 use borrow.Author.Needs.{needs}
 use Rattle.results.proofs.good_difference.Statement.{statement}

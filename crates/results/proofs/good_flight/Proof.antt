@@ -1,4 +1,4 @@
--- `delivery::good_flight` meets its contract.
+-- `results::good_flight` meets its contract.
 use native.Mathlib.Omega.{arith}
 use Rattle.device.proofs.Sound.{flight-of}
 use Rattle.device.specs.Results.{goodFlight}

@@ -3,7 +3,7 @@ use Prim.Native.Nat.{ℕ}
 use mathlib.Core.Path.{_≡_, refl}
 use mathlib.Core.List.{List, [], _∷_}
 use lib.IntN.{ℤ, pos, negsuc}
-use Rattle.quietest.specs.Window.{larger, smaller, extreme, spread, quieter, quietestPlace}
+use Rattle.quietest.specs.Quietest.{larger, smaller, extreme, spread, quieter, quietestPlace}
 use Rattle.quietest.specs.declared.Place.the-variants.{At, Refused}
 
 -- 5, 9, 8, 7, 1: spreads of three neighbours 4, 2, 7

@@ -5,12 +5,12 @@ use native.Mathlib.Nat.{add-zero, add-suc, add-assoc}
 use mathlib.Core.Path.{_≡_, refl, sym, ap, _∙_}
 use mathlib.Core.Bool.{Bool, true, false}
 use mathlib.Core.List.{List}
-use lib.IntN.{ℤ, _-ℤ_}
+use lib.IntN.{ℤ}
 use lib.Signed.{ltZ}
 use Rattle.unit.specs.Choice.{pick}
 use Rattle.unit.specs.Cases.{by-test}
-use Rattle.quietest.specs.Window.{valueAt, larger, smaller, extreme, spread, quieter}
-use Rattle.quietest.specs.Search.{extremes, found, better}
+use Rattle.quietest.specs.Quietest.{valueAt, larger, smaller, extreme, spread, quieter}
+use Rattle.quietest.specs.Search.{extremesOf, joined, spreadOf, found, better}
 use Rattle.quietest.specs.declared.extremes.Extremes.{Extremes}
 use Rattle.quietest.specs.declared.search.Found.{Found}
 use Rattle.quietest.proofs.Order.{lt-trans, ge-trans}
@@ -91,21 +91,21 @@ by-fields p q = λ i. record { high = p i; low = q i }
 
 pub extremes-join :
     (values : List ℤ) (from m n place total : ℕ) {a b r : Extremes} → place ≡ from + m → total ≡ m + n → 1 ≤ n
-    → a ≡ extremes values from m → b ≡ extremes values place n
-    → (r .high ≡ larger (a .high) (b .high)) × (r .low ≡ smaller (a .low) (b .low))
-    → r ≡ extremes values from total
+    → a ≡ extremesOf values from m → b ≡ extremesOf values place n
+    → r ≡ joined a b
+    → r ≡ extremesOf values from total
 extremes-join values from m zero place total p t h ea eb er = absurd (omega arith)
 extremes-join values from m (suc n) place total p t h ea eb er =
     by-fields
-    (er .0 ∙ rw (ea, eb, p, t) (sym (extreme-join larger larger-assoc larger-itself values from m n)))
-    (er .1 ∙ rw (ea, eb, p, t) (sym (extreme-join smaller smaller-assoc smaller-itself values from m n)))
+    (ap (λ (e : Extremes). e .high) er ∙ rw (ea, eb, p, t) (sym (extreme-join larger larger-assoc larger-itself values from m n)))
+    (ap (λ (e : Extremes). e .low) er ∙ rw (ea, eb, p, t) (sym (extreme-join smaller smaller-assoc smaller-itself values from m n)))
 
 -- ---- what the search finds at one start, and at the starts of two halves
 
 pub one-start :
     (values : List ℤ) (w from count : ℕ) {shared : Extremes} {best r : Found} {d : ℤ} → count ≡ 1
-    → shared ≡ extremes values (from + count - 1) (w + 1 - count) → best ≡ found values w (best .start)
-    → d ≡ shared .high -ℤ shared .low → r ≡ better best from d
+    → shared ≡ extremesOf values (from + count - 1) (w + 1 - count) → best ≡ found values w (best .start)
+    → d ≡ spreadOf shared → r ≡ better best from d
     → r ≡ found values w (quieter values w (best .start) from count)
 unfolding spread
 one-start values w from count {best} one es eb ed er =
@@ -129,7 +129,7 @@ found-itself values w s e = e ∙ ap (λ (f : Found). found values w (f .start))
 -- ---- the whole search: the first start, each group after those before it, and all of them
 
 pub first-start :
-    (values : List ℤ) (w : ℕ) {whole : Extremes} {d : ℤ} → whole ≡ extremes values 0 w → d ≡ whole .high -ℤ whole .low
+    (values : List ℤ) (w : ℕ) {whole : Extremes} {d : ℤ} → whole ≡ extremesOf values 0 w → d ≡ spreadOf whole
     → _≡_ {A = Found} (record { start = 0; spread = d }) (found values w (quieter values w 0 1 0))
 unfolding quieter spread
 first-start values w ew ed = ap (λ (x : ℤ). record { start = 0; spread = x }) (ed ∙ rw ew)

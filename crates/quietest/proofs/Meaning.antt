@@ -4,19 +4,21 @@ use native.Mathlib.Nat.{add-zero, eq-or-lt-of-le, le-of-suc-le-suc}
 use native.Mathlib.Omega.{arith}
 use mathlib.Core.Path.{_≡_, sym, ap, _∙_}
 use mathlib.Core.Bool.{Bool, true, false}
-use mathlib.Core.Logic.{_↔_, _⊎_, inl, inr, ⊎-elim}
-use mathlib.Core.List.{List}
+use mathlib.Core.Logic.{_↔_, _⊎_, ⊎-elim}
+use mathlib.Core.List.{List, [], _∷_}
 use lib.IntN.{ℤ, _-ℤ_}
 use lib.Signed.{ltZ, _<ℤ_, _≤ℤ_, clashℤ}
 use lib.ListN.{length, length-take, length-drop}
 use lib.Seq.{getD-take, getD-drop}
 use denote.Ref.{RefT}
-use Rattle.unit.specs.Cases.{by-test, by-ltb, by-eqb}
-use Rattle.quietest.specs.Window.{valueAt, larger, smaller, extreme, largest, smallest, spread, quieter, quietestPlace, PartOf, Handed}
+use Rattle.unit.specs.Cases.{by-test, by-ltb}
+use Rattle.quietest.specs.Quietest.{valueAt, larger, smaller, extreme, largest, smallest, spread, quieter, quietestPlace}
+use Rattle.quietest.specs.Quietest.{numberIn, placeIn, numberGiven, PartOf, Handed}
+use Rattle.quietest.specs.declared.Place.{Place}
 use Rattle.quietest.specs.declared.Place.the-variants.{At, Refused}
 use Rattle.quietest.proofs.Order.{ge-trans, not-below-itself, one-way, below-at-most, less, at-most}
 use Rattle.quietest.proofs.Join.{further}
-use Rattle.quietest.proofs.Inside.{refused-zero, refused-long, accepted, place-within, apart, same-start}
+use Rattle.quietest.proofs.Inside.{by-width, not-refused, none, place-within, apart, same-start}
 
 -- ---- an extreme is one of the run's values, and none of them is beyond it
 
@@ -132,17 +134,22 @@ pub record Quietest (values : List ℤ) (w start : ℕ) : Type 0 where
   -- "the earliest among equals"
   pub earliest : (other : ℕ) → other < start → spread values start w <ℤ spread values other w
 
-pub quietest-run : (values : List ℤ) (w start : ℕ) → quietestPlace values w ≡ At start → Quietest values w start
-quietest-run values w start e =
-    by-eqb w 0 (λ z t. apart (sym e ∙ refused-zero values w z))
-    (λ z t. by-ltb (length values) w (λ l u. apart (sym e ∙ refused-long values w l)) (λ l u. run (omega arith) l))
+-- the place that an answer says
+at-place : (p : Place) {start : ℕ} → placeIn p ≡ start ∷ [] → p ≡ At start
+unfolding placeIn
+at-place (Refused n) e = none e
+at-place (At s) e = cc
+
+pub quietest-run : (values : List ℤ) (w start : ℕ) → placeIn (quietestPlace values w) ≡ start ∷ [] → Quietest values w start
+quietest-run values w start p =
+    by-width values w (λ o e. apart (sym (at-place _ p) ∙ e)) (λ h k e. run h k e)
   where
-    run : 1 ≤ w → w ≤ length values → Quietest values w start
-    run h k =
+    run : 1 ≤ w → w ≤ length values → quietestPlace values w ≡ At (quieter values w 0 1 (length values - w)) → Quietest values w start
+    run h k e =
         let n = length values - w in
-        let s : start ≡ quieter values w 0 1 n = same-start (sym e ∙ accepted values w h k) in
+        let s : start ≡ quieter values w 0 1 n = same-start (sym (at-place _ p) ∙ e) in
         record {
-          within = place-within values w start e;
+          within = place-within values w start (at-place _ p);
           least = λ other i. rw s (at-most (spread values (quieter values w 0 1 n) w) (spread values other w) (least-so-far values w n other (omega arith)));
           earliest = λ other i. rw s (less (spread values (quieter values w 0 1 n) w) (spread values other w) (earliest-so-far values w n other (omega arith)));
         }
@@ -155,46 +162,65 @@ quietest-only values w a b p q =
 
 -- ---- number 18, exactly for a width of 0 or above the length
 
-pub refused-exactly : (values : List ℤ) (w : ℕ) → (quietestPlace values w ≡ Refused 18) ↔ ((w ≡ 0) ⊎ (length values < w))
-refused-exactly values w = (there, back)
-  where
-    there : quietestPlace values w ≡ Refused 18 → (w ≡ 0) ⊎ (length values < w)
-    there e =
-        by-eqb w 0 (λ z t. inl z)
-        (λ z t. by-ltb (length values) w (λ l u. inr l) (λ l u. apart (sym (accepted values w (omega arith) l) ∙ e)))
+pub number-18 : (values : List ℤ) (w : ℕ) → (numberIn (quietestPlace values w) ≡ 18 ∷ []) ↔ ((w ≡ 0) ⊎ (length values < w))
+unfolding numberIn
+number-18 values w =
+    by-width values w (λ o e. (λ _. o, λ _. ap numberIn e))
+    (λ h k e. (λ n. none (sym (ap numberIn e) ∙ n), λ o. not-refused h k o))
 
-    back : (w ≡ 0) ⊎ (length values < w) → quietestPlace values w ≡ Refused 18
-    back h = ⊎-elim (λ z. refused-zero values w z) (λ l. refused-long values w l) h
+pub no-number : (values : List ℤ) (w : ℕ) → (numberIn (quietestPlace values w) ≡ []) ↔ ((1 ≤ w) × (w ≤ length values))
+unfolding numberIn
+no-number values w =
+    by-width values w (λ o e. (λ n. none (sym n ∙ ap numberIn e), λ p. not-refused (p .0) (p .1) o))
+    (λ h k e. (λ _. (h, k), λ _. ap numberIn e))
 
-pub only-number : (values : List ℤ) (w n : ℕ) → quietestPlace values w ≡ Refused n → n ≡ 18
-only-number values w n e =
-    by-eqb w 0 (λ z t. same (sym e ∙ refused-zero values w z))
-    (λ z t. by-ltb (length values) w (λ l u. same (sym e ∙ refused-long values w l))
-    (λ l u. apart (sym (accepted values w (omega arith) l) ∙ e)))
+pub only-number : (values : List ℤ) (w n : ℕ) → numberIn (quietestPlace values w) ≡ n ∷ [] → n ≡ 18
+unfolding numberIn
+only-number values w n p =
+    by-width values w (λ o e. same (sym p ∙ ap numberIn e)) (λ h k e. none (sym (ap numberIn e) ∙ p))
   where
-    same : {a b : ℕ} → Refused a ≡ Refused b → a ≡ b
+    same : {a b : ℕ} → a ∷ [] ≡ b ∷ [] → a ≡ b
     same f = cc
 
--- ---- the part that is handed back: w values, the list's own; no value for a refusal alone
+-- ---- the part and the number that the call hands back: w values, the list's own, and 0; or no value, and 18
 
-module _ (s r : RefT (List ℤ)) (w : ℕ) (handed : Handed (quietestPlace (s .now) w) w s r) where
-  pub part-of : (start : ℕ) → quietestPlace (s .now) w ≡ At start → PartOf s r start w
-  part-of start e = rw e at handed
+module _ (s r : RefT (List ℤ)) (w start : ℕ) (part : PartOf s r start w) where
+  pub part-values : (k : ℕ) → k < w → valueAt (r .now) k ≡ valueAt (s .now) (start + k)
+  part-values k h = rw (part .elements, getD-take, getD-drop)
 
-  pub part-values : (start k : ℕ) → quietestPlace (s .now) w ≡ At start → k < w → valueAt (r .now) k ≡ valueAt (s .now) (start + k)
-  part-values start k e h = rw (part-of start e .elements, getD-take, getD-drop)
+  pub part-length : start + w ≤ length (s .now) → length (r .now) ≡ w
+  part-length i = rw (part .elements) (simp (length-take, length-drop) (omega arith))
 
-  pub part-length : (start : ℕ) → quietestPlace (s .now) w ≡ At start → length (r .now) ≡ w
-  part-length start e = let i = place-within (s .now) w start e in rw (part-of start e .elements) (simp (length-take, length-drop) (omega arith))
+module _ (s r : RefT (List ℤ)) (w number : ℕ) (handed : Handed (quietestPlace (s .now) w) w s r)
+    (given : number ≡ numberGiven (quietestPlace (s .now) w)) where
+  abbrev Refusal : Type 0
+  Refusal = (w ≡ 0) ⊎ (length (s .now) < w)
 
-  pub empty-refused : (length (r .now) ≡ 0) ↔ (quietestPlace (s .now) w ≡ Refused 18)
-  empty-refused = (there, back)
-    where
-      there : length (r .now) ≡ 0 → quietestPlace (s .now) w ≡ Refused 18
-      there z =
-          by-eqb w 0 (λ e t. refused-zero (s .now) w e)
-          (λ e t. by-ltb (length (s .now)) w (λ l u. refused-long (s .now) w l)
-          (λ l u. absurd (omega (arith, part-length _ (accepted (s .now) w (omega arith) l)))))
+  by-number : {G : Type 0}
+      → (Refusal → number ≡ 18 → PartOf s r 0 0 → G)
+      → (1 ≤ w → w ≤ length (s .now) → number ≡ 0 → (start : ℕ) → Quietest (s .now) w start → PartOf s r start w → G)
+      → G
+  unfolding numberIn placeIn
+  by-number f g =
+      by-width (s .now) w
+      (λ o e. f o (given ∙ ap numberGiven e) (rw e at handed))
+      (λ h k e. g h k (given ∙ ap numberGiven e) _ (quietest-run (s .now) w _ (ap placeIn e)) (rw e at handed))
 
-      back : quietestPlace (s .now) w ≡ Refused 18 → length (r .now) ≡ 0
-      back e = let p : PartOf s r 0 0 = rw e at handed in rw (p .elements)
+  pub eighteen-given : (number ≡ 18) ↔ Refusal
+  eighteen-given =
+      by-number (λ o e p. (λ _. o, λ _. e)) (λ h k e start q p. (λ n. absurd (omega arith), λ o. not-refused h k o))
+
+  pub zero-given : (number ≡ 0) ↔ ((1 ≤ w) × (w ≤ length (s .now)))
+  zero-given =
+      by-number (λ o e p. (λ n. absurd (omega arith), λ q. not-refused (q .0) (q .1) o)) (λ h k e start q p. (λ _. (h, k), λ _. e))
+
+  pub run-handed : number ≡ 0 → (start : ℕ) × Quietest (s .now) w start × PartOf s r start w
+  run-handed z = by-number (λ o e p. absurd (omega arith)) (λ h k e start q p. (start, q, p))
+
+  pub empty-handed : number ≡ 18 → PartOf s r 0 0
+  empty-handed n = by-number (λ o e p. p) (λ h k e start q p. absurd (omega arith))
+
+  pub empty-refused : (length (r .now) ≡ 0) ↔ (number ≡ 18)
+  empty-refused =
+      by-number (λ o e p. (λ _. e, λ _. rw (p .elements)))
+      (λ h k e start q p. (λ z. absurd (omega (arith, part-length s r w start p (q .within))), λ n. absurd (omega arith)))

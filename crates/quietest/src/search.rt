@@ -5,8 +5,8 @@
 ghost use mathlib.Core.Path.{_≡_};
 ghost use Prim.Native.Nat.{_≤_, _<_, _+_, _-_};
 ghost use lib.ListN.{length};
-ghost use Rattle.quietest.specs.Window.{quieter};
-ghost use Rattle.quietest.specs.Search.{extremes, found, better, Within};
+ghost use Rattle.quietest.specs.Quietest.{quieter};
+ghost use Rattle.quietest.specs.Search.{extremesOf, found, better, Within};
 use crate::extremes::Extremes;
 use crate::extremes::extremes_of;
 use crate::extremes::joined;
@@ -19,7 +19,7 @@ pub struct Found {
 }
 
 // The quieter of what was found and one more run; what was found where they are equal.
-fn quieter_of(best: Found, start: usize, spread: i64) -> Found
+fn better(best: Found, start: usize, spread: i64) -> Found
     ensures { λ r. ⌜ r ≡ better best start spread ⌝ }
 {
     if spread < best.spread {
@@ -40,8 +40,8 @@ fn shared_by_first(
 ) -> Extremes
     requires { ⌜ Within (length (now values)) width from count ⌝ }
     requires { ⌜ (1 ≤ half) × (half < count) ⌝ }
-    requires { ⌜ shared ≡ extremes (now values) (from + count - 1) (width + 1 - count) ⌝ }
-    ensures { λ r. ⌜ r ≡ extremes (now (values .entry)) (from + half - 1) (width + 1 - half) ⌝ }
+    requires { ⌜ shared ≡ extremesOf (now values) (from + count - 1) (width + 1 - count) ⌝ }
+    ensures { λ r. ⌜ r ≡ extremesOf (now (values .entry)) (from + half - 1) (width + 1 - half) ⌝ }
 {
     joined(extremes_of(values, from + half - 1, count - half), shared)
 }
@@ -57,8 +57,8 @@ fn shared_by_second(
 ) -> Extremes
     requires { ⌜ Within (length (now values)) width from count ⌝ }
     requires { ⌜ (1 ≤ half) × (half < count) ⌝ }
-    requires { ⌜ shared ≡ extremes (now values) (from + count - 1) (width + 1 - count) ⌝ }
-    ensures { λ r. ⌜ r ≡ extremes (now (values .entry)) (from + count - 1) (width + 1 - (count - half)) ⌝ }
+    requires { ⌜ shared ≡ extremesOf (now values) (from + count - 1) (width + 1 - count) ⌝ }
+    ensures { λ r. ⌜ r ≡ extremesOf (now (values .entry)) (from + count - 1) (width + 1 - (count - half)) ⌝ }
 {
     joined(shared, extremes_of(values, from + width, half))
 }
@@ -73,12 +73,12 @@ fn search(
     best: Found,
 ) -> Found
     requires { ⌜ Within (length (now values)) width from count ⌝ }
-    requires { ⌜ shared ≡ extremes (now values) (from + count - 1) (width + 1 - count) ⌝ }
+    requires { ⌜ shared ≡ extremesOf (now values) (from + count - 1) (width + 1 - count) ⌝ }
     requires { ⌜ best ≡ found (now values) width (best .start) ⌝ }
     ensures { λ r. ⌜ r ≡ found (now (values .entry)) width (quieter (now (values .entry)) width (best .start) from count) ⌝ }
 {
     if count == 1 {
-        return quieter_of(best, from, spread_of(shared));
+        return better(best, from, spread_of(shared));
     }
     let half = count / 2;
     let first = shared_by_first(values, width, from, count, half, shared);

@@ -1,10 +1,11 @@
+-- `quietest::quietest` meets its contract.
 use Prim.Native.Nat.{ℕ, _+_, _-_, _*_, _≤_}
 use native.Mathlib.Nat.{add-comm, add-zero}
 use native.Mathlib.Omega.{arith}
 use mathlib.Core.Path.{_≡_, refl, sym, ap, _∙_}
 use lib.ListN.{length, take, drop}
 use borrow.Author.Needs.{needs}
-use Rattle.quietest.specs.Window.{quietestPlace}
+use Rattle.quietest.specs.Quietest.{quietestPlace, numberIn}
 use Rattle.quietest.specs.declared.Place.the-variants.{At, Refused}
 use Rattle.quietest.proofs.Inside.{place-within}
 use Rattle.quietest.proofs.quietest.Statement.{statement}
@@ -45,26 +46,30 @@ part-result-start c = search needs
 part-result-end : tie.Need-part-result-end
 part-result-end c = let h = within c in omega arith
 
-enum-told : tie.Need-enum-told
-enum-told c = search needs
+enum-known-place-2 : tie.Need-enum-known-place-2
+enum-known-place-2 c = search needs
 
 slice-aggregate-result : tie.Need-slice-aggregate-result
 slice-aggregate-result c = search needs
 
 returns : tie.Need-returns
+unfolding numberIn
 returns c =
     let args = c .before .before .before .before .before .args in
     let start = c .before .before .place .given .0 .0 in
     let n : start + args .width - start ≡ args .width = omega arith in
-    rw (at-start (c .before))
-    (record { block = refl; offset = add-comm (start * 4) (args .values .ptr .1); elements = ap (λ (k : ℕ). take k (drop start (args .values .now))) n })
+    rw (at-start (c .before)) (
+      record { block = refl; offset = add-comm (start * 4) (args .values .ptr .1); elements = ap (λ (k : ℕ). take k (drop start (args .values .now))) n },
+      refl,
+    )
 
 returns-2 : tie.Need-returns-2
+unfolding numberIn
 returns-2 c =
-    let args = c .before .before .before .before .args in
-    let refused : quietestPlace (args .values .now) (args .width) ≡ Refused (c .before .enum-told .given .0 .0)
-    = sym (c .before .before .before .quietest-place .ensures) ∙ c .before .enum-told .given .1 in
-    rw refused (record { block = refl; offset = sym (add-zero (args .values .ptr .1)); elements = refl })
+    let args = c .before .before .before .before .before .args in
+    let refused : quietestPlace (args .values .now) (args .width) ≡ Refused (c .before .before .place2 .given .0 .0)
+    = sym (c .before .before .before .before .quietest-place .ensures) ∙ c .before .before .place2 .given .1 in
+    rw refused (record { block = refl; offset = sym (add-zero (args .values .ptr .1)); elements = refl }, refl)
 
 pub quietest-spec : {M : Type 1} → statement M
 quietest-spec =
@@ -77,7 +82,7 @@ quietest-spec =
     sub-result
     part-result-start
     part-result-end
-    enum-told
+    enum-known-place-2
     slice-aggregate-result
     returns
     returns-2)

@@ -7,8 +7,8 @@ use borrow.Author.Needs.{needs}
 use lib.IntN.{ℤ}
 use mir.Syntax.{w32}
 use mir.Val.{toZ}
-use Rattle.quietest.specs.Window.{valueAt, larger, smaller, extreme, largest, smallest}
-use Rattle.quietest.specs.Search.{extremes}
+use Rattle.quietest.specs.Quietest.{valueAt, larger, smaller, extreme, largest, smallest}
+use Rattle.quietest.specs.Search.{extremesOf}
 use Rattle.quietest.specs.declared.extremes.Extremes.{Extremes}
 use Rattle.quietest.proofs.Signed.{back}
 use Rattle.quietest.proofs.extremes.extremes_of.Statement.{statement}
@@ -16,7 +16,7 @@ use Rattle.quietest.proofs.extremes.extremes_of.Tie as tie
 
 ended :
     (values : List ℤ) (from n : ℕ) {k : ℕ} {high low : ℤ} → k ≡ n → high ≡ largest values from k → low ≡ smallest values from k
-    → _≡_ {A = Extremes} (record { high = high; low = low }) (extremes values from n)
+    → _≡_ {A = Extremes} (record { high = high; low = low }) (extremesOf values from n)
 ended values from n e h l = cc
 
 abbrev Inv-loop : tie.InvT-loop
@@ -44,11 +44,11 @@ mul-x c = search needs
 shared-slice-copy-out-x : tie.Need-shared-slice-copy-out-x Inv-loop μ-loop
 shared-slice-copy-out-x c = search needs
 
-larger-of-requires : tie.Need-larger-of-requires Inv-loop μ-loop
-larger-of-requires c κs = search needs
+larger-requires : tie.Need-larger-requires Inv-loop μ-loop
+larger-requires c κs = search needs
 
-smaller-of-requires : tie.Need-smaller-of-requires Inv-loop μ-loop
-smaller-of-requires c κs = search needs
+smaller-requires : tie.Need-smaller-requires Inv-loop μ-loop
+smaller-requires c κs = search needs
 
 add-k : tie.Need-add-k Inv-loop μ-loop
 add-k c = search needs
@@ -60,8 +60,8 @@ loop-again : tie.Need-loop-again Inv-loop μ-loop
 unfolding extreme
 loop-again c =
     let at-loop = c .before .before .before .before .loop in
-    let high = c .before .larger-of in
-    let low = c .smaller-of in
+    let high = c .before .larger in
+    let low = c .smaller in
     let args = c .before .before .before .before .before .before .args in
     let x = valueAt (args .values .now) (args .from + at-loop .k) in (
       search needs,
@@ -88,8 +88,8 @@ extremes-of-spec =
     add-x
     mul-x
     shared-slice-copy-out-x
-    larger-of-requires
-    smaller-of-requires
+    larger-requires
+    smaller-requires
     add-k
     loop-less
     loop-again

@@ -3,7 +3,7 @@ use native.Mathlib.Omega.{arith}
 use mir.Syntax.{w64}
 use mir.ValLaws.{toZ-ofZ}
 use borrow.Author.Needs.{needs}
-use Rattle.quietest.specs.Window.{quieter}
+use Rattle.quietest.specs.Quietest.{quieter}
 use Rattle.quietest.proofs.Join.{one-start, two-groups, found-itself}
 use Prim.Native.Nat.{ℕ, _<_, _+_, _-_, _/_}
 use borrow.Fn.Kinds.{In}
@@ -12,7 +12,7 @@ use Rattle.quietest.proofs.search.search.Reads as search′
 use Rattle.quietest.proofs.search.search.Kinds as search-kinds
 use Rattle.quietest.proofs.search.+search.Lts-search as search-lts
 use Rattle.quietest.proofs.extremes.spread_of.Reads as spread-of-reads
-use Rattle.quietest.proofs.search.quieter_of.Reads as quieter-of-reads
+use Rattle.quietest.proofs.search.better.Reads as better-reads
 use Rattle.quietest.proofs.search.shared_by_first.Reads as shared-by-first-reads
 use Rattle.quietest.proofs.search.shared_by_second.Reads as shared-by-second-reads
 use Rattle.quietest.proofs.search.+search.{statement}
@@ -31,8 +31,8 @@ abbrev called : ℕ → search-lts.Claims
 called t = (
   spread-of-reads.Asked,
   spread-of-reads.Learnt,
-  quieter-of-reads.Asked,
-  quieter-of-reads.Learnt,
+  better-reads.Asked,
+  better-reads.Learnt,
   shared-by-first-reads.Asked,
   shared-by-first-reads.Learnt,
   shared-by-second-reads.Asked,
@@ -44,8 +44,8 @@ called t = (
 search-spread-of-requires : (t : ℕ) → search-lts.Need-spread-of-requires (called t) (search-at t) search′.Post
 search-spread-of-requires t c κs = search needs
 
-search-quieter-of-requires : (t : ℕ) → search-lts.Need-quieter-of-requires (called t) (search-at t) search′.Post
-search-quieter-of-requires t c κs = search needs
+search-better-requires : (t : ℕ) → search-lts.Need-better-requires (called t) (search-at t) search′.Post
+search-better-requires t c κs = search needs
 
 search-returns : (t : ℕ) → search-lts.Need-returns (called t) (search-at t) search′.Post
 search-returns t c =
@@ -53,7 +53,7 @@ search-returns t c =
     let args = start .args in
     one-start (args .values .now) (args .width) (args .from) (args .count) (c .before .before .if1 .taken)
     (start .pre .1 .1 .0) (start .pre .1 .1 .1)
-    (toZ-ofZ w64 (c .before .spread-of .result) (record { sfits = c .before .spread-of .ok }) ∙ c .before .spread-of .ensures) (c .quieter-of .ensures)
+    (toZ-ofZ w64 (c .before .spread-of .result) (record { sfits = c .before .spread-of .ok }) ∙ c .before .spread-of .ensures) (c .better .ensures)
 
 search-shared-by-first-requires : (t : ℕ) → search-lts.Need-shared-by-first-requires (called t) (search-at t) search′.Post
 search-shared-by-first-requires t c κs =
@@ -96,7 +96,7 @@ pub +search-spec : {M : Type 1} → statement M
     (search-at t)
     search′.Post
     (search-spread-of-requires t)
-    (search-quieter-of-requires t)
+    (search-better-requires t)
     (search-returns t)
     (search-shared-by-first-requires t)
     (search-shared-by-second-requires t)

@@ -5,7 +5,7 @@ use lib.ListN.{length}
 use mir.Syntax.{w64}
 use mir.ValLaws.{toZ-ofZ}
 use borrow.Author.Needs.{needs}
-use Rattle.quietest.specs.Window.{quieter}
+use Rattle.quietest.specs.Quietest.{quieter}
 use Rattle.quietest.specs.Search.{found}
 use Rattle.quietest.proofs.Join.{first-start, next-group, found-itself}
 use Rattle.quietest.proofs.search.search_all.Statement.{statement}

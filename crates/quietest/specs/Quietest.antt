@@ -1,7 +1,7 @@
 -- The quietest run of neighbours in a list of differences.
 use Prim.Native.Nat.{ℕ, zero, suc, _+_, _-_, _*_}
 use mathlib.Core.Path.{_≡_}
-use mathlib.Core.List.{List}
+use mathlib.Core.List.{List, [], _∷_}
 use lib.IntN.{ℤ, pos, _-ℤ_}
 use lib.Signed.{ltZ}
 use lib.ListN.{length, getD, take, drop}
@@ -49,6 +49,19 @@ quietestPlace values w =
     pick (either (eqb w 0) (ltb (length values) w))
     (Refused 18)
     (At (quieter values w 0 1 (length values - w)))
+
+-- What an answer says: the number of a refusal; the place of the run.
+unfoldable pub numberIn : Place → List ℕ
+numberIn (Refused number) = number ∷ []
+numberIn (At start) = []
+
+unfoldable pub placeIn : Place → List ℕ
+placeIn (Refused number) = []
+placeIn (At start) = start ∷ []
+
+-- the number beside a part that is handed back: 0 where the answer says none
+abbrev pub numberGiven : Place → ℕ
+numberGiven place = getD (numberIn place) 0 0
 
 -- r is the part of the slice s itself that holds n values from its place `start` on: it lies in the same memory, four bytes a
 -- value further on

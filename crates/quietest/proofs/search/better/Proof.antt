@@ -1,8 +1,8 @@
 use mir.Syntax.{w64}
 use mir.ValLaws.{toZ-ofZ}
 use Rattle.quietest.proofs.Signed.{tested}
-use Rattle.quietest.proofs.search.quieter_of.Statement.{statement}
-use Rattle.quietest.proofs.search.quieter_of.Tie as tie
+use Rattle.quietest.proofs.search.better.Statement.{statement}
+use Rattle.quietest.proofs.search.better.Tie as tie
 
 returns : tie.Need-returns
 returns c =
@@ -16,5 +16,5 @@ returns-2 c =
     let fits = c .before .before .before .fits .spread in
     simp (tested w64 (args .spread) (args .best .spread) fits (record { sfits = c .before .struct-told .given .1 .0 .1 }) (c .if1 .left))
 
-pub quieter-of-spec : {M : Type 1} → statement M
-quieter-of-spec = tie.close (tie.spec returns returns-2)
+pub better-spec : {M : Type 1} → statement M
+better-spec = tie.close (tie.spec returns returns-2)

@@ -1,8 +1,7 @@
 -- Worked examples, by computation. Assumes nothing.
-use Prim.Native.Nat.{ℕ}
 use mathlib.Core.Path.{_≡_, refl}
-use mathlib.Core.List.{List, [], _∷_}
-use lib.IntN.{ℤ, pos, negsuc}
+use mathlib.Core.List.{[], _∷_}
+use lib.IntN.{pos, negsuc}
 use Rattle.quietest.specs.Quietest.{larger, smaller, extreme, spread, quieter, quietestPlace}
 use Rattle.quietest.specs.declared.Place.the-variants.{At, Refused}
 

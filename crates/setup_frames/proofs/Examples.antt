@@ -1,6 +1,5 @@
 -- Frames of some set-ups, computed.
-use Prim.Native.Nat.{ℕ}
-use mathlib.Core.List.{List, [], _∷_}
+use mathlib.Core.List.{[], _∷_}
 use mathlib.Core.Path.{_≡_, refl}
 use Rattle.setup.specs.Setup.{factory}
 use Rattle.setup_frames.specs.Frames.{differs, differsBefore, starts, runLength, bytesOf, frameAt, framesFrom, frames}

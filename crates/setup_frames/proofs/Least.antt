@@ -4,13 +4,13 @@ use Prim.Native.Nat.{ℕ, zero, suc, _+_, _-_, _*_, _≤_, _<_}
 use native.Mathlib.Omega.{arith}
 use mathlib.Core.Bool.{Bool, true, false}
 use mathlib.Core.List.{List, [], _∷_}
-use mathlib.Core.Logic.{_⊎_, inl, inr}
+use mathlib.Core.Logic.{_⊎_, inl}
 use mathlib.Core.Path.{_≡_, refl}
 use lib.ListN.{length, getD, set, drop, length-append}
 use lib.Seq.{getD-set-other}
-use lib.Dec.{ltb, eqb}
-use borrow.Author.Tests.{eq-eqb, lt-ltb, le-ltb, eqb-false}
-use Rattle.unit.specs.Choice.{pick, both, negate}
+use lib.Dec.{ltb}
+use borrow.Author.Tests.{eq-eqb, le-ltb, eqb-false}
+use Rattle.unit.specs.Choice.{pick, both}
 use Rattle.unit.specs.Cases.{by-test, by-ltb}
 use Rattle.setup.specs.Setup.{factory}
 use Rattle.frame.specs.Frame.{isWrite, wordAt}
@@ -24,7 +24,7 @@ use Rattle.device.specs.Call.{noFrame, wrongLength}
 use Rattle.device.specs.Reply.{acceptedModel}
 use Rattle.device.specs.History.{after}
 use Rattle.device.proofs.Table.{none-holds}
-use Rattle.setup_frames.specs.Frames.{differs, frames, joined}
+use Rattle.setup_frames.specs.Frames.{differs, frames, allBytes}
 use Rattle.setup_frames.specs.Sending.{sent, setupFrom, onlyWrites}
 use Rattle.setup_frames.proofs.Pace.{sumFrom, paced, sum-most, sum-but-one}
 use Rattle.setup_frames.proofs.Weight.{weight, weight-most, weight-gap, total}
@@ -122,8 +122,8 @@ both-hold false b e = let z : _≡_ {A = ℕ} 0 1 = cc in absurd (omega arith)
 list-adds :
     (s : List ℕ) (fs : List (List ℕ)) (m : Model) →
     onlyWrites fs ≡ true →
-    changes s (after m (sent fs) .setup) ≤ changes s (m .setup) + length (joined fs)
-unfolding onlyWrites after joined
+    changes s (after m (sent fs) .setup) ≤ changes s (m .setup) + length (allBytes fs)
+unfolding onlyWrites after allBytes
 list-adds s [] m w = omega arith
 list-adds s (f ∷ fs) m w =
     let (one, others) = both-hold (isWrite (opcode f)) (onlyWrites fs) w in
@@ -131,7 +131,7 @@ list-adds s (f ∷ fs) m w =
       arith,
       list-adds s fs (reply m (transaction f [] []) .model) others,
       frame-adds s m f one,
-      length-append f (joined fs),
+      length-append f (allBytes fs),
     )
 
 -- a fresh model has no changes, and the set-up itself those that its frames bring
@@ -147,7 +147,7 @@ all-changed : (s : List ℕ) (i : ℕ) → i < 16 → weight s i ≤ changed s s
 unfolding changed weight
 all-changed s i h = by-test (differs s i) (λ d. rw d (omega arith)) (λ d. rw d (omega arith))
 
-all-changes : (s : List ℕ) → length (joined (frames s)) ≤ changes s s
+all-changes : (s : List ℕ) → length (allBytes (frames s)) ≤ changes s s
 unfolding changes
 all-changes s = omega (arith, total s, sum-most (weight s) (changed s s) 16 (all-changed s))
 
@@ -155,7 +155,7 @@ pub least :
     (s : List ℕ) (fs : List (List ℕ)) →
     onlyWrites fs ≡ true →
     setupFrom fs ≡ s →
-    length (joined (frames s)) ≤ length (joined fs)
+    length (allBytes (frames s)) ≤ length (allBytes fs)
 unfolding setupFrom
 least s fs w e =
     omega (arith, all-changes s, fresh-changes s, rw e at (list-adds s fs freshModel w))

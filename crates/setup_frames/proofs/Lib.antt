@@ -7,4 +7,5 @@ pub mod Reached
 pub mod Sent
 pub mod Made
 pub mod Meaning
+pub mod Brought
 pub mod Examples

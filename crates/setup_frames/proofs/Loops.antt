@@ -1,14 +1,14 @@
 -- What the loops keep.
-use Prim.Native.Nat.{ℕ, zero, suc, _+_, _-_, _*_, _/_, _%_, _≤_, _<_}
+use Prim.Native.Nat.{ℕ, suc, _+_, _-_, _*_, _/_, _%_, _≤_, _<_}
 use native.Mathlib.Nat.{zero-add, add-zero, add-suc, suc-add}
 use native.Mathlib.Numerals.{add-one}
 use native.Mathlib.Omega.{arith}
 use mathlib.Core.Bool.{true, false}
 use mathlib.Core.List.{List, [], _∷_, _++_}
-use mathlib.Core.Path.{_≡_, refl, sym, ap, _∙_}
+use mathlib.Core.Path.{_≡_, refl, sym, _∙_}
 use lib.ListN.{length, getD, set, length-append, length-set, length-map}
 use lib.Seq.{sets, sets-eq, length-sets}
-use Rattle.setup_frames.specs.Frames.{differs, starts, runLength, bytesOf, frameAt, framesFrom, frames, joined, lengthsOf, over}
+use Rattle.setup_frames.specs.Frames.{differs, starts, runLength, bytesOf, frameAt, framesFrom, frames, allBytes, lengthsOf, over}
 use Rattle.setup_frames.proofs.Weight.{length-frame, bytes-most, frames-most}
 
 -- Counting a run's words: n are counted, and the one at i + n differs, or does not, or is past the last.
@@ -72,9 +72,9 @@ sets-over l values h = sets-eq values l 0 (omega arith) ∙ rw (zero-add (length
 -- the first frame, then the others
 first-bytes :
     (f : List ℕ) (r : List (List ℕ)) (b : List ℕ) (at : ℕ) →
-    sets b at (joined (f ∷ r)) ≡ sets (sets b at f) (at + length f) (joined r)
-unfolding joined
-first-bytes f r b at = sets-append f (joined r) b at
+    sets b at (allBytes (f ∷ r)) ≡ sets (sets b at f) (at + length f) (allBytes r)
+unfolding allBytes
+first-bytes f r b at = sets-append f (allBytes r) b at
 
 first-length :
     (f : List ℕ) (r : List (List ℕ)) (l : List ℕ) (n : ℕ) →
@@ -87,9 +87,9 @@ pub record Put (s bytes lengths b l : List ℕ) (i at n : ℕ) : Type 0 where
   pub within : i ≤ 16
   pub bytes-kept : length b ≡ length bytes
   pub lengths-kept : length l ≡ length lengths
-  pub in-bytes : sets bytes 0 (joined (frames s)) ≡ sets b at (joined (framesFrom s i (16 - i)))
+  pub in-bytes : sets bytes 0 (allBytes (frames s)) ≡ sets b at (allBytes (framesFrom s i (16 - i)))
   pub in-lengths : sets lengths 0 (lengthsOf (frames s)) ≡ sets l n (lengthsOf (framesFrom s i (16 - i)))
-  pub bytes-left : at + length (joined (framesFrom s i (16 - i))) ≡ length (joined (frames s))
+  pub bytes-left : at + length (allBytes (framesFrom s i (16 - i))) ≡ length (allBytes (frames s))
   pub frames-left : n + length (framesFrom s i (16 - i)) ≡ length (frames s)
 
 pub put-begins : (s bytes lengths : List ℕ) → Put s bytes lengths bytes lengths 0 0 0
@@ -132,10 +132,10 @@ module _ {s bytes lengths b l : List ℕ} {i at n : ℕ} (p : Put s bytes length
     frame-here : length (frameAt s i) ≡ 1 + 2 * words
     frame-here = rw w (length-frame s i)
 
-    bytes-next : at + (1 + 2 * words) + length (joined (framesFrom s (i + 1) (16 - (i + 1)))) ≡ length (joined (frames s))
-    unfolding joined
+    bytes-next : at + (1 + 2 * words) + length (allBytes (framesFrom s (i + 1) (16 - (i + 1)))) ≡ length (allBytes (frames s))
+    unfolding allBytes
     bytes-next =
-        let r = joined (framesFrom s (i + 1) (16 - (i + 1))) in
+        let r = allBytes (framesFrom s (i + 1) (16 - (i + 1))) in
         omega (arith, rw (one-here s i h t) at (p .bytes-left), length-append (frameAt s i) r, frame-here)
 
     frames-next : n + 1 + length (framesFrom s (i + 1) (16 - (i + 1))) ≡ length (frames s)
@@ -172,15 +172,15 @@ module _ {s bytes lengths b l : List ℕ} {i at n : ℕ} (p : Put s bytes length
     unfolding framesFrom
     none-left = let e : 16 - i ≡ 0 = omega arith in rw e
 
-    pub put-counts : (at ≡ length (joined (frames s))) × (n ≡ length (frames s))
-    unfolding joined
+    pub put-counts : (at ≡ length (allBytes (frames s))) × (n ≡ length (frames s))
+    unfolding allBytes
     put-counts =
         (omega (arith, rw none-left at (p .bytes-left)), omega (arith, rw none-left at (p .frames-left)))
 
-    pub put-bytes : 33 ≤ length bytes → b ≡ over bytes (joined (frames s))
-    unfolding joined
+    pub put-bytes : 33 ≤ length bytes → b ≡ over bytes (allBytes (frames s))
+    unfolding allBytes
     put-bytes room =
-        sym (rw none-left at (p .in-bytes)) ∙ sets-over bytes (joined (frames s)) (omega (arith, bytes-most s))
+        sym (rw none-left at (p .in-bytes)) ∙ sets-over bytes (allBytes (frames s)) (omega (arith, bytes-most s))
 
     pub put-lengths : 8 ≤ length lengths → l ≡ over lengths (lengthsOf (frames s))
     unfolding lengthsOf

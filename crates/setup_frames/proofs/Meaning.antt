@@ -1,18 +1,21 @@
 -- Facts that pin the definitions down: what a run is, that both buffers give the frames back, and equal words.
-use Prim.Native.Nat.{ℕ, zero, suc, _+_, _-_, _<_, _≤_}
+use Prim.Native.Nat.{ℕ, zero, suc, _+_, _<_}
 use native.Mathlib.Nat.{add-zero}
 use native.Mathlib.Omega.{arith}
 use mathlib.Core.Bool.{true, false}
-use mathlib.Core.List.{List, [], _∷_, _++_, append-assoc}
+use mathlib.Core.List.{List, [], _∷_, _++_}
 use mathlib.Core.Path.{_≡_, refl, sym, ap, _∙_}
-use lib.ListN.{length, take, drop, length-map}
+use lib.ListN.{length, drop, length-map}
 use lib.Seq.{take-at, drop-at}
 use Rattle.unit.specs.Cases.{by-test}
 use Rattle.device.specs.declared.Model.{Model}
-use Rattle.device.specs.Model.{isSound}
+use Rattle.device.specs.Call.{accepted}
 use Rattle.setup_frames.specs.declared.Framed.{Framed}
-use Rattle.setup_frames.specs.Frames.{differs, differsBefore, starts, runLength, frames, joined, lengthsOf, over, framesVerdict, Written}
-use Rattle.setup_frames.specs.Sending.{cut}
+use Rattle.setup_frames.specs.declared.Framed.the-variants.{Frames}
+use Rattle.setup_frames.specs.Frames.{differs, differsBefore, starts, runLength, frames, allBytes, lengthsOf, over}
+use Rattle.setup_frames.specs.Frames.{framesVerdict, answerBy, bytesBy, lengthsBy, Written, numberIn}
+use Rattle.setup_frames.specs.Sending.{cut, framesLeft}
+use Rattle.setup_frames.proofs.Outcome.{accepted-said}
 
 -- "maximal runs of differing words": all its words differ, and the word after it does not; nor does the one before it
 pub run-differs : (s : List ℕ) (k i j : ℕ) → j < runLength s i k → differs s (i + j) ≡ true
@@ -40,37 +43,54 @@ unfolding starts
 starts-here s i =
     by-test (differsBefore s i) (λ b. rw b (λ e. (cc, sym e))) (λ b. rw b (λ e. (e, refl)))
 
--- cutting the bytes by the lengths gives the frames back, whatever stands past them in both buffers
-cut-joined : (fs : List (List ℕ)) (rest : List ℕ) → cut (lengthsOf fs) (joined fs ++ rest) ≡ fs
-unfolding cut lengthsOf joined
-cut-joined [] rest = refl
-cut-joined (f ∷ fs) rest =
-    rw (
-      append-assoc f (joined fs) rest,
-      take-at f (joined fs ++ rest) (length f) refl,
-      drop-at f (joined fs ++ rest) (length f) refl,
-    )
-    (ap (λ (r : List (List ℕ)). f ∷ r) (cut-joined fs rest))
+-- both buffers give the frames back, whatever they held before
+cut-all : (fs : List (List ℕ)) → cut (lengthsOf fs) (allBytes fs) ≡ fs
+unfolding cut lengthsOf allBytes
+cut-all [] = refl
+cut-all (f ∷ fs) =
+    rw (take-at f (allBytes fs) (length f) refl, drop-at f (allBytes fs) (length f) refl)
+    (ap (λ (r : List (List ℕ)). f ∷ r) (cut-all fs))
 
 counted : (fs : List (List ℕ)) → length (lengthsOf fs) ≡ length fs
 unfolding lengthsOf
 counted fs = length-map fs length
 
-pub cut-buffers :
-    (s bytes lengths : List ℕ) →
-    cut (take (length (frames s)) (over lengths (lengthsOf (frames s)))) (over bytes (joined (frames s))) ≡ frames s
-unfolding over
-cut-buffers s bytes lengths =
-    rw (take-at (lengthsOf (frames s)) (drop (length (lengthsOf (frames s))) lengths) (length (frames s)) (counted (frames s)))
-    (cut-joined (frames s) (drop (length (joined (frames s))) bytes))
+module _ (m : Model) (bytes lengths b l : List ℕ) (r : Framed) (w : Written m bytes lengths r b l) (e : numberIn r ≡ []) where
+  done : framesVerdict m (length bytes) (length lengths) ≡ accepted
+  done = accepted-said (framesVerdict m (length bytes) (length lengths)) (m .setup) (sym (ap numberIn (w .answer)) ∙ e)
 
--- "Models with equal words give equal frames."
+  pub frames-counted : r ≡ Frames (length (allBytes (frames (m .setup)))) (length (frames (m .setup)))
+  unfolding answerBy
+  frames-counted = w .answer ∙ rw done
+
+  pub frames-left : framesLeft r b l ≡ frames (m .setup)
+  unfolding framesLeft bytesBy lengthsBy over
+  frames-left =
+      let fs = frames (m .setup) in
+      let inBytes : b ≡ allBytes fs ++ drop (length (allBytes fs)) bytes = w .inBytes ∙ rw done in
+      let inLengths : l ≡ lengthsOf fs ++ drop (length (lengthsOf fs)) lengths = w .inLengths ∙ rw done in
+      rw (
+        frames-counted,
+        inBytes,
+        inLengths,
+        take-at (lengthsOf fs) (drop (length (lengthsOf fs)) lengths) (length fs) (counted fs),
+        take-at (allBytes fs) (drop (length (allBytes fs)) bytes) (length (allBytes fs)) refl,
+      )
+      (cut-all fs)
+
+-- "Models with equal words give equal frames", whatever the buffers are
 pub equal-words :
-    (m n : Model) (bytes lengths b b′ l l′ : List ℕ) (r r′ : Framed) →
-    isSound m ≡ isSound n →
+    (m n : Model) (bytes bytes′ lengths lengths′ b b′ l l′ : List ℕ) (r r′ : Framed) →
     m .setup ≡ n .setup →
     Written m bytes lengths r b l →
-    Written n bytes lengths r′ b′ l′ →
-    (r ≡ r′) × (b ≡ b′) × (l ≡ l′)
-unfolding framesVerdict
-equal-words m n bytes lengths b b′ l l′ r r′ e s p q = (cc, cc, cc)
+    Written n bytes′ lengths′ r′ b′ l′ →
+    numberIn r ≡ [] →
+    numberIn r′ ≡ [] →
+    (r ≡ r′) × (framesLeft r b l ≡ framesLeft r′ b′ l′)
+equal-words m n bytes bytes′ lengths lengths′ b b′ l l′ r r′ s p q e f =
+    let counts : r ≡ Frames (length (allBytes (frames (n .setup)))) (length (frames (n .setup))) =
+    rw s at (frames-counted m bytes lengths b l r p e)
+    in (
+      counts ∙ sym (frames-counted n bytes′ lengths′ b′ l′ r′ q f),
+      frames-left m bytes lengths b l r p e ∙ ap frames s ∙ sym (frames-left n bytes′ lengths′ b′ l′ r′ q f),
+    )

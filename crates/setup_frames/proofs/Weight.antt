@@ -2,7 +2,7 @@
 -- is what the frames have, and so they fit: 33 bytes, 8 frames.
 use Prim.Native.Nat.{ℕ, zero, suc, _+_, _-_, _*_, _≤_}
 use native.Mathlib.Omega.{arith}
-use mathlib.Core.Bool.{true, false}
+use mathlib.Core.Bool.{true}
 use mathlib.Core.List.{List}
 use mathlib.Core.Logic.{_⊎_, inl, inr}
 use mathlib.Core.Path.{_≡_, refl}
@@ -10,7 +10,7 @@ use lib.ListN.{length, length-append}
 use borrow.Author.Tests.{ne-eqb}
 use Rattle.unit.specs.Choice.{pick}
 use Rattle.unit.specs.Cases.{by-test}
-use Rattle.setup_frames.specs.Frames.{differs, differsBefore, starts, runLength, bytesOf, frameAt, framesFrom, frames, joined}
+use Rattle.setup_frames.specs.Frames.{differs, differsBefore, starts, runLength, bytesOf, frameAt, framesFrom, frames, allBytes}
 use Rattle.setup_frames.proofs.Pace.{sumFrom, sum-front, paced}
 
 pub before-next : (s : List ℕ) (i : ℕ) → differsBefore s (suc i) ≡ differs s i
@@ -68,39 +68,39 @@ run-goes-on s i k e d = rw (e, d)
 abbrev Rest : List ℕ → ℕ → ℕ → Type 0
 Rest s k i =
     sumFrom (weight s) (suc i) k
-    ≡ length (joined (framesFrom s (suc i) k)) + pick (differs s i) (2 * runLength s (suc i) k) 0
+    ≡ length (allBytes (framesFrom s (suc i) k)) + pick (differs s i) (2 * runLength s (suc i) k) 0
 
 step :
     (s : List ℕ) (k i : ℕ) →
     16 - i ≡ suc k →
     Rest s k i →
     weight s i + sumFrom (weight s) (suc i) k
-    ≡ length (joined (framesFrom s i (suc k))) + pick (differsBefore s i) (2 * runLength s i (suc k)) 0
-unfolding weight joined framesFrom runLength starts
+    ≡ length (allBytes (framesFrom s i (suc k))) + pick (differsBefore s i) (2 * runLength s i (suc k)) 0
+unfolding weight allBytes framesFrom runLength starts
 step s k i e =
     by-test (differs s i)
     (λ d. by-test (differsBefore s i)
     (λ b. rw (d, b) (λ r. omega arith))
     (λ b.
     let f : length (frameAt s i) ≡ 1 + 2 * suc (runLength s (suc i) k) = rw (run-goes-on s i k e d) at (length-frame s i) in
-    rw (d, b) (λ r. omega (arith, length-append (frameAt s i) (joined (framesFrom s (suc i) k))))))
+    rw (d, b) (λ r. omega (arith, length-append (frameAt s i) (allBytes (framesFrom s (suc i) k))))))
     (λ d. by-test (differsBefore s i) (λ b. rw (d, b) (λ r. omega arith)) (λ b. rw (d, b) (λ r. omega arith)))
 
 tally :
     (s : List ℕ) (k i : ℕ) →
     i + k ≡ 16 →
-    sumFrom (weight s) i k ≡ length (joined (framesFrom s i k)) + pick (differsBefore s i) (2 * runLength s i k) 0
-unfolding joined framesFrom runLength
+    sumFrom (weight s) i k ≡ length (allBytes (framesFrom s i k)) + pick (differsBefore s i) (2 * runLength s i k) 0
+unfolding allBytes framesFrom runLength
 tally s zero i h = by-test (differsBefore s i) (λ b. rw b) (λ b. rw b)
 tally s (suc k) i h =
     rw (sum-front (weight s) i k)
     (step s k i (omega arith) (rw (before-next s i) at (tally s k (suc i) (omega arith))))
 
-pub total : (s : List ℕ) → sumFrom (weight s) 0 16 ≡ length (joined (frames s))
+pub total : (s : List ℕ) → sumFrom (weight s) 0 16 ≡ length (allBytes (frames s))
 unfolding frames differsBefore
 total s = omega (arith, tally s 16 0 refl)
 
-pub bytes-most : (s : List ℕ) → length (joined (frames s)) ≤ 33
+pub bytes-most : (s : List ℕ) → length (allBytes (frames s)) ≤ 33
 bytes-most s = omega (arith, total s, paced 2 (weight s) (omega arith) (weight-most s) (weight-gap s) 0 16)
 
 count : (s : List ℕ) (k i : ℕ) → sumFrom (mark s) i k ≡ 2 * length (framesFrom s i k)

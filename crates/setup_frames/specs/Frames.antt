@@ -49,9 +49,9 @@ unfoldable pub frames : List ℕ → List (List ℕ)
 frames s = framesFrom s 0 16
 
 -- "Bytes go to one lent buffer, frame lengths to another"
-unfoldable pub joined : List (List ℕ) → List ℕ
-joined [] = []
-joined (f ∷ fs) = f ++ joined fs
+unfoldable pub allBytes : List (List ℕ) → List ℕ
+allBytes [] = []
+allBytes (f ∷ fs) = f ++ allBytes fs
 
 unfoldable pub lengthsOf : List (List ℕ) → List ℕ
 lengthsOf fs = map length fs
@@ -68,11 +68,11 @@ framesVerdict m bytes lengths =
 
 -- "counts in the answer": bytes, frames
 unfoldable pub answerBy : Verdict → List ℕ → Framed
-answerBy accepted s = Frames (length (joined (frames s))) (length (frames s))
+answerBy accepted s = Frames (length (allBytes (frames s))) (length (frames s))
 answerBy (refused n) s = Refused n
 
 unfoldable pub bytesBy : Verdict → List ℕ → List ℕ → List ℕ
-bytesBy accepted s buffer = over buffer (joined (frames s))
+bytesBy accepted s buffer = over buffer (allBytes (frames s))
 bytesBy (refused n) s buffer = buffer
 
 unfoldable pub lengthsBy : Verdict → List ℕ → List ℕ → List ℕ
@@ -86,10 +86,10 @@ pub record Written (m : Model) (bytes lengths : List ℕ) (r : Framed) (bytes′
   pub inLengths : lengths′ ≡ lengthsBy (framesVerdict m (length bytes) (length lengths)) (m .setup) lengths
 
 -- What an answer says: the number of a refusal; the counts of bytes and of frames.
-unfoldable pub numberFramed : Framed → List ℕ
-numberFramed (Refused n) = n ∷ []
-numberFramed (Frames b f) = []
+unfoldable pub numberIn : Framed → List ℕ
+numberIn (Refused n) = n ∷ []
+numberIn (Frames b f) = []
 
-unfoldable pub countsFramed : Framed → List ℕ
-countsFramed (Refused n) = []
-countsFramed (Frames b f) = b ∷ f ∷ []
+unfoldable pub countsIn : Framed → List ℕ
+countsIn (Refused n) = []
+countsIn (Frames b f) = b ∷ f ∷ []

@@ -9,7 +9,7 @@ use mathlib.Core.List.{List, [], _∷_}
 use lib.ListN.{length, getD}
 use lib.Dec.{leb}
 use Rattle.unit.specs.Cases.{by-test, by-ltb, fails, refuted}
-use Rattle.thermometer.specs.Table.{rising, noneAbove, accepted, pt1000, Usable}
+use Rattle.thermometer.specs.Table.{rising, noneAbove, accepted, Usable}
 use Rattle.thermometer.specs.Degrees.{last}
 use Rattle.thermometer.proofs.Tests.{leb-means, both-means}
 use Rattle.thermometer.proofs.Rise.{rises, rising-means}

@@ -1,13 +1,13 @@
 -- The caller's own table: number 14, number 13 after it, and the built-in table among those that are accepted.
 use Prim.Native.Nat.{ℕ, _-_, _*_, _≤_}
 use native.Mathlib.Omega.{arith}
-use mathlib.Core.Path.{_≡_, refl, ap, sym, _∙_}
+use mathlib.Core.Path.{_≡_, ap, sym, _∙_}
 use mathlib.Core.Logic.{_↔_}
-use mathlib.Core.Bool.{true, false}
+use mathlib.Core.Bool.{false}
 use mathlib.Core.List.{List, [], _∷_}
-use lib.ListN.{length, getD}
+use lib.ListN.{length}
 use Rattle.unit.specs.Cases.{by-test, refuted}
-use Rattle.thermometer.specs.declared.Reading.the-variants.{Thousandths, Refused}
+use Rattle.thermometer.specs.declared.Reading.the-variants.{Refused}
 use Rattle.thermometer.specs.Table.{entry, pt1000, accepted}
 use Rattle.thermometer.specs.Degrees.{resistance, thousandths, last, offTable, degreesOver, degreesBy, numberIn, valueRead}
 use Rattle.thermometer.proofs.Rise.{rises}

@@ -4,13 +4,13 @@ use native.Mathlib.Nat.{mul-le-mul-left, mul-le-mul-right, le-trans}
 use native.Mathlib.Omega.{arith}
 use native.Mathlib.Numerals.{add-one}
 use mathlib.Core.Path.{_≡_, refl, ap, sym, _∙_}
-use mathlib.Core.Bool.{Bool, true, false}
-use mathlib.Core.List.{List, [], _∷_}
+use mathlib.Core.Bool.{Bool, true}
+use mathlib.Core.List.{List}
 use lib.ListN.{length, getD}
 use lib.Seq.{ext-getD}
 use lib.Dec.{ltb, eqb}
 use Rattle.unit.specs.Choice.{both}
-use Rattle.thermometer.specs.Table.{entry, entries, pt1000, rising, Usable}
+use Rattle.thermometer.specs.Table.{entry, entries, pt1000, Usable}
 use Rattle.thermometer.proofs.Tests.{eqb-means, ltb-means, both-means, every, every-at}
 use Rattle.thermometer.specs.Degrees.{thousandths, last}
 use Rattle.thermometer.proofs.Rise.{rising-of}

@@ -7,7 +7,7 @@ use mathlib.Core.Path.{_≡_, refl, ap, sym, _∙_}
 use lib.ListN.{drop}
 use lib.Dec.{ltb, leb, eqb}
 use Rattle.unit.specs.Choice.{pick}
-use Rattle.unit.specs.Cases.{by-test}
+use Rattle.unit.proofs.Cases.{by-test}
 use Rattle.unit.specs.declared.Quanta.{Quanta}
 use Rattle.frame.specs.Frame.{isCommand, isWrite, isFlash}
 use Rattle.device.specs.declared.Schedule.{Schedule}

@@ -8,7 +8,7 @@ use mathlib.Core.Path.{_≡_, refl, sym, _∙_}
 use lib.ListN.{length, getD}
 use lib.Dec.{ltb, eqb}
 use Rattle.unit.specs.Choice.{pick}
-use Rattle.unit.specs.Cases.{by-test, by-ltb, by-eqb, holds, fails}
+use Rattle.unit.proofs.Cases.{by-test, by-ltb, by-eqb, holds, fails}
 use Rattle.unit.specs.declared.Quanta.{Quanta}
 use Rattle.setup.specs.Setup.{hitCount}
 use Rattle.hit.proofs.Ports.{all-open}

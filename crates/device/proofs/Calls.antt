@@ -7,7 +7,7 @@ use mathlib.Core.List.{List}
 use lib.Dec.{ltb, leb}
 use borrow.Author.Tests.{ltb-false, lt-ltb, le-ltb}
 use Rattle.unit.specs.Choice.{pick, either}
-use Rattle.unit.specs.Cases.{by-test}
+use Rattle.unit.proofs.Cases.{by-test}
 use Rattle.calendar.specs.Bounds.{afterTicks}
 use Rattle.setup.specs.Setup.{clockStands, hitCount, portCycle}
 use Rattle.frame.specs.Frame.{isCommand, isWrite, isRead, isFlash}

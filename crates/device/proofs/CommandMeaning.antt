@@ -2,7 +2,7 @@
 use Prim.Native.Nat.{ℕ}
 use mathlib.Core.List.{[], _∷_, map}
 use mathlib.Core.Path.{_≡_, refl}
-use Rattle.unit.specs.Cases.{by-test}
+use Rattle.unit.proofs.Cases.{by-test}
 use Rattle.setup.specs.Setup.{differencePeriod, differenceCount, temperaturePeriod, temperatureCount, eventContinuous}
 use Rattle.hit.specs.Difference.{differenceMean, portMean}
 use Rattle.device.specs.declared.Model.{Model}

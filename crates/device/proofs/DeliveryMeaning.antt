@@ -7,7 +7,7 @@ use mathlib.Core.Logic.{_↔_, _⊎_, ⊎-elim}
 use mathlib.Core.Path.{_≡_, refl, sym}
 use lib.ListN.{length, getD, List·getD-eq-default}
 use Rattle.unit.specs.Choice.{either}
-use Rattle.unit.specs.Cases.{by-test, by-ltb}
+use Rattle.unit.proofs.Cases.{by-test, by-ltb}
 use Rattle.unit.specs.declared.Quanta.{Quanta}
 use Rattle.setup.specs.Setup.{portCycle}
 use Rattle.hit.specs.Limit.{openFrom, shortBelow, anyBelow, anyFault}

@@ -9,7 +9,7 @@ use lib.ListN.{length, getD, drop}
 use lib.Dec.{ltb, eqb}
 use borrow.Author.Tests.{ne-eqb}
 use Rattle.unit.specs.Choice.{pick, negate}
-use Rattle.unit.specs.Cases.{by-test}
+use Rattle.unit.proofs.Cases.{by-test}
 use Rattle.frame.specs.Frame.{isCommand, isWrite, isRead, isFlash, flashFurther, notWhole, pastEnd, wordAt}
 use Rattle.frame.proofs.Laws.{flash-alone}
 use Rattle.flash.specs.Flash.{flashWord, flashWritten, flashErased, firstWord, wrongSize, oddAddress, beyond, addressRefused, eraseRefused, notErased}

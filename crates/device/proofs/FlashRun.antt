@@ -7,7 +7,7 @@ use mathlib.Core.Path.{_≡_, refl, ap, sym, _∙_}
 use lib.ListN.{length, drop}
 use lib.Dec.{eqb}
 use Rattle.unit.specs.Choice.{pick}
-use Rattle.unit.specs.Cases.{by-test, by-eqb}
+use Rattle.unit.proofs.Cases.{by-test, by-eqb}
 use Rattle.frame.specs.Frame.{isCommand, isWrite, isFlash}
 use Rattle.flash.specs.Flash.{flashWord, flashWritten}
 use Rattle.flash.specs.Operation.{Operation, write, erase, afterOne, afterAll, lastWord, InRange, AllInRange}

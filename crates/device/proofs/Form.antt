@@ -6,7 +6,7 @@ use mathlib.Core.Path.{_≡_, refl, ap, _∙_}
 use lib.ListN.{drop}
 use lib.Dec.{ltb, leb, eqb}
 use Rattle.unit.specs.Choice.{pick}
-use Rattle.unit.specs.Cases.{by-test}
+use Rattle.unit.proofs.Cases.{by-test}
 use Rattle.calendar.specs.Calendar.{start}
 use Rattle.calendar.specs.Words.{twelveIn, clockFrom}
 use Rattle.calendar.proofs.Laws.{tick-form}

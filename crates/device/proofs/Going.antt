@@ -9,7 +9,7 @@ use mathlib.Core.List.{List, [], _∷_, _++_, append-nil}
 use lib.ListN.{length, length-append}
 use borrow.Author.Tests.{lt-ltb, le-leb, lt-leb, eq-eqb, ne-eqb}
 use Rattle.unit.specs.Choice.{pick, both, negate}
-use Rattle.unit.specs.Cases.{by-test, by-ltb, by-eqb}
+use Rattle.unit.proofs.Cases.{by-test, by-ltb, by-eqb}
 use Rattle.unit.specs.declared.Ticks.{Ticks}
 use Rattle.hit.specs.Mean.{All}
 use Rattle.device.specs.declared.Schedule.{Schedule}

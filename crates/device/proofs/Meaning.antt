@@ -8,7 +8,7 @@ use mathlib.Core.Path.{_≡_, refl}
 use lib.Dec.{ltb, leb}
 use borrow.Author.Tests.{leb-true, leb-false, lt-ltb, le-ltb, le-leb, lt-leb}
 use Rattle.unit.specs.Choice.{pick, either}
-use Rattle.unit.specs.Cases.{by-test, by-ltb, by-eqb, holds, fails}
+use Rattle.unit.proofs.Cases.{by-test, by-ltb, by-eqb, holds, fails}
 use Rattle.unit.specs.declared.Ticks.{Ticks}
 use Rattle.setup.specs.Setup.{flightUnset, temperatureUnset, clockStands}
 use Rattle.device.specs.declared.Schedule.{Schedule}

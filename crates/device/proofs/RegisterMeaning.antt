@@ -8,7 +8,7 @@ use mathlib.Core.Path.{_≡_, refl, _∙_}
 use lib.ListN.{length, getD, set, length-set}
 use lib.Seq.{getD-set-same, getD-set-other}
 use borrow.Author.Tests.{lt-ltb, le-ltb, le-leb, lt-leb, ne-eqb}
-use Rattle.unit.specs.Cases.{by-ltb, by-eqb, holds, fails}
+use Rattle.unit.proofs.Cases.{by-ltb, by-eqb, holds, fails}
 use Rattle.calendar.specs.Calendar.{start}
 use Rattle.calendar.specs.Words.{bcd, hourDigits, hundredthsOf, word30, word31, word32, word33}
 use Rattle.setup.specs.Setup.{factory, wordOf}

@@ -7,7 +7,7 @@ use mathlib.Core.Path.{_≡_, refl, _∙_}
 use borrow.Author.Tests.{le-ltb}
 use lib.Dec.{eqb}
 use Rattle.unit.specs.Choice.{negate}
-use Rattle.unit.specs.Cases.{by-test, by-ltb}
+use Rattle.unit.proofs.Cases.{by-test, by-ltb}
 use Rattle.device.specs.declared.Schedule.{Schedule}
 use Rattle.device.specs.declared.Flight.{Flight}
 use Rattle.device.specs.declared.Temperature.{Temperature}

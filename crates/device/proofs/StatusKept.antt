@@ -9,7 +9,7 @@ use lib.ListN.{length, getD}
 use lib.Dec.{ltb, leb, eqb}
 use borrow.Author.Tests.{leb-false, le-ltb, lt-leb}
 use Rattle.unit.specs.Choice.{pick, either, both, negate}
-use Rattle.unit.specs.Cases.{by-test, by-ltb, by-eqb}
+use Rattle.unit.proofs.Cases.{by-test, by-ltb, by-eqb}
 use Rattle.calendar.specs.Alarm.{alarmRings}
 use Rattle.setup.specs.Setup.{wordOf, alarmWord, alarmMode, eachInterrupt, timeout, portCycle}
 use Rattle.frame.specs.Frame.{isCommand, isWrite, isRead, isFlash}

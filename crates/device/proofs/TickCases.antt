@@ -4,7 +4,7 @@ use native.Mathlib.Omega.{arith}
 use mathlib.Core.Path.{_≡_, refl}
 use mathlib.Core.Bool.{true, false}
 use borrow.Author.Tests.{le-leb, lt-leb}
-use Rattle.unit.specs.Cases.{by-test, by-ltb}
+use Rattle.unit.proofs.Cases.{by-test, by-ltb}
 use Rattle.device.specs.declared.Schedule.{Schedule}
 use Rattle.device.specs.Event.{startsLeft, begins, beginsGroup, leftAfter, startedAfter, tickSchedule}
 

@@ -7,7 +7,7 @@ use mathlib.Core.Logic.{_⊎_, inl, inr, ⊎-elim}
 use mathlib.Core.List.{List, [], _∷_, _++_}
 use lib.ListN.{length, getD, take, drop, set, length-set}
 use lib.Seq.{getD-set-same, getD-set-other}
-use Rattle.unit.specs.Cases.{by-ltb, by-eqb}
+use Rattle.unit.proofs.Cases.{by-ltb, by-eqb}
 use Rattle.flash.specs.Flash.{blockSize, flashWord, flashWritten, erasedFrom, flashErased, firstWord}
 
 -- "Words lie high byte first"

@@ -5,7 +5,7 @@ use mathlib.Core.Path.{_≡_, refl}
 use mathlib.Core.Logic.{_↔_, _⊎_, inl, inr, ⊎-elim}
 use mathlib.Core.Bool.{true, false}
 use mathlib.Core.List.{List}
-use Rattle.unit.specs.Cases.{by-ltb, by-eqb, holds, fails}
+use Rattle.unit.proofs.Cases.{by-ltb, by-eqb, holds, fails}
 use Rattle.flash.specs.Flash.{flashWord, wrongSize, oddAddress, beyond, addressRefused, eraseRefused, notErased}
 use Rattle.flash.specs.Operation.{write, erase, InRange}
 

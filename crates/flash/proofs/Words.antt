@@ -7,7 +7,7 @@ use mathlib.Core.Bool.{true, false}
 use mathlib.Core.List.{List, [], _∷_, _++_}
 use lib.ListN.{length}
 use Rattle.unit.specs.Choice.{pick}
-use Rattle.unit.specs.Cases.{by-eqb, holds, fails}
+use Rattle.unit.proofs.Cases.{by-eqb, holds, fails}
 use Rattle.flash.specs.Flash.{flashWord, flashWritten, flashErased}
 use Rattle.flash.specs.Operation.{Operation, write, erase, afterOne, afterAll, setsWord, wordSet, lastWord, InRange, AllInRange}
 use Rattle.flash.proofs.Bytes.{length-written, written-high, written-low, written-kept, length-erased, erased-block, kept-blocks}

@@ -8,7 +8,7 @@ use mathlib.Core.List.{List, [], _∷_}
 use lib.ListN.{getD}
 use lib.Dec.{ltb}
 use Rattle.unit.specs.Choice.{pick}
-use Rattle.unit.specs.Cases.{by-test, by-ltb, by-eqb, holds, fails, refuted}
+use Rattle.unit.proofs.Cases.{by-test, by-ltb, by-eqb, holds, fails, refuted}
 use Rattle.frame.specs.Frame.{isCommand, isWrite, isRead, isFlash, flashFurther, notWhole, pastEnd, wordAt}
 use Rattle.frame.specs.Decoding.{writeFrame, readFrame}
 use Rattle.frame.specs.declared.Decoded.the-variants.{Read, Write}

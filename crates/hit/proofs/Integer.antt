@@ -6,7 +6,7 @@ use mathlib.Core.Path.{_≡_, ap}
 use lib.IntN.{pos, negsuc, subℕ, _+ℤ_}
 use lib.Signed.{shrZ}
 use borrow.Author.Tests.{lt-ltb, le-ltb}
-use Rattle.unit.specs.Cases.{by-ltb}
+use Rattle.unit.proofs.Cases.{by-ltb}
 use Rattle.hit.proofs.Limits.{quotient-below}
 
 pub sub-pos : (a b c : ℕ) → a ≡ c + b → subℕ a b ≡ pos c

@@ -11,7 +11,7 @@ use mir.Syntax.{w32}
 use mir.Val.{SFits, toZ}
 use mir.Facts.{toZ-ofZ}
 use Rattle.unit.specs.Choice.{pick}
-use Rattle.unit.specs.Cases.{by-ltb}
+use Rattle.unit.proofs.Cases.{by-ltb}
 use Rattle.unit.specs.declared.Quanta.{Quanta}
 use Rattle.hit.specs.Difference.{differenceWord, biased, differenceMean, portMean}
 use Rattle.hit.specs.Mean.{All, sum, Averages, InRange, difference, total, floorMean, differenceBits}

@@ -14,7 +14,7 @@ use borrow.Author.Tests.{leb-true, le-leb, ltb-true, lt-ltb}
 use mir.Syntax.{w32}
 use mir.Val.{toZ, SFits}
 use mir.Facts.{fits-ofZ, toZ-ofZ}
-use Rattle.unit.specs.Cases.{by-ltb, by-test, fails, refuted}
+use Rattle.unit.proofs.Cases.{by-ltb, by-test, fails, refuted}
 use Rattle.unit.specs.declared.Quanta.{Quanta}
 use Rattle.hit.specs.Limit.{lateFrom, openFrom, shortBelow, anyWord, anyFrom, anyBelow, anyFault}
 use Rattle.hit.specs.Words.{average, sixTotal}

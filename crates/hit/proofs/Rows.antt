@@ -4,8 +4,8 @@ use native.Mathlib.Omega.{arith}
 use mathlib.Core.Bool.{true}
 use mathlib.Core.Path.{_≡_, refl}
 use lib.Pow.{pow-mono}
-use Rattle.unit.specs.Cases.{by-ltb}
-use Rattle.unit.specs.Rows.{agree, agree-at, past-last}
+use Rattle.unit.proofs.Cases.{by-ltb}
+use Rattle.unit.proofs.Rows.{agree, agree-at, past-last}
 use Rattle.hit.specs.Limit.{lateFrom}
 use Rattle.hit.specs.Timeout.{timeoutTable, timeoutRow}
 

@@ -7,7 +7,7 @@ use native.Mathlib.Omega.{arith}
 use lib.Pow.{pow-add}
 use lib.Dec.{ltb, leb}
 use borrow.Author.Tests.{le-leb, lt-leb, leb-false}
-use Rattle.unit.specs.Cases.{by-ltb}
+use Rattle.unit.proofs.Cases.{by-ltb}
 use Rattle.listing.specs.Listing.{lastAbove}
 
 pub above-none : (d first : ℕ) → lastAbove d first 0 ≡ false

@@ -11,7 +11,7 @@ use lib.Signed.{ltZ}
 use lib.ListN.{length, take, drop, getD, replicate, length-append}
 use lib.Seq.{take-at, drop-append-add, take-append-seam, drop-append-seam}
 use borrow.Author.Tests.{le-ltb, leb-true, le-leb}
-use Rattle.unit.specs.Cases.{by-test, by-ltb, fails}
+use Rattle.unit.proofs.Cases.{by-test, by-ltb, fails}
 use Rattle.numeral.specs.Digit.{areDigits, valueOf, glyph, digits}
 use Rattle.numeral.specs.Print.{widthFrom, decimalWidth, decimal, tenThousandths, fourDecimals, nanoseconds}
 use Rattle.numeral.specs.DigitLaws.{length-digits, are-digits, value-digits}

@@ -7,7 +7,7 @@ use mathlib.Core.List.{List, [], _∷_}
 use lib.IntN.{ℤ}
 use lib.Signed.{ltZ}
 use lib.ListN.{length}
-use Rattle.unit.specs.Cases.{by-test, by-ltb, by-eqb}
+use Rattle.unit.proofs.Cases.{by-test, by-ltb, by-eqb}
 use Rattle.quietest.specs.Quietest.{spread, quieter, quietestPlace}
 use Rattle.quietest.specs.declared.Place.the-variants.{At, Refused}
 

@@ -8,7 +8,7 @@ use mathlib.Core.List.{List}
 use lib.IntN.{ℤ}
 use lib.Signed.{ltZ}
 use Rattle.unit.specs.Choice.{pick}
-use Rattle.unit.specs.Cases.{by-test}
+use Rattle.unit.proofs.Cases.{by-test}
 use Rattle.quietest.specs.Quietest.{valueAt, larger, smaller, extreme, spread, quieter}
 use Rattle.quietest.specs.Search.{extremesOf, joined, spreadOf, found, better}
 use Rattle.quietest.specs.declared.extremes.Extremes.{Extremes}

@@ -11,7 +11,7 @@ use lib.Signed.{ltZ, _<ℤ_, _≤ℤ_, clashℤ}
 use lib.ListN.{length, length-take, length-drop}
 use lib.Seq.{getD-take, getD-drop}
 use denote.Ref.{RefT}
-use Rattle.unit.specs.Cases.{by-test, by-ltb}
+use Rattle.unit.proofs.Cases.{by-test, by-ltb}
 use Rattle.quietest.specs.Quietest.{valueAt, larger, smaller, extreme, largest, smallest, spread, quieter, quietestPlace}
 use Rattle.quietest.specs.Quietest.{numberIn, placeIn, numberGiven, PartOf, Handed}
 use Rattle.quietest.specs.declared.Place.{Place}

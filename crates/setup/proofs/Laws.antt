@@ -5,7 +5,7 @@ use mathlib.Core.Bool.{true, false}
 use mathlib.Core.Logic.{_↔_, _⊎_, inl, inr, ⊎-elim}
 use mathlib.Core.Path.{_≡_, refl}
 use mathlib.Core.List.{List}
-use Rattle.unit.specs.Cases.{by-ltb, by-eqb, holds, fails}
+use Rattle.unit.proofs.Cases.{by-ltb, by-eqb, holds, fails}
 use Rattle.setup.specs.Setup.{wordOf, alarmWord, hitCount, timeout, portCycle, differencePeriod, differenceCount}
 use Rattle.setup.specs.Setup.{temperaturePeriod, temperatureCount, flightUnset, temperatureUnset, eventContinuous}
 use Rattle.setup.specs.Setup.{clockStands, interruptEnabled, eachInterrupt, alarmMode}

@@ -4,7 +4,7 @@ use native.Mathlib.Omega.{arith}
 use mathlib.Core.Bool.{true}
 use mathlib.Core.Path.{_≡_, refl}
 use mathlib.Core.List.{List}
-use Rattle.unit.specs.Rows.{agree, agree-at}
+use Rattle.unit.proofs.Rows.{agree, agree-at}
 use Rattle.setup.specs.Setup.{wordOf, hitCount}
 use Rattle.setup.specs.Stop.{stopTable, stopRow}
 use Rattle.setup.proofs.Laws.{hits-are}

@@ -4,7 +4,7 @@ use native.Mathlib.Omega.{arith}
 use mathlib.Core.Bool.{true}
 use mathlib.Core.List.{List, []}
 use mathlib.Core.Path.{_≡_, refl}
-use Rattle.unit.specs.Cases.{by-test}
+use Rattle.unit.proofs.Cases.{by-test}
 use Rattle.calendar.specs.Words.{alarmValid}
 use Rattle.setup.specs.Setup.{alarmWord}
 use Rattle.frame.proofs.Laws.{write-means}

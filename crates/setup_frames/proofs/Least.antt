@@ -11,7 +11,7 @@ use lib.Seq.{getD-set-other}
 use lib.Dec.{ltb}
 use borrow.Author.Tests.{eq-eqb, le-ltb, eqb-false}
 use Rattle.unit.specs.Choice.{pick, both}
-use Rattle.unit.specs.Cases.{by-test, by-ltb}
+use Rattle.unit.proofs.Cases.{by-test, by-ltb}
 use Rattle.setup.specs.Setup.{factory}
 use Rattle.frame.specs.Frame.{isWrite, wordAt}
 use Rattle.frame.proofs.Laws.{write-alone, whole-means}

@@ -6,7 +6,7 @@ use mathlib.Core.Path.{_≡_, refl, sym}
 use lib.ListN.{drop}
 use lib.Dec.{ltb, leb, eqb}
 use Rattle.unit.specs.Choice.{pick}
-use Rattle.unit.specs.Cases.{by-test}
+use Rattle.unit.proofs.Cases.{by-test}
 use Rattle.calendar.specs.Words.{alarmValid, wordsValid}
 use Rattle.setup.specs.Setup.{factory, alarmWord}
 use Rattle.frame.specs.Frame.{isCommand, isWrite, isFlash}

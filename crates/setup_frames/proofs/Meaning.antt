@@ -7,7 +7,7 @@ use mathlib.Core.List.{List, [], _∷_, _++_}
 use mathlib.Core.Path.{_≡_, refl, sym, ap, _∙_}
 use lib.ListN.{length, drop, length-map}
 use lib.Seq.{take-at, drop-at}
-use Rattle.unit.specs.Cases.{by-test}
+use Rattle.unit.proofs.Cases.{by-test}
 use Rattle.device.specs.declared.Model.{Model}
 use Rattle.device.specs.Call.{accepted}
 use Rattle.setup_frames.specs.declared.Framed.{Framed}

@@ -7,7 +7,7 @@ use mathlib.Core.Logic.{_↔_, _⊎_, inl, inr, ⊎-elim}
 use mathlib.Core.Path.{_≡_, refl, sym, ap, _∙_}
 use lib.ListN.{length}
 use borrow.Author.Tests.{lt-ltb, le-ltb}
-use Rattle.unit.specs.Cases.{by-test, by-ltb}
+use Rattle.unit.proofs.Cases.{by-test, by-ltb}
 use Rattle.device.specs.declared.Model.{Model}
 use Rattle.device.specs.Model.{isSound}
 use Rattle.device.specs.Call.{Verdict, accepted, refused, firstOf}

@@ -5,7 +5,7 @@ use native.Mathlib.Nat.{add-zero, mul-suc}
 use native.Mathlib.Omega.{arith}
 use mathlib.Core.Logic.{_⊎_, ⊎-elim}
 use mathlib.Core.Path.{_≡_}
-use Rattle.unit.specs.Cases.{by-eqb}
+use Rattle.unit.proofs.Cases.{by-eqb}
 
 abbrev pub sumFrom : (ℕ → ℕ) → ℕ → ℕ → ℕ
 sumFrom g a zero = 0

@@ -8,7 +8,7 @@ use mathlib.Core.Path.{_≡_, refl, sym, _∙_}
 use lib.ListN.{length}
 use borrow.Author.Tests.{ne-eqb}
 use Rattle.unit.specs.Choice.{pick}
-use Rattle.unit.specs.Cases.{by-test}
+use Rattle.unit.proofs.Cases.{by-test}
 use Rattle.calendar.specs.Words.{alarmValid}
 use Rattle.setup.specs.Setup.{factory, alarmWord}
 use Rattle.frame.specs.Decoding.{decodeFrame, writeFrame}

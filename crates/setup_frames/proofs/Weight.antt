@@ -9,7 +9,7 @@ use mathlib.Core.Path.{_≡_, refl}
 use lib.ListN.{length, length-append}
 use borrow.Author.Tests.{ne-eqb}
 use Rattle.unit.specs.Choice.{pick}
-use Rattle.unit.specs.Cases.{by-test}
+use Rattle.unit.proofs.Cases.{by-test}
 use Rattle.setup_frames.specs.Frames.{differs, differsBefore, starts, runLength, bytesOf, frameAt, framesFrom, frames, allBytes}
 use Rattle.setup_frames.proofs.Pace.{sumFrom, sum-front, paced}
 

@@ -8,7 +8,7 @@ use mathlib.Core.Bool.{true, false}
 use mathlib.Core.List.{List, [], _∷_}
 use lib.ListN.{length, getD}
 use lib.Dec.{leb}
-use Rattle.unit.specs.Cases.{by-test, by-ltb, fails, refuted}
+use Rattle.unit.proofs.Cases.{by-test, by-ltb, fails, refuted}
 use Rattle.thermometer.specs.Table.{rising, noneAbove, accepted, Usable}
 use Rattle.thermometer.specs.Degrees.{last}
 use Rattle.thermometer.proofs.Tests.{leb-means, both-means}

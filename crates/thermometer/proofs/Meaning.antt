@@ -8,7 +8,7 @@ use mathlib.Core.Bool.{true}
 use mathlib.Core.List.{List, [], _∷_}
 use lib.ListN.{length, getD}
 use borrow.Author.Tests.{lt-ltb, le-ltb}
-use Rattle.unit.specs.Cases.{by-ltb}
+use Rattle.unit.proofs.Cases.{by-ltb}
 use Rattle.thermometer.specs.Table.{rising}
 use Rattle.thermometer.specs.Degrees.{resistance, interpolated, Between, thousandths, thousandthsFrom, first, last}
 use Rattle.thermometer.proofs.Rise.{rising-cons, first-least, rises}

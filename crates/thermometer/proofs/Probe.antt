@@ -6,7 +6,7 @@ use mathlib.Core.Logic.{_↔_}
 use mathlib.Core.Bool.{false}
 use mathlib.Core.List.{List, [], _∷_}
 use lib.ListN.{length}
-use Rattle.unit.specs.Cases.{by-test, refuted}
+use Rattle.unit.proofs.Cases.{by-test, refuted}
 use Rattle.thermometer.specs.declared.Reading.the-variants.{Refused}
 use Rattle.thermometer.specs.Table.{entry, pt1000, accepted}
 use Rattle.thermometer.specs.Degrees.{resistance, thousandths, last, offTable, degreesOver, degreesBy, numberIn, valueRead}

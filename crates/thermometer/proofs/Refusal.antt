@@ -6,7 +6,7 @@ use mathlib.Core.Bool.{Bool, true, false}
 use mathlib.Core.List.{List, [], _∷_}
 use native.Mathlib.Omega.{arith}
 use Rattle.unit.specs.Choice.{pick}
-use Rattle.unit.specs.Cases.{fails, refuted}
+use Rattle.unit.proofs.Cases.{fails, refuted}
 use Rattle.thermometer.specs.declared.Reading.the-variants.{Thousandths, Refused}
 use Rattle.thermometer.specs.Degrees.{resistance, thousandths, first, last, offTable, degreesOver, numberIn, valueRead}
 use Rattle.thermometer.proofs.Tests.{eqb-means, ltb-means, either-means}

@@ -12,7 +12,7 @@ use lib.Seq.{drop-cons}
 use lib.Dec.{ltb}
 use borrow.Author.Tests.{ltb-true, lt-ltb, le-ltb}
 use Rattle.unit.specs.Choice.{both}
-use Rattle.unit.specs.Cases.{by-test, fails}
+use Rattle.unit.proofs.Cases.{by-test, fails}
 use Rattle.thermometer.specs.Table.{rising}
 
 -- the first two entries, and the rest

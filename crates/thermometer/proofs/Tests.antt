@@ -9,7 +9,7 @@ use lib.ListN.{length, getD}
 use lib.Dec.{ltb, leb, eqb}
 use borrow.Author.Tests.{ltb-true, leb-true, eqb-true, lt-ltb, le-leb, eq-eqb}
 use Rattle.unit.specs.Choice.{either, both}
-use Rattle.unit.specs.Cases.{fails}
+use Rattle.unit.proofs.Cases.{fails}
 
 pub eqb-means : (a b : ℕ) → (eqb a b ≡ true) ↔ (a ≡ b)
 eqb-means a b = (eqb-true a b, eq-eqb a b)

@@ -1,4 +1,2 @@
 pub mod Choice
-pub mod Tests
-pub mod Cases
-pub mod Rows
+pub mod Bits

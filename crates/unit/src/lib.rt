@@ -1,5 +1,6 @@
-// The two units of time, and choices between values.
+// The two units of time, choices between values, and a word as a wider number.
 ghost use mathlib.Core.Path.{_≡_};
+ghost use Prim.Native.Nat.{_<_};
 ghost use Rattle.unit.specs.Choice.{pick, either};
 
 // Periods of the 32,768 Hz clock. Never stands for quanta.
@@ -14,14 +15,15 @@ pub fn choose(test: bool, yes: u32, no: u32) -> u32
     if test { yes } else { no }
 }
 
-pub fn choose_wide(test: bool, yes: u64, no: u64) -> u64
-    ensures { λ r. ⌜ r ≡ pick test yes no ⌝ }
-{
-    if test { yes } else { no }
-}
-
 pub fn any_of(a: bool, b: bool) -> bool
     ensures { λ r. ⌜ r ≡ either a b ⌝ }
 {
     if a { true } else { b }
+}
+
+// A word as a wider number, which brings its bound along.
+pub fn wide(x: u32) -> u64
+    ensures { λ r. ⌜ (r ≡ x) × (r < 4294967296) ⌝ }
+{
+    x as u64
 }

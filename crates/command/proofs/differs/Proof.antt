@@ -1,6 +1,6 @@
 -- `command::differs` meets its contract.
 use borrow.Author.Needs.{needs}
-use Rattle.unit.specs.Tests.{tests}
+use Rattle.unit.proofs.Tests.{tests}
 use Rattle.command.proofs.differs.Statement.{statement}
 use Rattle.command.proofs.differs.Tie as tie
 

@@ -1,6 +1,6 @@
 -- `command::is_event` meets its contract.
 use borrow.Author.Needs.{needs}
-use Rattle.unit.specs.Tests.{tests}
+use Rattle.unit.proofs.Tests.{tests}
 use Rattle.device.specs.Bus.{isEvent}
 use Rattle.command.proofs.is_event.Statement.{statement}
 use Rattle.command.proofs.is_event.Tie as tie

@@ -1,6 +1,6 @@
 -- `command::must_be_idle` meets its contract.
 use borrow.Author.Needs.{needs}
-use Rattle.unit.specs.Tests.{tests}
+use Rattle.unit.proofs.Tests.{tests}
 use Rattle.device.specs.Bus.{mustBeIdle}
 use Rattle.command.proofs.must_be_idle.Statement.{statement}
 use Rattle.command.proofs.must_be_idle.Tie as tie

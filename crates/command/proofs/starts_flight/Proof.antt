@@ -1,6 +1,6 @@
 -- `command::starts_flight` meets its contract.
 use borrow.Author.Needs.{needs}
-use Rattle.unit.specs.Tests.{tests}
+use Rattle.unit.proofs.Tests.{tests}
 use Rattle.device.specs.Bus.{startsFlight}
 use Rattle.command.proofs.starts_flight.Statement.{statement}
 use Rattle.command.proofs.starts_flight.Tie as tie

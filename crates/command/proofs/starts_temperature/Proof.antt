@@ -1,6 +1,6 @@
 -- `command::starts_temperature` meets its contract.
 use borrow.Author.Needs.{needs}
-use Rattle.unit.specs.Tests.{tests}
+use Rattle.unit.proofs.Tests.{tests}
 use Rattle.device.specs.Bus.{startsTemperature}
 use Rattle.command.proofs.starts_temperature.Statement.{statement}
 use Rattle.command.proofs.starts_temperature.Tie as tie

@@ -1,6 +1,6 @@
 -- `flash::address_refused` meets its contract.
 use borrow.Author.Needs.{needs}
-use Rattle.unit.specs.Tests.{tests}
+use Rattle.unit.proofs.Tests.{tests}
 use Rattle.flash.specs.Flash.{wrongSize, oddAddress, beyond, addressRefused}
 use Rattle.flash.proofs.address_refused.Statement.{statement}
 use Rattle.flash.proofs.address_refused.Tie as tie

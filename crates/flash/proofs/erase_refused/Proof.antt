@@ -1,6 +1,6 @@
 -- `flash::erase_refused` meets its contract.
 use borrow.Author.Needs.{needs}
-use Rattle.unit.specs.Tests.{tests}
+use Rattle.unit.proofs.Tests.{tests}
 use Rattle.flash.specs.Flash.{wrongSize, beyond, eraseRefused}
 use Rattle.flash.proofs.erase_refused.Statement.{statement}
 use Rattle.flash.proofs.erase_refused.Tie as tie

@@ -1,6 +1,6 @@
 -- `flash::not_erased` meets its contract.
 use borrow.Author.Needs.{needs}
-use Rattle.unit.specs.Tests.{tests}
+use Rattle.unit.proofs.Tests.{tests}
 use Rattle.flash.specs.Flash.{notErased}
 use Rattle.flash.proofs.not_erased.Statement.{statement}
 use Rattle.flash.proofs.not_erased.Tie as tie

@@ -1,6 +1,6 @@
 -- `flash::read_word` meets its contract.
 use borrow.Author.Needs.{needs}
-use Rattle.unit.specs.Tests.{tests}
+use Rattle.unit.proofs.Tests.{tests}
 use Rattle.flash.specs.Flash.{flashWord}
 use Rattle.flash.proofs.read_word.Statement.{statement}
 use Rattle.flash.proofs.read_word.Tie as tie

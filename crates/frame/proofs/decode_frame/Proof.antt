@@ -1,6 +1,6 @@
 -- `frame::decode_frame` meets its contract.
 use Rattle.frame.specs.Decoding.{decodeFrame}
-use Rattle.unit.specs.Tests.{tests}
+use Rattle.unit.proofs.Tests.{tests}
 use borrow.Author.Needs.{needs}
 use Rattle.frame.proofs.decode_frame.Statement.{statement}
 use Rattle.frame.proofs.decode_frame.Tie as tie

@@ -1,7 +1,7 @@
 -- `frame::flash_frame` meets its contract.
 use borrow.Author.Tests.{lt-ltb, le-ltb, eq-eqb}
 use Rattle.frame.specs.Decoding.{flashFrame}
-use Rattle.unit.specs.Tests.{tests}
+use Rattle.unit.proofs.Tests.{tests}
 use borrow.Author.Needs.{needs}
 use Rattle.frame.proofs.flash_frame.Statement.{statement}
 use Rattle.frame.proofs.flash_frame.Tie as tie

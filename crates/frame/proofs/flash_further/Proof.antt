@@ -1,6 +1,6 @@
 -- `frame::flash_further` meets its contract.
 use Rattle.frame.specs.Frame.{flashFurther}
-use Rattle.unit.specs.Tests.{tests}
+use Rattle.unit.proofs.Tests.{tests}
 use borrow.Author.Needs.{needs}
 use Rattle.frame.proofs.flash_further.Statement.{statement}
 use Rattle.frame.proofs.flash_further.Tie as tie

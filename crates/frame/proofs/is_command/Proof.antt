@@ -1,6 +1,6 @@
 -- `frame::is_command` meets its contract.
 use Rattle.frame.specs.Frame.{isCommand}
-use Rattle.unit.specs.Tests.{tests}
+use Rattle.unit.proofs.Tests.{tests}
 use borrow.Author.Needs.{needs}
 use Rattle.frame.proofs.is_command.Statement.{statement}
 use Rattle.frame.proofs.is_command.Tie as tie

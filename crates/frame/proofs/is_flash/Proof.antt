@@ -1,6 +1,6 @@
 -- `frame::is_flash` meets its contract.
 use Rattle.frame.specs.Frame.{isFlash}
-use Rattle.unit.specs.Tests.{tests}
+use Rattle.unit.proofs.Tests.{tests}
 use borrow.Author.Needs.{needs}
 use Rattle.frame.proofs.is_flash.Statement.{statement}
 use Rattle.frame.proofs.is_flash.Tie as tie

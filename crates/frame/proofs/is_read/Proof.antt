@@ -1,6 +1,6 @@
 -- `frame::is_read` meets its contract.
 use borrow.Author.Needs.{needs}
-use Rattle.unit.specs.Tests.{tests}
+use Rattle.unit.proofs.Tests.{tests}
 use Rattle.frame.specs.Frame.{isRead}
 use Rattle.frame.proofs.is_read.Statement.{statement}
 use Rattle.frame.proofs.is_read.Tie as tie

@@ -1,6 +1,6 @@
 -- `frame::is_write` meets its contract.
 use borrow.Author.Needs.{needs}
-use Rattle.unit.specs.Tests.{tests}
+use Rattle.unit.proofs.Tests.{tests}
 use Rattle.frame.specs.Frame.{isWrite}
 use Rattle.frame.proofs.is_write.Statement.{statement}
 use Rattle.frame.proofs.is_write.Tie as tie

@@ -1,6 +1,6 @@
 -- `frame::not_whole` meets its contract.
 use borrow.Author.Needs.{needs}
-use Rattle.unit.specs.Tests.{tests}
+use Rattle.unit.proofs.Tests.{tests}
 use Rattle.frame.specs.Frame.{notWhole}
 use Rattle.frame.proofs.not_whole.Statement.{statement}
 use Rattle.frame.proofs.not_whole.Tie as tie

@@ -1,5 +1,5 @@
 -- `frame::past_end` meets its contract.
-use Rattle.unit.specs.Tests.{tests}
+use Rattle.unit.proofs.Tests.{tests}
 use Rattle.frame.specs.Frame.{pastEnd}
 use borrow.Author.Needs.{needs}
 use Rattle.frame.proofs.past_end.Statement.{statement}

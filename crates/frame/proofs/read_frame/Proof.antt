@@ -1,5 +1,5 @@
 -- `frame::read_frame` meets its contract.
-use Rattle.unit.specs.Tests.{tests}
+use Rattle.unit.proofs.Tests.{tests}
 use Rattle.frame.specs.Decoding.{readFrame}
 use borrow.Author.Needs.{needs}
 use Rattle.frame.proofs.read_frame.Statement.{statement}

@@ -1,5 +1,5 @@
 -- `frame::word_at` meets its contract.
-use Rattle.unit.specs.Tests.{tests}
+use Rattle.unit.proofs.Tests.{tests}
 use Rattle.frame.specs.Frame.{wordAt}
 use borrow.Author.Needs.{needs}
 use Rattle.frame.proofs.word_at.Statement.{statement}

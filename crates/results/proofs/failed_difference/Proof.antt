@@ -1,6 +1,6 @@
 -- `results::failed_difference` meets its contract.
 use borrow.Author.Needs.{needs}
-use Rattle.unit.specs.Tests.{tests}
+use Rattle.unit.proofs.Tests.{tests}
 use Rattle.device.specs.Results.{failedDifference}
 use Rattle.results.proofs.failed_difference.Statement.{statement}
 use Rattle.results.proofs.failed_difference.Tie as tie

@@ -1,7 +1,7 @@
 -- `schedule::balance_sound` meets its contract.
 use borrow.Author.Tests.{lt-ltb, le-ltb, eq-eqb}
 use Rattle.device.specs.Event.{balanceSound}
-use Rattle.unit.specs.Tests.{tests}
+use Rattle.unit.proofs.Tests.{tests}
 use borrow.Author.Needs.{needs}
 use Rattle.schedule.proofs.balance_sound.Statement.{statement}
 use Rattle.schedule.proofs.balance_sound.Tie as tie

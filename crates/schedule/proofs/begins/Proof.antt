@@ -1,6 +1,6 @@
 -- `schedule::begins` meets its contract.
 use Rattle.device.specs.Event.{begins}
-use Rattle.unit.specs.Tests.{tests}
+use Rattle.unit.proofs.Tests.{tests}
 use borrow.Author.Needs.{needs}
 use Rattle.schedule.proofs.begins.Statement.{statement}
 use Rattle.schedule.proofs.begins.Tie as tie

@@ -1,6 +1,6 @@
 -- `schedule::begins_group` meets its contract.
 use Rattle.device.specs.Event.{beginsGroup}
-use Rattle.unit.specs.Tests.{tests}
+use Rattle.unit.proofs.Tests.{tests}
 use borrow.Author.Needs.{needs}
 use Rattle.schedule.proofs.begins_group.Statement.{statement}
 use Rattle.schedule.proofs.begins_group.Tie as tie

@@ -1,6 +1,6 @@
 -- `schedule::counts_sound` meets its contract.
 use Rattle.device.specs.Event.{countsSound}
-use Rattle.unit.specs.Tests.{tests}
+use Rattle.unit.proofs.Tests.{tests}
 use borrow.Author.Needs.{needs}
 use Rattle.schedule.proofs.counts_sound.Statement.{statement}
 use Rattle.schedule.proofs.counts_sound.Tie as tie

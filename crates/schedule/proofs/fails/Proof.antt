@@ -1,6 +1,6 @@
 -- `schedule::fails` meets its contract.
 use borrow.Author.Needs.{needs}
-use Rattle.unit.specs.Tests.{tests}
+use Rattle.unit.proofs.Tests.{tests}
 use Rattle.device.specs.Event.{fails}
 use Rattle.schedule.proofs.fails.Statement.{statement}
 use Rattle.schedule.proofs.fails.Tie as tie

@@ -1,6 +1,6 @@
 -- `schedule::good_after` meets its contract.
 use Rattle.device.specs.Event.{goodAfter}
-use Rattle.unit.specs.Tests.{tests}
+use Rattle.unit.proofs.Tests.{tests}
 use borrow.Author.Needs.{needs}
 use Rattle.schedule.proofs.good_after.Statement.{statement}
 use Rattle.schedule.proofs.good_after.Tie as tie

@@ -1,6 +1,6 @@
 -- `schedule::halt_schedule` meets its contract.
 use Rattle.device.specs.Event.{haltSchedule}
-use Rattle.unit.specs.Tests.{tests}
+use Rattle.unit.proofs.Tests.{tests}
 use borrow.Author.Needs.{needs}
 use Rattle.schedule.proofs.halt_schedule.Statement.{statement}
 use Rattle.schedule.proofs.halt_schedule.Tie as tie

@@ -1,6 +1,6 @@
 -- `schedule::in_event` meets its contract.
 use Rattle.device.specs.Event.{inEvent}
-use Rattle.unit.specs.Tests.{tests}
+use Rattle.unit.proofs.Tests.{tests}
 use borrow.Author.Needs.{needs}
 use Rattle.schedule.proofs.in_event.Statement.{statement}
 use Rattle.schedule.proofs.in_event.Tie as tie

@@ -1,6 +1,6 @@
 -- `schedule::is_awaited` meets its contract.
 use borrow.Author.Needs.{needs}
-use Rattle.unit.specs.Tests.{tests}
+use Rattle.unit.proofs.Tests.{tests}
 use Rattle.device.specs.Event.{isAwaited}
 use Rattle.schedule.proofs.is_awaited.Statement.{statement}
 use Rattle.schedule.proofs.is_awaited.Tie as tie

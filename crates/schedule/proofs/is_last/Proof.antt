@@ -1,5 +1,5 @@
 -- `schedule::is_last` meets its contract.
-use Rattle.unit.specs.Tests.{tests}
+use Rattle.unit.proofs.Tests.{tests}
 use Rattle.device.specs.Event.{isLast}
 use borrow.Author.Needs.{needs}
 use Rattle.schedule.proofs.is_last.Statement.{statement}

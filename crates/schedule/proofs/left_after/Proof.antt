@@ -1,5 +1,5 @@
 -- `schedule::left_after` meets its contract.
-use Rattle.unit.specs.Tests.{tests}
+use Rattle.unit.proofs.Tests.{tests}
 use Rattle.device.specs.Event.{leftAfter}
 use borrow.Author.Needs.{needs}
 use Rattle.schedule.proofs.left_after.Statement.{statement}

@@ -1,6 +1,6 @@
 -- `schedule::no_schedule` meets its contract.
 use borrow.Author.Needs.{needs}
-use Rattle.unit.specs.Tests.{tests}
+use Rattle.unit.proofs.Tests.{tests}
 use Rattle.device.specs.Event.{noSchedule}
 use Rattle.schedule.proofs.no_schedule.Statement.{statement}
 use Rattle.schedule.proofs.no_schedule.Tie as tie

@@ -1,6 +1,6 @@
 -- `schedule::schedule_sound` meets its contract.
 use Rattle.device.specs.Event.{scheduleSound}
-use Rattle.unit.specs.Tests.{tests}
+use Rattle.unit.proofs.Tests.{tests}
 use borrow.Author.Needs.{needs}
 use Rattle.schedule.proofs.schedule_sound.Statement.{statement}
 use Rattle.schedule.proofs.schedule_sound.Tie as tie

@@ -1,6 +1,6 @@
 -- `schedule::settled_after` meets its contract.
 use Rattle.device.specs.Event.{settledAfter}
-use Rattle.unit.specs.Tests.{tests}
+use Rattle.unit.proofs.Tests.{tests}
 use borrow.Author.Needs.{needs}
 use Rattle.schedule.proofs.settled_after.Statement.{statement}
 use Rattle.schedule.proofs.settled_after.Tie as tie

@@ -1,6 +1,6 @@
 -- `schedule::start_event` meets its contract.
 use Rattle.device.specs.Event.{startEvent}
-use Rattle.unit.specs.Tests.{tests}
+use Rattle.unit.proofs.Tests.{tests}
 use borrow.Author.Needs.{needs}
 use Rattle.schedule.proofs.start_event.Statement.{statement}
 use Rattle.schedule.proofs.start_event.Tie as tie

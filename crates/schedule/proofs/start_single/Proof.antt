@@ -1,6 +1,6 @@
 -- `schedule::start_single` meets its contract.
 use borrow.Author.Needs.{needs}
-use Rattle.unit.specs.Tests.{tests}
+use Rattle.unit.proofs.Tests.{tests}
 use Rattle.device.specs.Event.{startSingle}
 use Rattle.schedule.proofs.start_single.Statement.{statement}
 use Rattle.schedule.proofs.start_single.Tie as tie

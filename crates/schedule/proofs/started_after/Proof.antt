@@ -1,6 +1,6 @@
 -- `schedule::started_after` meets its contract.
 use Rattle.device.specs.Event.{startedAfter}
-use Rattle.unit.specs.Tests.{tests}
+use Rattle.unit.proofs.Tests.{tests}
 use borrow.Author.Needs.{needs}
 use Rattle.schedule.proofs.started_after.Statement.{statement}
 use Rattle.schedule.proofs.started_after.Tie as tie

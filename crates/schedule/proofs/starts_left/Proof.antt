@@ -1,6 +1,6 @@
 -- `schedule::starts_left` meets its contract.
 use Rattle.device.specs.Event.{startsLeft}
-use Rattle.unit.specs.Tests.{tests}
+use Rattle.unit.proofs.Tests.{tests}
 use borrow.Author.Needs.{needs}
 use Rattle.schedule.proofs.starts_left.Statement.{statement}
 use Rattle.schedule.proofs.starts_left.Tie as tie

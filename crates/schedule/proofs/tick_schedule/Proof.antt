@@ -1,6 +1,6 @@
 -- `schedule::tick_schedule` meets its contract.
 use Rattle.device.specs.Event.{tickSchedule}
-use Rattle.unit.specs.Tests.{tests}
+use Rattle.unit.proofs.Tests.{tests}
 use borrow.Author.Needs.{needs}
 use Rattle.schedule.proofs.tick_schedule.Statement.{statement}
 use Rattle.schedule.proofs.tick_schedule.Tie as tie

@@ -1,5 +1,5 @@
 -- `schedule::wait_after` meets its contract.
-use Rattle.unit.specs.Tests.{tests}
+use Rattle.unit.proofs.Tests.{tests}
 use Rattle.device.specs.Event.{waitAfter}
 use borrow.Author.Needs.{needs}
 use Rattle.schedule.proofs.wait_after.Statement.{statement}

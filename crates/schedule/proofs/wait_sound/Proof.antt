@@ -1,6 +1,6 @@
 -- `schedule::wait_sound` meets its contract.
 use Rattle.device.specs.Event.{waitSound}
-use Rattle.unit.specs.Tests.{tests}
+use Rattle.unit.proofs.Tests.{tests}
 use borrow.Author.Needs.{needs}
 use Rattle.schedule.proofs.wait_sound.Statement.{statement}
 use Rattle.schedule.proofs.wait_sound.Tie as tie

@@ -1,5 +1,5 @@
 -- `setup::clock_stands` meets its contract.
-use Rattle.unit.specs.Tests.{tests}
+use Rattle.unit.proofs.Tests.{tests}
 use Rattle.setup.specs.Setup.{clockStands}
 use borrow.Author.Needs.{needs}
 use Rattle.setup.proofs.clock_stands.Statement.{statement}

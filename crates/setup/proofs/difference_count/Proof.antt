@@ -1,5 +1,5 @@
 -- `setup::difference_count` meets its contract.
-use Rattle.unit.specs.Tests.{tests}
+use Rattle.unit.proofs.Tests.{tests}
 use Rattle.setup.specs.Setup.{differenceCount}
 use borrow.Author.Needs.{needs}
 use Rattle.setup.proofs.difference_count.Statement.{statement}

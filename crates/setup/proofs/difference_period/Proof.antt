@@ -1,5 +1,5 @@
 -- `setup::difference_period` meets its contract.
-use Rattle.unit.specs.Tests.{tests}
+use Rattle.unit.proofs.Tests.{tests}
 use Rattle.setup.specs.Setup.{differencePeriod}
 use borrow.Author.Needs.{needs}
 use Rattle.setup.proofs.difference_period.Statement.{statement}

@@ -1,5 +1,5 @@
 -- `setup::each_interrupt` meets its contract.
-use Rattle.unit.specs.Tests.{tests}
+use Rattle.unit.proofs.Tests.{tests}
 use Rattle.setup.specs.Setup.{eachInterrupt}
 use borrow.Author.Needs.{needs}
 use Rattle.setup.proofs.each_interrupt.Statement.{statement}

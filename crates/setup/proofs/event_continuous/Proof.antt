@@ -1,5 +1,5 @@
 -- `setup::event_continuous` meets its contract.
-use Rattle.unit.specs.Tests.{tests}
+use Rattle.unit.proofs.Tests.{tests}
 use Rattle.setup.specs.Setup.{eventContinuous}
 use borrow.Author.Needs.{needs}
 use Rattle.setup.proofs.event_continuous.Statement.{statement}

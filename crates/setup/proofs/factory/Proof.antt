@@ -1,6 +1,6 @@
 -- `setup::factory` meets its contract.
 use borrow.Author.Needs.{needs}
-use Rattle.unit.specs.Tests.{tests}
+use Rattle.unit.proofs.Tests.{tests}
 use Rattle.setup.specs.Setup.{factory}
 use Rattle.setup.proofs.factory.Statement.{statement}
 use Rattle.setup.proofs.factory.Tie as tie

@@ -1,5 +1,5 @@
 -- `setup::flight_unset` meets its contract.
-use Rattle.unit.specs.Tests.{tests}
+use Rattle.unit.proofs.Tests.{tests}
 use Rattle.setup.specs.Setup.{flightUnset}
 use borrow.Author.Needs.{needs}
 use Rattle.setup.proofs.flight_unset.Statement.{statement}

@@ -1,5 +1,5 @@
 -- `setup::interrupt_enabled` meets its contract.
-use Rattle.unit.specs.Tests.{tests}
+use Rattle.unit.proofs.Tests.{tests}
 use Rattle.setup.specs.Setup.{interruptEnabled}
 use borrow.Author.Needs.{needs}
 use Rattle.setup.proofs.interrupt_enabled.Statement.{statement}

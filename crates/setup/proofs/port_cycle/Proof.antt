@@ -1,5 +1,5 @@
 -- `setup::port_cycle` meets its contract.
-use Rattle.unit.specs.Tests.{tests}
+use Rattle.unit.proofs.Tests.{tests}
 use Rattle.setup.specs.Setup.{portCycle}
 use borrow.Author.Needs.{needs}
 use Rattle.setup.proofs.port_cycle.Statement.{statement}

@@ -1,7 +1,7 @@
 -- `setup::stop_row` meets its contract.
 use mathlib.Core.Path.{refl}
 use borrow.Author.Needs.{needs}
-use Rattle.unit.specs.Rows.{past-last, untaken-from}
+use Rattle.unit.proofs.Rows.{past-last, untaken-from}
 use Rattle.setup.specs.Stop.{stopTable, stopRow}
 use Rattle.setup.proofs.stop_row.Statement.{statement}
 use Rattle.setup.proofs.stop_row.Tie as tie

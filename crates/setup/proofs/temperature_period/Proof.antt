@@ -1,5 +1,5 @@
 -- `setup::temperature_period` meets its contract.
-use Rattle.unit.specs.Tests.{tests}
+use Rattle.unit.proofs.Tests.{tests}
 use Rattle.setup.specs.Setup.{temperaturePeriod}
 use borrow.Author.Needs.{needs}
 use Rattle.setup.proofs.temperature_period.Statement.{statement}

@@ -1,5 +1,5 @@
 -- `setup::temperature_unset` meets its contract.
-use Rattle.unit.specs.Tests.{tests}
+use Rattle.unit.proofs.Tests.{tests}
 use Rattle.setup.specs.Setup.{temperatureUnset}
 use borrow.Author.Needs.{needs}
 use Rattle.setup.proofs.temperature_unset.Statement.{statement}

@@ -1,5 +1,5 @@
 -- `setup::timeout` meets its contract.
-use Rattle.unit.specs.Tests.{tests}
+use Rattle.unit.proofs.Tests.{tests}
 use Rattle.setup.specs.Setup.{timeout}
 use borrow.Author.Needs.{needs}
 use Rattle.setup.proofs.timeout.Statement.{statement}

@@ -1,6 +1,6 @@
 -- `status::no_bits` meets its contract.
 use borrow.Author.Needs.{needs}
-use Rattle.unit.specs.Tests.{tests}
+use Rattle.unit.proofs.Tests.{tests}
 use Rattle.device.specs.Status.{noBits}
 use Rattle.status.proofs.no_bits.Statement.{statement}
 use Rattle.status.proofs.no_bits.Tie as tie

@@ -1,6 +1,6 @@
 -- `status::status_word` meets its contract.
 use Rattle.device.specs.Status.{statusWord}
-use Rattle.unit.specs.Tests.{tests}
+use Rattle.unit.proofs.Tests.{tests}
 use borrow.Author.Needs.{needs}
 use Rattle.status.proofs.status_word.Statement.{statement}
 use Rattle.status.proofs.status_word.Tie as tie

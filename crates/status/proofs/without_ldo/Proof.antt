@@ -1,6 +1,6 @@
 -- `status::without_ldo` meets its contract.
 use Rattle.device.specs.Status.{withoutLdo}
-use Rattle.unit.specs.Tests.{tests}
+use Rattle.unit.proofs.Tests.{tests}
 use borrow.Author.Needs.{needs}
 use Rattle.status.proofs.without_ldo.Statement.{statement}
 use Rattle.status.proofs.without_ldo.Tie as tie

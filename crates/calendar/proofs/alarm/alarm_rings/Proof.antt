@@ -1,6 +1,6 @@
 -- `calendar::alarm::alarm_rings` meets its contract.
 use borrow.Author.Tests.{eq-eqb, ne-eqb}
-use Rattle.unit.specs.Tests.{tests}
+use Rattle.unit.proofs.Tests.{tests}
 use Rattle.calendar.specs.Alarm.{alarmRings}
 use borrow.Author.Needs.{needs}
 use Rattle.calendar.proofs.alarm.alarm_rings.Statement.{statement}

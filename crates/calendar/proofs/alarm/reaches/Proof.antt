@@ -1,6 +1,6 @@
 -- `calendar::alarm::reaches` meets its contract.
 use borrow.Author.Needs.{needs}
-use Rattle.unit.specs.Tests.{tests}
+use Rattle.unit.proofs.Tests.{tests}
 use Rattle.calendar.specs.Alarm.{reaches}
 use Rattle.calendar.proofs.alarm.reaches.Statement.{statement}
 use Rattle.calendar.proofs.alarm.reaches.Tie as tie

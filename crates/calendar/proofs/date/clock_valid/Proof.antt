@@ -1,5 +1,5 @@
 -- `calendar::date::clock_valid` meets its contract.
-use Rattle.unit.specs.Tests.{tests}
+use Rattle.unit.proofs.Tests.{tests}
 use Rattle.calendar.specs.Calendar.{clockValid}
 use borrow.Author.Needs.{needs}
 use Rattle.calendar.proofs.date.clock_valid.Statement.{statement}

@@ -1,5 +1,5 @@
 -- `calendar::date::date_fits` meets its contract.
-use Rattle.unit.specs.Tests.{tests}
+use Rattle.unit.proofs.Tests.{tests}
 use Rattle.calendar.specs.Calendar.{dateFits}
 use borrow.Author.Needs.{needs}
 use Rattle.calendar.proofs.date.date_fits.Statement.{statement}

@@ -1,6 +1,6 @@
 -- `calendar::date::leap` meets its contract.
 use borrow.Author.Needs.{needs}
-use Rattle.unit.specs.Tests.{tests}
+use Rattle.unit.proofs.Tests.{tests}
 use Rattle.calendar.specs.Calendar.{leap}
 use Rattle.calendar.proofs.date.leap.Statement.{statement}
 use Rattle.calendar.proofs.date.leap.Tie as tie

@@ -1,5 +1,5 @@
 -- `calendar::date::month_length` meets its contract.
-use Rattle.unit.specs.Tests.{tests}
+use Rattle.unit.proofs.Tests.{tests}
 use Rattle.calendar.specs.Calendar.{monthLength}
 use borrow.Author.Needs.{needs}
 use Rattle.calendar.proofs.date.month_length.Statement.{statement}

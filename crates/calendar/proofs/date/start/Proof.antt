@@ -1,6 +1,6 @@
 -- `calendar::date::start` meets its contract.
 use borrow.Author.Needs.{needs}
-use Rattle.unit.specs.Tests.{tests}
+use Rattle.unit.proofs.Tests.{tests}
 use Rattle.calendar.specs.Calendar.{start}
 use Rattle.calendar.proofs.date.start.Statement.{statement}
 use Rattle.calendar.proofs.date.start.Tie as tie

@@ -1,6 +1,6 @@
 -- `calendar::date::time_fits` meets its contract.
 use borrow.Author.Needs.{needs}
-use Rattle.unit.specs.Tests.{tests}
+use Rattle.unit.proofs.Tests.{tests}
 use Rattle.calendar.specs.Calendar.{timeFits}
 use Rattle.calendar.proofs.date.time_fits.Statement.{statement}
 use Rattle.calendar.proofs.date.time_fits.Tie as tie

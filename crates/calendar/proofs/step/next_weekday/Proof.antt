@@ -1,5 +1,5 @@
 -- `calendar::step::next_weekday` meets its contract.
-use Rattle.unit.specs.Tests.{tests}
+use Rattle.unit.proofs.Tests.{tests}
 use Rattle.calendar.specs.Calendar.{nextWeekday}
 use borrow.Author.Needs.{needs}
 use Rattle.calendar.proofs.step.next_weekday.Statement.{statement}

@@ -1,5 +1,5 @@
 -- `calendar::step::tick_clock` meets its contract.
-use Rattle.unit.specs.Tests.{tests}
+use Rattle.unit.proofs.Tests.{tests}
 use Rattle.calendar.specs.Calendar.{tickClock}
 use borrow.Author.Needs.{needs}
 use Rattle.calendar.proofs.step.tick_clock.Statement.{statement}

@@ -1,6 +1,6 @@
 -- `calendar::words::alarm_valid` meets its contract.
 use borrow.Author.Needs.{needs}
-use Rattle.unit.specs.Tests.{tests}
+use Rattle.unit.proofs.Tests.{tests}
 use Rattle.calendar.specs.Words.{alarmValid}
 use Rattle.calendar.proofs.words.alarm_valid.Statement.{statement}
 use Rattle.calendar.proofs.words.alarm_valid.Tie as tie

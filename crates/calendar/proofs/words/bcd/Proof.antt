@@ -1,5 +1,5 @@
 -- `calendar::words::bcd` meets its contract.
-use Rattle.unit.specs.Tests.{tests}
+use Rattle.unit.proofs.Tests.{tests}
 use Rattle.calendar.specs.Words.{bcd}
 use borrow.Author.Needs.{needs}
 use Rattle.calendar.proofs.words.bcd.Statement.{statement}

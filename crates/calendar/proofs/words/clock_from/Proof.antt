@@ -1,6 +1,6 @@
 -- `calendar::words::clock_from` meets its contract.
 use borrow.Author.Needs.{needs}
-use Rattle.unit.specs.Tests.{tests}
+use Rattle.unit.proofs.Tests.{tests}
 use Rattle.calendar.specs.Words.{clockFrom}
 use Rattle.calendar.proofs.words.clock_from.Statement.{statement}
 use Rattle.calendar.proofs.words.clock_from.Tie as tie

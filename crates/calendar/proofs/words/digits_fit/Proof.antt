@@ -1,5 +1,5 @@
 -- `calendar::words::digits_fit` meets its contract.
-use Rattle.unit.specs.Tests.{tests}
+use Rattle.unit.proofs.Tests.{tests}
 use Rattle.calendar.specs.Words.{digitsFit}
 use borrow.Author.Needs.{needs}
 use Rattle.calendar.proofs.words.digits_fit.Statement.{statement}

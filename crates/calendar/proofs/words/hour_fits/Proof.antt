@@ -1,6 +1,6 @@
 -- `calendar::words::hour_fits` meets its contract.
 use borrow.Author.Needs.{needs}
-use Rattle.unit.specs.Tests.{tests}
+use Rattle.unit.proofs.Tests.{tests}
 use Rattle.calendar.specs.Words.{hourFits}
 use Rattle.calendar.proofs.words.hour_fits.Statement.{statement}
 use Rattle.calendar.proofs.words.hour_fits.Tie as tie

@@ -1,6 +1,6 @@
 -- `calendar::words::hour_named` meets its contract.
 use borrow.Author.Needs.{needs}
-use Rattle.unit.specs.Tests.{tests}
+use Rattle.unit.proofs.Tests.{tests}
 use Rattle.calendar.specs.Words.{hourNamed}
 use Rattle.calendar.proofs.words.hour_named.Statement.{statement}
 use Rattle.calendar.proofs.words.hour_named.Tie as tie

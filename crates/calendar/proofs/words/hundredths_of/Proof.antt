@@ -1,5 +1,5 @@
 -- `calendar::words::hundredths_of` meets its contract.
-use Rattle.unit.specs.Tests.{tests}
+use Rattle.unit.proofs.Tests.{tests}
 use Rattle.calendar.specs.Words.{hundredthsOf}
 use borrow.Author.Needs.{needs}
 use Rattle.calendar.proofs.words.hundredths_of.Statement.{statement}

@@ -1,5 +1,5 @@
 -- `calendar::words::minute_in` meets its contract.
-use Rattle.unit.specs.Tests.{tests}
+use Rattle.unit.proofs.Tests.{tests}
 use Rattle.calendar.specs.Words.{minuteIn}
 use borrow.Author.Needs.{needs}
 use Rattle.calendar.proofs.words.minute_in.Statement.{statement}

@@ -1,5 +1,5 @@
 -- `calendar::words::ticks_in` meets its contract.
-use Rattle.unit.specs.Tests.{tests}
+use Rattle.unit.proofs.Tests.{tests}
 use Rattle.calendar.specs.Words.{ticksIn}
 use borrow.Author.Needs.{needs}
 use Rattle.calendar.proofs.words.ticks_in.Statement.{statement}

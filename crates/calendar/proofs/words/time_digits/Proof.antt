@@ -1,6 +1,6 @@
 -- `calendar::words::time_digits` meets its contract.
 use borrow.Author.Needs.{needs}
-use Rattle.unit.specs.Tests.{tests}
+use Rattle.unit.proofs.Tests.{tests}
 use Rattle.calendar.specs.Words.{timeDigits}
 use Rattle.calendar.proofs.words.time_digits.Statement.{statement}
 use Rattle.calendar.proofs.words.time_digits.Tie as tie

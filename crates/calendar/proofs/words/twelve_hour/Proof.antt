@@ -1,6 +1,6 @@
 -- `calendar::words::twelve_hour` meets its contract.
 use borrow.Author.Needs.{needs}
-use Rattle.unit.specs.Tests.{tests}
+use Rattle.unit.proofs.Tests.{tests}
 use Rattle.calendar.specs.Words.{twelveHour}
 use Rattle.calendar.proofs.words.twelve_hour.Statement.{statement}
 use Rattle.calendar.proofs.words.twelve_hour.Tie as tie

@@ -1,6 +1,6 @@
 -- `calendar::words::twelve_in` meets its contract.
 use borrow.Author.Needs.{needs}
-use Rattle.unit.specs.Tests.{tests}
+use Rattle.unit.proofs.Tests.{tests}
 use Rattle.calendar.specs.Words.{twelveIn}
 use Rattle.calendar.proofs.words.twelve_in.Statement.{statement}
 use Rattle.calendar.proofs.words.twelve_in.Tie as tie

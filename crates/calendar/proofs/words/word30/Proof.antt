@@ -1,5 +1,5 @@
 -- `calendar::words::word30` meets its contract.
-use Rattle.unit.specs.Tests.{tests}
+use Rattle.unit.proofs.Tests.{tests}
 use Rattle.calendar.specs.Words.{word30}
 use borrow.Author.Needs.{needs}
 use Rattle.calendar.proofs.words.word30.Statement.{statement}

@@ -1,6 +1,6 @@
 -- `calendar::words::word31` meets its contract.
 use borrow.Author.Needs.{needs}
-use Rattle.unit.specs.Tests.{tests}
+use Rattle.unit.proofs.Tests.{tests}
 use Rattle.calendar.specs.Words.{word31}
 use Rattle.calendar.proofs.words.word31.Statement.{statement}
 use Rattle.calendar.proofs.words.word31.Tie as tie

@@ -1,6 +1,6 @@
 -- `calendar::words::words_valid` meets its contract.
 use borrow.Author.Needs.{needs}
-use Rattle.unit.specs.Tests.{tests}
+use Rattle.unit.proofs.Tests.{tests}
 use Rattle.calendar.specs.Words.{wordsValid}
 use Rattle.calendar.proofs.words.words_valid.Statement.{statement}
 use Rattle.calendar.proofs.words.words_valid.Tie as tie

@@ -1,5 +1,5 @@
 -- `hit::difference::biased` meets its contract.
-use Rattle.unit.specs.Tests.{tests}
+use Rattle.unit.proofs.Tests.{tests}
 use Rattle.hit.specs.Difference.{biased}
 use borrow.Author.Needs.{needs}
 use Rattle.hit.proofs.difference.biased.Statement.{statement}

@@ -1,5 +1,5 @@
 -- `hit::difference::difference_mean` meets its contract.
-use Rattle.unit.specs.Tests.{tests}
+use Rattle.unit.proofs.Tests.{tests}
 use Rattle.hit.specs.Difference.{differenceMean}
 use borrow.Author.Needs.{needs}
 use Rattle.hit.proofs.difference.difference_mean.Statement.{statement}

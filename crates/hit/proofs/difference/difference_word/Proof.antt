@@ -1,5 +1,5 @@
 -- `hit::difference::difference_word` meets its contract.
-use Rattle.unit.specs.Tests.{tests}
+use Rattle.unit.proofs.Tests.{tests}
 use Rattle.hit.specs.Difference.{differenceWord}
 use borrow.Author.Needs.{needs}
 use Rattle.hit.proofs.difference.difference_word.Statement.{statement}

@@ -1,5 +1,5 @@
 -- `hit::difference::port_mean` meets its contract.
-use Rattle.unit.specs.Tests.{tests}
+use Rattle.unit.proofs.Tests.{tests}
 use Rattle.hit.specs.Difference.{portMean}
 use borrow.Author.Needs.{needs}
 use Rattle.hit.proofs.difference.port_mean.Statement.{statement}

@@ -1,5 +1,5 @@
 -- `hit::limit::open_from` meets its contract.
-use Rattle.unit.specs.Tests.{tests}
+use Rattle.unit.proofs.Tests.{tests}
 use Rattle.hit.specs.Limit.{openFrom}
 use borrow.Author.Needs.{needs}
 use Rattle.hit.proofs.limit.open_from.Statement.{statement}

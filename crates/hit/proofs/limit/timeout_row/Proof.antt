@@ -1,7 +1,7 @@
 -- `hit::limit::timeout_row` meets its contract.
 use mathlib.Core.Path.{refl}
 use borrow.Author.Needs.{needs}
-use Rattle.unit.specs.Rows.{past-last, untaken-from}
+use Rattle.unit.proofs.Rows.{past-last, untaken-from}
 use Rattle.hit.specs.Timeout.{timeoutTable, timeoutRow}
 use Rattle.hit.proofs.limit.timeout_row.Statement.{statement}
 use Rattle.hit.proofs.limit.timeout_row.Tie as tie

@@ -1,6 +1,6 @@
 -- `hit::words::failed_pairs` meets its contract.
 use borrow.Author.Needs.{needs}
-use Rattle.unit.specs.Tests.{tests}
+use Rattle.unit.proofs.Tests.{tests}
 use Rattle.hit.specs.Words.{failedPairs}
 use Rattle.hit.proofs.words.failed_pairs.Statement.{statement}
 use Rattle.hit.proofs.words.failed_pairs.Tie as tie

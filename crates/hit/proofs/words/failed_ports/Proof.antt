@@ -1,6 +1,6 @@
 -- `hit::words::failed_ports` meets its contract.
 use borrow.Author.Needs.{needs}
-use Rattle.unit.specs.Tests.{tests}
+use Rattle.unit.proofs.Tests.{tests}
 use Rattle.hit.specs.Words.{failedPorts}
 use Rattle.hit.proofs.words.failed_ports.Statement.{statement}
 use Rattle.hit.proofs.words.failed_ports.Tie as tie

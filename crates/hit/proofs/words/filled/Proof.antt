@@ -1,5 +1,5 @@
 -- `hit::words::filled` meets its contract.
-use Rattle.unit.specs.Tests.{tests}
+use Rattle.unit.proofs.Tests.{tests}
 use Rattle.hit.specs.Words.{filled}
 use borrow.Author.Needs.{needs}
 use Rattle.hit.proofs.words.filled.Statement.{statement}

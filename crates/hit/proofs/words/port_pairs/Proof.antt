@@ -1,5 +1,5 @@
 -- `hit::words::port_pairs` meets its contract.
-use Rattle.unit.specs.Tests.{tests}
+use Rattle.unit.proofs.Tests.{tests}
 use Rattle.hit.specs.Words.{portPairs}
 use borrow.Author.Needs.{needs}
 use Rattle.hit.proofs.words.port_pairs.Statement.{statement}

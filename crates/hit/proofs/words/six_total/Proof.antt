@@ -1,5 +1,5 @@
 -- `hit::words::six_total` meets its contract.
-use Rattle.unit.specs.Tests.{tests}
+use Rattle.unit.proofs.Tests.{tests}
 use Rattle.hit.specs.Words.{sixTotal}
 use borrow.Author.Needs.{needs}
 use Rattle.hit.proofs.words.six_total.Statement.{statement}

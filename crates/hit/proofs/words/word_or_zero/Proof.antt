@@ -1,5 +1,5 @@
 -- `hit::words::word_or_zero` meets its contract.
-use Rattle.unit.specs.Tests.{tests}
+use Rattle.unit.proofs.Tests.{tests}
 use Rattle.hit.specs.Words.{wordOrZero}
 use borrow.Author.Needs.{needs}
 use Rattle.hit.proofs.words.word_or_zero.Statement.{statement}

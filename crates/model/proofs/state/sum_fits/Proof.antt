@@ -2,7 +2,7 @@
 use native.Mathlib.Omega.{arith}
 use native.Mathlib.Nat.{mul-le-mul-left}
 use borrow.Author.Needs.{needs}
-use Rattle.unit.specs.Tests.{tests}
+use Rattle.unit.proofs.Tests.{tests}
 use Rattle.device.specs.Model.{sumFits}
 use Rattle.model.proofs.state.sum_fits.Statement.{statement}
 use Rattle.model.proofs.state.sum_fits.Tie as tie

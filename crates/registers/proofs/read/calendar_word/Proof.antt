@@ -1,5 +1,5 @@
 -- `registers::read::calendar_word` meets its contract.
-use Rattle.unit.specs.Tests.{tests}
+use Rattle.unit.proofs.Tests.{tests}
 use Rattle.device.specs.Registers.{calendarWord}
 use borrow.Author.Needs.{needs}
 use Rattle.registers.proofs.read.calendar_word.Statement.{statement}

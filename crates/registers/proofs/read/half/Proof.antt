@@ -1,6 +1,6 @@
 -- `registers::read::half` meets its contract.
 use borrow.Author.Needs.{needs}
-use Rattle.unit.specs.Tests.{tests}
+use Rattle.unit.proofs.Tests.{tests}
 use Rattle.device.specs.Registers.{half}
 use Rattle.registers.proofs.read.half.Statement.{statement}
 use Rattle.registers.proofs.read.half.Tie as tie

@@ -1,4 +1,4 @@
-use Rattle.unit.specs.Tests.{tests}
+use Rattle.unit.proofs.Tests.{tests}
 use Rattle.device.specs.Registers.{registerWord}
 use borrow.Author.Needs.{needs}
 use Rattle.registers.proofs.read.register_word.Statement.{statement}

@@ -1,5 +1,5 @@
 -- `ticking::stretch::least` meets its contract.
-use Rattle.unit.specs.Tests.{tests}
+use Rattle.unit.proofs.Tests.{tests}
 use Rattle.device.specs.StretchSteps.{least}
 use borrow.Author.Needs.{needs}
 use Rattle.ticking.proofs.stretch.least.Statement.{statement}

@@ -1,5 +1,5 @@
 -- `ticking::stretch::quiet_left` meets its contract.
-use Rattle.unit.specs.Tests.{tests}
+use Rattle.unit.proofs.Tests.{tests}
 use Rattle.device.specs.StretchSteps.{quietLeft}
 use borrow.Author.Needs.{needs}
 use Rattle.ticking.proofs.stretch.quiet_left.Statement.{statement}

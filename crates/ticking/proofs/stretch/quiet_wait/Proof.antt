@@ -1,5 +1,5 @@
 -- `ticking::stretch::quiet_wait` meets its contract.
-use Rattle.unit.specs.Tests.{tests}
+use Rattle.unit.proofs.Tests.{tests}
 use Rattle.device.specs.StretchSteps.{quietWait}
 use borrow.Author.Needs.{needs}
 use Rattle.ticking.proofs.stretch.quiet_wait.Statement.{statement}

@@ -1,5 +1,5 @@
 -- `ticking::stretch::wait_later` meets its contract.
-use Rattle.unit.specs.Tests.{tests}
+use Rattle.unit.proofs.Tests.{tests}
 use borrow.Author.Tests.{lt-leb}
 use borrow.Author.Needs.{needs}
 use Rattle.ticking.proofs.stretch.wait_later.Statement.{statement}

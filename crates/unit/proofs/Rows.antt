@@ -8,7 +8,7 @@ use lib.ListN.{length, getD, List·getD-eq-default}
 use lib.Dec.{eqb}
 use borrow.Author.Tests.{eqb-true}
 use Rattle.unit.specs.Choice.{both}
-use Rattle.unit.specs.Cases.{by-eqb}
+use Rattle.unit.proofs.Cases.{by-eqb}
 
 -- the rows and the rule give the same at each value below n
 abbrev pub agree : (ℕ → ℕ) → (ℕ → ℕ) → ℕ → Bool

@@ -1,0 +1,4 @@
+pub mod Tests
+pub mod Cases
+pub mod Rows
+pub mod Bits

@@ -17,16 +17,9 @@ use Rattle.device.specs.declared.Model.{Model}
 use Rattle.device.specs.Registers.{calendarWord, registerWord}
 use Rattle.device.specs.Tick.{clockTicked, tickRings, tickModel}
 use Rattle.device.specs.Stretch.{modelTicked}
+use Rattle.device.specs.Terms.{modeOf, eoscOf}
 use Rattle.device.proofs.StatusMeaning.{kept, alarm-set}
 use Rattle.device.proofs.Stretch.{setup-ticked, clock-ticked}
-
--- AM, "(3:2 of 43h)"
-abbrev pub modeOf : Model → ℕ
-modeOf m = wordOf (m .setup) 0x43 / 4 % 4
-
--- EOSC, "(bit 4 of 43h)"
-abbrev pub eoscOf : Model → ℕ
-eoscOf m = wordOf (m .setup) 0x43 / 16 % 2
 
 -- AF stays set until the status is read.
 pub alarm-stays : (m : Model) → m .status .alarm ≡ true → (tickModel m) .status .alarm ≡ true

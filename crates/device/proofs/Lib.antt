@@ -1,5 +1,6 @@
 -- Laws of the definitions, for this crate and those above it.
 pub mod Table
+pub mod FirstDemand
 pub mod TickCases
 pub mod Sound
 pub mod Decode
@@ -28,6 +29,8 @@ pub mod Supply
 pub mod FlashMeaning
 pub mod Form
 pub mod Initialised
+pub mod SetupTold
 pub mod Blank
 pub mod Probes
 pub mod StatusKept
+pub mod SecondDemand

@@ -18,6 +18,7 @@ use Rattle.device.specs.Event.{tickSchedule, leftAfter, waitAfter, start
 use Rattle.device.specs.Model.{kindBusy, isBusy}
 use Rattle.device.specs.Bus.{mustBeIdle, startsFlight, startsTemperature, isEvent, commandBusy, beforeInitialize}
 use Rattle.device.specs.Bus.{flightSideUnset, temperatureSideUnset, eventSideUnset, commandUnset}
+use Rattle.device.specs.Terms.{commands}
 
 -- "while a measurement is awaited or an event runs": ticks are left to the awaited one, or fewer are settled than planned
 -- or it is a continuous event
@@ -57,10 +58,6 @@ idle-means op =
     (λ n e. by-eqb op 10
     (λ h f. rw (e, f) (holds (inr h)))
     (λ o f. rw (e, f) (fails true (⊎-elim n o))))
-
--- "commands 00h to 05h and 07h to 0Ah", and 0Ch and 0Dh (Note 8)
-abbrev pub commands : List ℕ
-commands = 0 ∷ 1 ∷ 2 ∷ 3 ∷ 4 ∷ 5 ∷ 7 ∷ 8 ∷ 9 ∷ 10 ∷ 12 ∷ 13 ∷ []
 
 -- "00h to 03h, 07h to 09h before Initialize"
 pub before-initialize :

@@ -25,6 +25,7 @@ use Rattle.device.specs.Delivery.{goodFlightModel, failedFlightModel, go
 use Rattle.device.specs.Bus.{flightStarted, isEvent, startedEvent, initialisedModel, haltedModel, singleStarted, supplied, unsupplied, runModel}
 use Rattle.device.specs.Call.{tick, flight, temperature, stretch, notAwaited}
 use Rattle.device.specs.Reply.{anyLate, portFault, acceptedModel, acceptedAnswer}
+use Rattle.device.specs.Terms.{FlightStarts, TemperatureStarts}
 use Rattle.device.proofs.Sound.{ScheduleBounds, bounds-of, neither-picked}
 
 -- No event runs: all that were planned are started and settled, and none is continuous.
@@ -360,51 +361,6 @@ temperature-leaves-hits m w = flight-reads m (acceptedModel m (temperature w)) k
   where
     kept : acceptedModel m (temperature w) .flight ≡ m .flight
     kept = unfold acceptedModel failedTemperatureModel goodTemperatureModel in by-test (portFault m w) (λ e. rw e) (λ e. rw e)
-
--- "TOF_Up (00h), TOF_Down (01h), TOF_Diff (02h) start a flight measurement": it is awaited for 8,192 ticks, in the directions
--- named, and everything else of `n`, the model after the command, is as it was in `m`, the model before it.
-pub record FlightStarts (m n : Model) (upstream downstream : Bool) : Type 0 where
-  pub awaited : (u d : List ℕ) → notAwaited n (flight u d) ≡ false
-  pub left : n .flight .schedule .left .0 ≡ 8192
-  pub up : n .flight .up ≡ upstream
-  pub down : n .flight .down ≡ downstream
-  pub sum : n .flight .sum ≡ m .flight .sum
-  pub ups : n .flight .ups ≡ m .flight .ups
-  pub downs : n .flight .downs ≡ m .flight .downs
-  pub difference : n .flight .difference ≡ m .flight .difference
-  pub wait : n .flight .schedule .wait ≡ m .flight .schedule .wait
-  pub period : n .flight .schedule .period ≡ m .flight .schedule .period
-  pub planned : n .flight .schedule .planned ≡ m .flight .schedule .planned
-  pub started : n .flight .schedule .started ≡ m .flight .schedule .started
-  pub settled : n .flight .schedule .settled ≡ m .flight .schedule .settled
-  pub continuous : n .flight .schedule .continuous ≡ m .flight .schedule .continuous
-  pub good : n .flight .schedule .good ≡ m .flight .schedule .good
-  pub temperature : n .temperature ≡ m .temperature
-  pub clock : n .clock ≡ m .clock
-  pub setup : n .setup ≡ m .setup
-  pub status : n .status ≡ m .status
-  pub initialised : n .initialised ≡ m .initialised
-  pub regulator : n .regulator ≡ m .regulator
-
--- "Temperature (03h) a temperature one"
-pub record TemperatureStarts (m n : Model) : Type 0 where
-  pub awaited : (w : List ℕ) → notAwaited n (temperature w) ≡ false
-  pub left : n .temperature .schedule .left .0 ≡ 8192
-  pub sums : n .temperature .sums ≡ m .temperature .sums
-  pub ports : n .temperature .ports ≡ m .temperature .ports
-  pub wait : n .temperature .schedule .wait ≡ m .temperature .schedule .wait
-  pub period : n .temperature .schedule .period ≡ m .temperature .schedule .period
-  pub planned : n .temperature .schedule .planned ≡ m .temperature .schedule .planned
-  pub started : n .temperature .schedule .started ≡ m .temperature .schedule .started
-  pub settled : n .temperature .schedule .settled ≡ m .temperature .schedule .settled
-  pub continuous : n .temperature .schedule .continuous ≡ m .temperature .schedule .continuous
-  pub good : n .temperature .schedule .good ≡ m .temperature .schedule .good
-  pub flight : n .flight ≡ m .flight
-  pub clock : n .clock ≡ m .clock
-  pub setup : n .setup ≡ m .setup
-  pub status : n .status ≡ m .status
-  pub initialised : n .initialised ≡ m .initialised
-  pub regulator : n .regulator ≡ m .regulator
 
 module _ (m : Model) where
   -- one law over the direction

@@ -32,8 +32,10 @@ use Rattle.device.specs.Call.{Call, transaction, tick, flight, temperatu
 use Rattle.device.specs.Reply.{anyLate, anyOpen, portFault, acceptedModel}
 use Rattle.device.specs.Call.{notCarried, Verdict, accepted, refused, verdict}
 use Rattle.device.specs.Reply.{replyBy, reply}
+use Rattle.device.specs.Terms.{expiring, nth, told, Some, Kept, ReadsStatus, Clears, SwitchesOff, bitsOf, bitsOfFrame, maySet, Under}
 use Rattle.device.proofs.Table.{none-holds}
-use Rattle.device.proofs.StatusMeaning.{kept, onlyBits}
+use Rattle.device.proofs.StatusMeaning.{kept}
+use Rattle.device.specs.Terms.{onlyBits}
 
 turned : (b : Bool) → either b true ≡ true
 turned true = refl
@@ -42,20 +44,6 @@ turned false = refl
 same : (b : Bool) → pick b true false ≡ b
 same true = refl
 same false = refl
-
--- The conditions in plain numbers. In the coming tick the awaited one is undelivered for 8,192 ticks:
-abbrev pub expiring : Schedule → Bool
-expiring k = eqb (k .left .0) 1
-
--- the one that is settled next is the N-th of its event or group
-abbrev pub nth : Schedule → Bool
-nth k = eqb (k .settled + 1) (k .planned)
-
--- its settling sets TOF or TE: no event of the kind runs, neither a continuous one nor one of which some are to settle; or CONT_INT,
--- bit 7 of 42h, is 1
-abbrev pub told : Model → Schedule → Bool
-told m k =
-    either (negate (either (k .continuous) (ltb (k .settled) (k .planned)))) (eqb (wordOf (m .setup) 0x42 / 128 % 2) 1)
 
 expiring-plain : (k : Schedule) → expires k ≡ expiring k
 unfolding expires
@@ -131,10 +119,6 @@ tick-bits m =
     )
     (ticks-join (m .status) (tickRings m (clockTicked m)) (eachInterrupt (m .setup)) (expires (m .flight .schedule))
     (expires (m .temperature .schedule)) (m .flight .schedule) (m .temperature .schedule))
-
--- some word of a list is at least this one
-abbrev pub Some : ℕ → List ℕ → Type 0
-Some least ws = (i : ℕ) × (i < length ws) × (least ≤ getD ws i 0)
 
 either-means : (a b : Bool) → (either a b ≡ true) ↔ ((a ≡ true) ⊎ (b ≡ true))
 either-means true b = (λ e. inl refl, λ x. refl)
@@ -217,20 +201,6 @@ unfolding acceptedModel goodTemperatureModel failedTemperatureModel temperatureS
 temperature-bits m w =
     rw (← nth-plain (m .temperature .schedule), ← told-plain m (m .temperature .schedule))
     (by-test (portFault m w) (λ e. rw e (simp kept)) (λ e. rw (e, whole-not-open m w e) (simp kept)))
-
--- Every bit set before is set after, LDO where the call does not switch the regulator off.
-pub record Kept (Off : Type 0) (s t : Status) : Type 0 where
-  pub timeout : s .timeout ≡ true → t .timeout ≡ true
-  pub alarm : s .alarm ≡ true → t .alarm ≡ true
-  pub tof : s .tof ≡ true → t .tof ≡ true
-  pub te : s .te ≡ true → t .te ≡ true
-  pub ldo : ¬ Off → s .ldo ≡ true → t .ldo ≡ true
-  pub tofevtmg : s .tofevtmg ≡ true → t .tofevtmg ≡ true
-  pub tempevtmg : s .tempevtmg ≡ true → t .tempevtmg ≡ true
-  pub flash : s .flash ≡ true → t .flash ≡ true
-  pub halt : s .halt ≡ true → t .halt ≡ true
-  pub init : s .init ≡ true → t .init ≡ true
-  pub por : s .por ≡ true → t .por ≡ true
 
 all-kept : {Off : Type 0} (s : Status) → Kept Off s s
 all-kept s =
@@ -340,24 +310,6 @@ read-keeps m a n o =
     (λ h e. rw e
     (by-test (leb (a + n) 0xFE) (λ f. rw f (all-kept _)) (λ f. absurd (o (h, leb-false (a + n) 0xFE f)))))
 
--- The frames that clear: a read of n words from B0h on that covers FEh, and 04h Reset; 0Dh LDO_OFF clears LDO alone.
-abbrev pub ReadsStatus : List ℕ → Type 0
-ReadsStatus f = (0xB0 ≤ getD f 0 0) × (getD f 0 0 ≤ 0xFE) × (0xFE < getD f 0 0 + (length f - 1) / 2)
-
-abbrev pub Clears : Call → Type 0
-Clears (transaction f o x) = (getD f 0 0 ≡ 0x04) ⊎ ReadsStatus f
-Clears tick = ⊥
-Clears (flight u d) = ⊥
-Clears (temperature w) = ⊥
-Clears (stretch n) = ⊥
-
-abbrev pub SwitchesOff : Call → Type 0
-SwitchesOff (transaction f o x) = getD f 0 0 ≡ 0x0D
-SwitchesOff tick = ⊥
-SwitchesOff (flight u d) = ⊥
-SwitchesOff (temperature w) = ⊥
-SwitchesOff (stretch n) = ⊥
-
 carried : (m : Model) (f o x : List ℕ) →
     isCommand (opcode f) ≡ false →
     isWrite (opcode f) ≡ false →
@@ -429,51 +381,6 @@ pub off-clears-ldo :
     reply m (transaction (0x0D ∷ []) o x) .model .status .ldo ≡ false
 unfolding reply replyBy acceptedModel isCommand runModel unsupplied withoutLdo
 off-clears-ldo m o x v = rw v
-
--- The bits that a call may set: a transaction by its first byte, 0Ch LDO, 10h and 13h FLASH, 0Ah HALT, 05h INIT; a delivery those of
--- its kind; ticks those of both kinds and AF. No call sets POR: "status 0004h (POR)" is a fresh model's.
-abbrev pub bitsOf : Bool → Bool → Bool → Bool → Status
-bitsOf ticks flights temperatures any =
-    record {
-      timeout = any;
-      alarm = ticks;
-      tof = flights;
-      te = temperatures;
-      ldo = false;
-      tofevtmg = flights;
-      tempevtmg = temperatures;
-      flash = false;
-      halt = false;
-      init = false;
-      por = false;
-    }
-
-abbrev pub bitsOfFrame : ℕ → Status
-bitsOfFrame op =
-    record {
-      timeout = false;
-      alarm = false;
-      tof = false;
-      te = false;
-      ldo = eqb op 0x0C;
-      tofevtmg = false;
-      tempevtmg = false;
-      flash = either (eqb op 0x10) (eqb op 0x13);
-      halt = eqb op 0x0A;
-      init = eqb op 0x05;
-      por = false;
-    }
-
-abbrev pub maySet : Call → Status
-maySet (transaction f o x) = bitsOfFrame (getD f 0 0)
-maySet tick = bitsOf true true true true
-maySet (flight u d) = bitsOf false true false true
-maySet (temperature w) = bitsOf false false true true
-maySet (stretch n) = bitsOf true true true true
-
--- every bit of the first is one of the second
-abbrev pub Under : Status → Status → Type 0
-Under s t = Kept ⊥ s t
 
 no-bit : (b : Bool) → _≡_ {A = Bool} false true → b ≡ true
 no-bit b e = let z : _≡_ {A = ℕ} 0 1 = cc in absurd (omega arith)

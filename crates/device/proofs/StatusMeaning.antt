@@ -18,10 +18,7 @@ use Rattle.device.specs.Model.{isSound}
 use Rattle.device.specs.Tick.{tickRings, tickStatus, tickModel}
 use Rattle.device.specs.Bus.{initialisedModel, haltedModel}
 use Rattle.device.specs.Question.{interruptPending}
-
--- 1 where the bit is set
-abbrev pub bit : Bool → ℕ
-bit b = pick b 1 0
+use Rattle.device.specs.Terms.{bit, Places, onlyBits}
 
 bit-below : (b : Bool) → bit b < 2
 bit-below true = omega arith
@@ -30,22 +27,6 @@ bit-below false = omega arith
 weighed : (b : Bool) (v : ℕ) → pick b v 0 ≡ v * bit b
 weighed true v = omega arith
 weighed false v = omega arith
-
--- every bit in its place, and no other
-pub record Places (s : Status) (w : ℕ) : Type 0 where
-  pub timeout : w / 32768 % 2 ≡ bit (s .timeout)
-  pub alarm : w / 16384 % 2 ≡ bit (s .alarm)
-  pub tof : w / 4096 % 2 ≡ bit (s .tof)
-  pub te : w / 2048 % 2 ≡ bit (s .te)
-  pub ldo : w / 1024 % 2 ≡ bit (s .ldo)
-  pub tofevtmg : w / 512 % 2 ≡ bit (s .tofevtmg)
-  pub tempevtmg : w / 256 % 2 ≡ bit (s .tempevtmg)
-  pub flash : w / 128 % 2 ≡ bit (s .flash)
-  pub halt : w / 32 % 2 ≡ bit (s .halt)
-  pub init : w / 8 % 2 ≡ bit (s .init)
-  pub por : w / 4 % 2 ≡ bit (s .por)
-  pub others :
-      (w / 8192 % 2 ≡ 0) × (w / 64 % 2 ≡ 0) × (w / 16 % 2 ≡ 0) × (w % 4 ≡ 0) × (w < 65536)
 
 status-sum :
     (s : Status) →
@@ -114,24 +95,6 @@ last-means k =
     (λ i f. rw (e, f) (holds i))
     (λ i f. rw (e, f) (fails false i)))
     (λ h e. rw e (fails false (λ x. omega arith)))
-
--- What settling one sets, each bit; where none is settled, no bit. "A single one sets TOF or TE when delivered or failed.";
--- "With CONT_INT .. each settled one sets TOF or TE"; "the measurement fails, .. TO is set".
-abbrev pub onlyBits : Bool → Bool → Bool → Bool → Bool → Status
-onlyBits timeout tof te tofevtmg tempevtmg =
-    record {
-      timeout = timeout;
-      alarm = false;
-      tof = tof;
-      te = te;
-      ldo = false;
-      tofevtmg = tofevtmg;
-      tempevtmg = tempevtmg;
-      flash = false;
-      halt = false;
-      init = false;
-      por = false;
-    }
 
 module _ (k : Schedule) (each failed : Bool) where
   pub flight-single : inEvent k ≡ false → flightBits k each true failed ≡ onlyBits failed true false (isLast k) false

@@ -7,7 +7,6 @@ use mathlib.Core.Logic.{_↔_, _⊎_, inl, inr, ⊎-elim}
 use mathlib.Core.Path.{_≡_, refl, sym}
 use Rattle.unit.specs.Choice.{pick, both, negate}
 use Rattle.unit.proofs.Cases.{by-test}
-use Rattle.hit.specs.Mean.{All}
 use Rattle.device.specs.declared.Model.{Model}
 use Rattle.device.specs.Model.{isSound}
 use Rattle.device.specs.Call.{Call, Row, accepted, refused, verdict, firstOf, table}
@@ -18,6 +17,7 @@ use Rattle.device.specs.Call.{transaction, tick, flight, temperature, st
 use Rattle.device.specs.Reply.{anyLate, portFault, acceptedAnswer, numberIn}
 use Rattle.frame.specs.Frame.{isCommand, isWrite, isFlash}
 use lib.ListN.{getD}
+use Rattle.device.specs.FirstDemand.{First, None}
 
 -- Whichever is picked, with what the test showed.
 pub picked : {A : Type 0} (P : A → Type 0) (t : Bool) {x y : A} → (t ≡ true → P x) → (t ≡ false → P y) → P (pick t x y)
@@ -40,13 +40,6 @@ unfolding table
 numbers m c = refl
 
 -- "the first whose condition holds is given"
-abbrev pub First : List Row → ℕ → Type 0
-First [] n = ⊥
-First (r ∷ rs) n = ((r .holds ≡ true) × (r .number ≡ n)) ⊎ ((r .holds ≡ false) × First rs n)
-
-abbrev pub None : List Row → Type 0
-None rs = All (λ (r : Row). r .holds ≡ false) rs
-
 pub refused-means : (rs : List Row) (n : ℕ) → (firstOf rs ≡ refused n) ↔ First rs n
 unfolding firstOf
 refused-means [] n = (λ e. let z : _≡_ {A = ℕ} 0 1 = cc in absurd (omega arith), absurd)

@@ -21,23 +21,9 @@ use Rattle.device.specs.declared.Model.{Model}
 use Rattle.device.specs.Model.{isSound}
 use Rattle.device.specs.Registers.{calendarWord, registerWord}
 use Rattle.device.specs.Write.{covers, written, setupAfter, ticksAfter, clockAfter, writeInvalid, writeModel}
+use Rattle.device.specs.Terms.{LeftOut, After, CalendarAfter}
 use Rattle.device.proofs.Sound.{bounds-of}
 use Rattle.device.proofs.RegisterMeaning.{setup-means}
-
--- The write of n words from register op on leaves register a out.
-abbrev pub LeftOut : ℕ → ℕ → ℕ → Type 0
-LeftOut op n a = (a < op) ⊎ (op + n ≤ a)
-
--- The word w of register a after the write: the frame's, or where the write leaves it out the one that it read before.
-pub record After (bytes : List ℕ) (op n : ℕ) (m : Model) (a w : ℕ) : Type 0 where
-  pub covered : op ≤ a → a < op + n → w ≡ wordAt bytes (a - op)
-  pub left-out : LeftOut op n a → w ≡ registerWord m (a + 0x80)
-
-pub record CalendarAfter (bytes : List ℕ) (op n : ℕ) (m : Model) (w30 w31 w32 w33 : ℕ) : Type 0 where
-  pub at30 : After bytes op n m 0x30 w30
-  pub at31 : After bytes op n m 0x31 w31
-  pub at32 : After bytes op n m 0x32 w32
-  pub at33 : After bytes op n m 0x33 w33
 
 not-both : {G : Type 0} (op n a : ℕ) → LeftOut op n a → op ≤ a → a < op + n → G
 not-both op n a o h k = absurd (⊎-elim (λ x. omega arith) (λ x. omega arith) o)

@@ -12,6 +12,8 @@ pub mod Bus
 pub mod FlashFrame
 pub mod Call
 pub mod Reply
+pub mod FirstDemand
+pub mod Terms
 pub mod Question
 pub mod Parts
 pub mod History
@@ -20,5 +22,7 @@ pub mod FlashRun
 pub mod Supply
 pub mod Form
 pub mod Initialised
+pub mod SetupTold
 pub mod Probes
+pub mod SecondDemand
 pub mod Bench

@@ -1,0 +1,39 @@
+-- The set-up, told from the calls and their answers: each register of 34h to 43h has the word last written to it since Reset.
+use Prim.Native.Nat.{ℕ, _-_}
+use mathlib.Core.List.{List, [], _∷_, map}
+use mathlib.Core.Path.{_≡_}
+use lib.ListN.{drop}
+use lib.Dec.{eqb}
+use Rattle.unit.specs.Choice.{pick}
+use Rattle.setup.specs.Setup.{factory, wordOf}
+use Rattle.frame.specs.Frame.{wordAt}
+use Rattle.device.specs.Model.{freshModel}
+use Rattle.device.specs.Registers.{upwards}
+use Rattle.device.specs.Write.{covers}
+use Rattle.device.specs.Call.{Call, transaction, tick, flight, temperature, stretch, opcode, words, bySort}
+use Rattle.device.specs.History.{Entry, isRefusal, after, log}
+
+-- The word of register a after an accepted call, by what it was: Reset gives "configuration at the factory values", a write that
+-- covers a its own word; "n ≥ 1 words follow, to consecutive registers"; "Reserved bits are kept as written".
+unfoldable pub wordGiven : ℕ → Call → ℕ → ℕ
+wordGiven a (transaction f o x) w =
+    bySort f (pick (eqb (opcode f) 4) (wordOf factory a) w)
+    (pick (covers (opcode f) (words f) a) (wordAt (drop 1 f) (a - opcode f)) w)
+    w w
+wordGiven a tick w = w
+wordGiven a (flight u d) w = w
+wordGiven a (temperature p) w = w
+wordGiven a (stretch n) w = w
+
+-- the word last written: a refused call writes nothing
+unfoldable pub lastWord : ℕ → List Entry → ℕ → ℕ
+lastWord a [] w = w
+lastWord a (e ∷ es) w = lastWord a es (pick (isRefusal (e .answer)) w (wordGiven a (e .call) w))
+
+-- 34h to 43h after a list of calls on a fresh model
+unfoldable pub setupTold : List Entry → List ℕ
+setupTold es = map (λ (a : ℕ). lastWord a es (wordOf factory a)) (upwards 0x34 16)
+
+-- On a model that grew from a fresh one by any list of calls, refused ones among them, the set-up is the one told.
+abbrev pub SetupClaim : Type 0
+SetupClaim = (cs : List Call) → (after freshModel cs) .setup ≡ setupTold (log freshModel cs)

@@ -4,7 +4,10 @@ pub mod FirstDemand
 pub mod TickCases
 pub mod Sound
 pub mod Decode
-pub mod Facts
+pub mod Awaited
+pub mod StatusRead
+pub mod WriteTogether
+pub mod Replies
 pub mod Meaning
 pub mod StatusMeaning
 pub mod RegisterMeaning
@@ -12,6 +15,7 @@ pub mod WriteMeaning
 pub mod DeliveryMeaning
 pub mod CommandMeaning
 pub mod CallMeaning
+pub mod AnswerMeaning
 pub mod StartMeaning
 pub mod Witness
 pub mod Bench

@@ -86,8 +86,7 @@ replyBy (refused n) m c = refuse n m
 unfoldable pub reply : Model → Call → Reply
 reply m c = replyBy (verdict m c) m c
 
--- What each answer says in 01's terms: its number where it is a refusal, the kinds started by a transaction, what a tick
--- reports, good or failed.
+-- What each answer says in 01's terms: its number where it is a refusal,
 unfoldable pub numberIn : Answer → List ℕ
 numberIn (Refused n) = n ∷ []
 numberIn (Accepted f t) = []
@@ -95,6 +94,20 @@ numberIn (Ticked f t) = []
 numberIn (Stretched f t) = []
 numberIn Good = []
 numberIn Failed = []
+
+-- and else its values, 1 for yes and 0 for no: of a transaction whether it started a flight and a temperature measurement, of a tick
+-- whether a flight one started, one failed, a temperature one started, one failed in it, of a stretch the ticks in which they did,
+-- of a delivery whether it is good.
+abbrev pub flag : Bool → ℕ
+flag b = pick b 1 0
+
+unfoldable pub valuesIn : Answer → List ℕ
+valuesIn (Refused n) = []
+valuesIn (Accepted f t) = flag f ∷ flag t ∷ []
+valuesIn (Ticked f t) = flag (f .started) ∷ flag (f .failed) ∷ flag (t .started) ∷ flag (t .failed) ∷ []
+valuesIn (Stretched f t) = f .started ∷ f .failed ∷ t .started ∷ t .failed ∷ []
+valuesIn Good = 1 ∷ []
+valuesIn Failed = 0 ∷ []
 
 unfoldable pub bufferOf : Call → List ℕ
 bufferOf (transaction f o x) = o

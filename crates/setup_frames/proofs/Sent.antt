@@ -23,7 +23,7 @@ use Rattle.device.specs.Reply.{reply}
 use Rattle.device.specs.Parts.{writeReply}
 use Rattle.device.specs.History.{after}
 use Rattle.device.proofs.Sound.{fresh-sound, keeps-sound}
-use Rattle.device.proofs.Facts.{judged-by-alarm}
+use Rattle.device.proofs.WriteTogether.{judged-by-alarm}
 use Rattle.device.proofs.Decode.{reply-write}
 use Rattle.setup_frames.specs.Frames.{differs, differsBefore, starts, runLength, bytesOf, frameAt, framesFrom, frames}
 use Rattle.setup_frames.specs.Sending.{sent, setupFrom, Words}

@@ -1,7 +1,7 @@
 -- `converter::flight_delivery` meets its contract.
 use Rattle.device.proofs.Sound.{fits-ready}
 use denote.Ref.{now}
-use Rattle.device.proofs.Facts.{reply-flight}
+use Rattle.device.proofs.Replies.{reply-flight}
 use Rattle.device.specs.Call.{flight}
 use Rattle.device.proofs.Decode.{reply-unsound}
 use Rattle.device.specs.Model.{isSound}

@@ -1,5 +1,5 @@
 -- `converter::quiet_reply` meets its contract.
-use Rattle.device.proofs.Facts.{reply-tick}
+use Rattle.device.proofs.Replies.{reply-tick}
 use Rattle.device.proofs.Quiet.{quiet-flight, quiet-temperature}
 use borrow.Author.Needs.{needs}
 use Rattle.converter.proofs.quiet_reply.Statement.{statement}

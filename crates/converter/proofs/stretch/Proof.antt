@@ -1,6 +1,6 @@
 -- `converter::stretch` meets its contract.
 use borrow.Author.Tests.{lt-ltb, le-ltb}
-use Rattle.device.proofs.Facts.{reply-stretch}
+use Rattle.device.proofs.Replies.{reply-stretch}
 use Rattle.device.specs.Call.{stretch}
 use Rattle.device.proofs.Decode.{reply-unsound}
 use Rattle.device.specs.Model.{isSound}

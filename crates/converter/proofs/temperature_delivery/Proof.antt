@@ -1,7 +1,7 @@
 -- `converter::temperature_delivery` meets its contract.
 use borrow.Author.Tests.{eq-eqb, ne-eqb}
 use denote.Ref.{now}
-use Rattle.device.proofs.Facts.{reply-temperature}
+use Rattle.device.proofs.Replies.{reply-temperature}
 use Rattle.device.specs.Call.{temperature}
 use Rattle.device.proofs.Decode.{reply-unsound}
 use Rattle.device.specs.Model.{isSound}

@@ -1,5 +1,5 @@
 -- `converter::tick_reply` meets its contract.
-use Rattle.device.proofs.Facts.{reply-tick}
+use Rattle.device.proofs.Replies.{reply-tick}
 use borrow.Author.Needs.{needs}
 use Rattle.converter.proofs.tick_reply.Statement.{statement}
 use Rattle.converter.proofs.tick_reply.Tie as tie

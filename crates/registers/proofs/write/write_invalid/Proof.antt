@@ -1,7 +1,7 @@
 -- `registers::write::write_invalid` meets its contract.
 use mathlib.Core.Path.{sym, _∙_}
 use Rattle.device.specs.Write.{writeInvalid}
-use Rattle.device.proofs.Facts.{judged-by-alarm}
+use Rattle.device.proofs.WriteTogether.{judged-by-alarm}
 use borrow.Author.Needs.{needs}
 use Rattle.registers.proofs.write.write_invalid.Statement.{statement}
 use Rattle.registers.proofs.write.write_invalid.Tie as tie

@@ -1,7 +1,7 @@
 -- `registers::write::write_model` meets its contract.
 use native.Mathlib.Omega.{arith}
 use Rattle.device.specs.Write.{writeModel}
-use Rattle.device.proofs.Facts.{keeps-clock}
+use Rattle.device.proofs.WriteTogether.{keeps-clock}
 use borrow.Author.Needs.{needs}
 use Rattle.registers.proofs.write.write_model.Statement.{statement}
 use Rattle.registers.proofs.write.write_model.Tie as tie

@@ -6,6 +6,17 @@ ghost use Rattle.device.specs.Bus.{mustBeIdle, startsFlight, startsTemperature,
 use device::Flight;
 use device::Model;
 use device::Temperature;
+use frame::opcode::EVTMG1;
+use frame::opcode::EVTMG2;
+use frame::opcode::EVTMG3;
+use frame::opcode::HALT;
+use frame::opcode::INITIALIZE;
+use frame::opcode::LDO_OFF;
+use frame::opcode::LDO_ON;
+use frame::opcode::RESET;
+use frame::opcode::TEMPERATURE;
+use frame::opcode::TOF_DOWN;
+use frame::opcode::TOF_UP;
 use model::state::fresh_with;
 use model::state::is_busy;
 use schedule::halt_schedule;
@@ -21,43 +32,43 @@ use status::without_ldo;
 fn must_be_idle(op: u32) -> bool
     ensures { λ r. ⌜ r ≡ mustBeIdle op ⌝ }
 {
-    if op == 4 {
+    if op == RESET {
         return false;
     }
-    if op == 10 { false } else { true }
+    if op == HALT { false } else { true }
 }
 
 pub fn starts_flight(op: u32) -> bool
     ensures { λ r. ⌜ r ≡ startsFlight op ⌝ }
 {
-    if op < 3 {
+    if op < TEMPERATURE {
         return true;
     }
-    if op == 7 {
+    if op == EVTMG1 {
         return true;
     }
-    if op == 8 { true } else { false }
+    if op == EVTMG2 { true } else { false }
 }
 
 pub fn starts_temperature(op: u32) -> bool
     ensures { λ r. ⌜ r ≡ startsTemperature op ⌝ }
 {
-    if op == 3 {
+    if op == TEMPERATURE {
         return true;
     }
-    if op == 7 {
+    if op == EVTMG1 {
         return true;
     }
-    if op == 9 { true } else { false }
+    if op == EVTMG3 { true } else { false }
 }
 
 fn is_event(op: u32) -> bool
     ensures { λ r. ⌜ r ≡ isEvent op ⌝ }
 {
-    if op < 7 {
+    if op < EVTMG1 {
         return false;
     }
-    if 9 < op { false } else { true }
+    if EVTMG3 < op { false } else { true }
 }
 
 pub fn command_busy(m: Model, op: u32) -> bool
@@ -129,8 +140,8 @@ fn flight_started(f: Flight, op: u32) -> Flight
 {
     let k = f.schedule;
     let schedule = start_single(k);
-    let up = differs(op, 1);
-    let down = differs(op, 0);
+    let up = differs(op, TOF_DOWN);
+    let down = differs(op, TOF_UP);
     let mut n = f;
     n.schedule = schedule;
     n.up = up;
@@ -232,7 +243,7 @@ fn single_started(m: Model, op: u32) -> Model
     ensures { λ r. ⌜ r ≡ singleStarted m op ⌝ }
 {
     let mut next = m;
-    if op == 3 {
+    if op == TEMPERATURE {
         let mut temperature = m.temperature;
         let k = start_single(temperature.schedule);
         temperature.schedule = k;
@@ -272,19 +283,19 @@ fn unsupplied(m: Model) -> Model
 pub fn run_model(m: Model, op: u32) -> Model
     ensures { λ r. ⌜ r ≡ runModel m op ⌝ }
 {
-    if op == 4 {
+    if op == RESET {
         return fresh_with(no_bits());
     }
-    if op == 5 {
+    if op == INITIALIZE {
         return initialised_model(m);
     }
-    if op == 10 {
+    if op == HALT {
         return halted_model(m);
     }
-    if op == 12 {
+    if op == LDO_ON {
         return supplied(m);
     }
-    if op == 13 {
+    if op == LDO_OFF {
         return unsupplied(m);
     }
     if is_event(op) {

@@ -24,6 +24,15 @@ use device::Reply;
 use device::Report;
 use flash_access::flash_reply;
 use frame::Decoded;
+use model::refusal::BUSY;
+use model::refusal::CALENDAR;
+use model::refusal::NO_FRAME;
+use model::refusal::NOT_AWAITED;
+use model::refusal::NOT_INITIALISED;
+use model::refusal::NOT_SOUND;
+use model::refusal::SET_UP;
+use model::refusal::SPAN;
+use model::refusal::WORD_COUNT;
 use model::reply::accept;
 use model::reply::refuse;
 use model::state::fresh_with;
@@ -40,6 +49,7 @@ use registers::write::write_invalid;
 use registers::write::write_model;
 use schedule::is_awaited;
 use status::por_bit;
+use ticking::stretch::LONGEST;
 use ticking::stretch::next_is_quiet;
 use ticking::stretch::quiet_tick;
 use ticking::tick::report_of;
@@ -55,13 +65,13 @@ fn command_reply(m: Model, op: u32) -> Reply
     ensures { λ r. ⌜ r ≡ commandReply m op ⌝ }
 {
     if command_busy(m, op) {
-        return refuse(m, 6);
+        return refuse(m, BUSY);
     }
     if before_initialize(m, op) {
-        return refuse(m, 8);
+        return refuse(m, NOT_INITIALISED);
     }
     if command_unset(m, op) {
-        return refuse(m, 9);
+        return refuse(m, SET_UP);
     }
     accept(run_model(m, op), starts_flight(op), starts_temperature(op))
 }
@@ -71,10 +81,10 @@ fn write_reply(m: Model, words: &[u8], op: u32, n: usize) -> Reply
     ensures { λ r. ⌜ r ≡ writeReply m (now (words .entry)) op n ⌝ }
 {
     if is_busy(m) {
-        return refuse(m, 6);
+        return refuse(m, BUSY);
     }
     if write_invalid(m, words, op, n) {
-        return refuse(m, 7);
+        return refuse(m, CALENDAR);
     }
     accept(write_model(m, words, op, n), false, false)
 }
@@ -128,7 +138,7 @@ pub fn transaction(m: Model, frame: &[u8], out: &mut [u8], mem: &mut [u8]) -> Re
 {
     if is_sound(m) {
         if frame.len() == 0 {
-            return refuse(m, 1);
+            return refuse(m, NO_FRAME);
         }
         let d = frame::decode_frame(frame, out.len());
         let Decoded::Command(op) = d else {
@@ -136,7 +146,7 @@ pub fn transaction(m: Model, frame: &[u8], out: &mut [u8], mem: &mut [u8]) -> Re
         };
         return command_reply(m, op);
     }
-    refuse(m, 0)
+    refuse(m, NOT_SOUND)
 }
 
 // One period of the 32,768 Hz clock.
@@ -149,7 +159,7 @@ pub fn tick(m: Model) -> Reply
         }
         return tick_reply(m);
     }
-    refuse(m, 0)
+    refuse(m, NOT_SOUND)
 }
 
 // Nothing happens in it.
@@ -186,8 +196,8 @@ pub fn stretch(m: Model, n: u32) -> Reply
     ensures { λ r. ⌜ r ≡ reply m (Call.stretch n) ⌝ }
 {
     if is_sound(m) {
-        if 16384 < n {
-            return refuse(m, 12);
+        if LONGEST < n {
+            return refuse(m, SPAN);
         }
         let end = ticking::stretch::run(m, n);
         let flight = end.flight;
@@ -198,7 +208,7 @@ pub fn stretch(m: Model, n: u32) -> Reply
             model,
         };
     }
-    refuse(m, 0)
+    refuse(m, NOT_SOUND)
 }
 
 // The hit words of an awaited flight measurement: the up list and the down list.
@@ -212,13 +222,13 @@ pub fn flight_delivery(m: Model, up: &[u32], down: &[u32]) -> Reply
         if is_awaited(k) {
             let hits = setup::hit_count(setup);
             if flight_miscounted(f, hits, up.len(), down.len()) {
-                return refuse(m, 11);
+                return refuse(m, WORD_COUNT);
             }
             return flight_reply(m, up, down);
         }
-        return refuse(m, 10);
+        return refuse(m, NOT_AWAITED);
     }
-    refuse(m, 0)
+    refuse(m, NOT_SOUND)
 }
 
 // The words of an awaited temperature measurement, T1 to T4.
@@ -232,9 +242,9 @@ pub fn temperature_delivery(m: Model, words: &[u32]) -> Reply
             if words.len() == 4 {
                 return temperature_reply(m, words);
             }
-            return refuse(m, 11);
+            return refuse(m, WORD_COUNT);
         }
-        return refuse(m, 10);
+        return refuse(m, NOT_AWAITED);
     }
-    refuse(m, 0)
+    refuse(m, NOT_SOUND)
 }

@@ -9,64 +9,56 @@ use Rattle.device.specs.declared.Schedule.{Schedule}
 abbrev pub ticks : ℕ → Ticks
 ticks n = record { 0 = n }
 
--- Setters: a schedule with one count anew.
-abbrev pub withLeft : Schedule → ℕ → Schedule
-withLeft k n =
+-- A schedule by its parts: left, wait, period, planned, started, settled, continuous, good.
+abbrev pub scheduleOf : Ticks → Ticks → Ticks → ℕ → ℕ → ℕ → Bool → ℕ → Schedule
+scheduleOf left wait period planned started settled continuous good =
     record {
-      left = ticks n;
-      wait = k .wait;
-      period = k .period;
-      planned = k .planned;
-      started = k .started;
-      settled = k .settled;
-      continuous = k .continuous;
-      good = k .good;
-    }
-
-abbrev pub withSettled : Schedule → ℕ → ℕ → Schedule
-withSettled k settled good =
-    record {
-      left = k .left;
-      wait = k .wait;
-      period = k .period;
-      planned = k .planned;
-      started = k .started;
+      left = left;
+      wait = wait;
+      period = period;
+      planned = planned;
+      started = started;
       settled = settled;
-      continuous = k .continuous;
+      continuous = continuous;
       good = good;
     }
 
+-- Setters: a schedule with other ticks left, or with other counts of settled and good ones.
+abbrev pub withLeft : Schedule → ℕ → Schedule
+withLeft k n =
+    scheduleOf (ticks n) (k .wait) (k .period) (k .planned) (k .started) (k .settled) (k .continuous) (k .good)
+
+abbrev pub withSettled : Schedule → ℕ → ℕ → Schedule
+withSettled k settled good =
+    scheduleOf (k .left) (k .wait) (k .period) (k .planned) (k .started) settled (k .continuous) good
+
 unfoldable pub noSchedule : Schedule
-noSchedule =
-    record {
-      left = ticks 0;
-      wait = ticks 0;
-      period = ticks 0;
-      planned = 0;
-      started = 0;
-      settled = 0;
-      continuous = false;
-      good = 0;
-    }
+noSchedule = scheduleOf (ticks 0) (ticks 0) (ticks 0) 0 0 0 false 0
 
 -- "A kind is awaited from its start until an accepted delivery, the tick that fails it, HALT or Reset."
 unfoldable pub isAwaited : Schedule → Bool
 isAwaited k = ltb 0 (k .left .0)
 
+-- one of the event, or of the current group of a continuous one, is still to settle, and still to start
+abbrev pub toSettle : Schedule → Bool
+toSettle k = ltb (k .settled) (k .planned)
+
+abbrev pub toStart : Schedule → Bool
+toStart k = ltb (k .started) (k .planned)
+
 -- "The event ends when all are settled." A continuous one "ends only by HALT or Reset" (Note 5).
 unfoldable pub inEvent : Schedule → Bool
-inEvent k = either (k .continuous) (ltb (k .settled) (k .planned))
+inEvent k = either (k .continuous) (toSettle k)
 
 -- "Settling the N-th sets TOF_EVTMG or TEMP_EVTMG.", of a continuous event the N-th of each group: "its N-th settling sets the
 -- EVTMG bit" (Note 5)
 unfoldable pub isLast : Schedule → Bool
-isLast k =
-    both (ltb (k .settled) (k .planned)) (eqb (k .settled + 1) (k .planned))
+isLast k = both (toSettle k) (eqb (k .settled + 1) (k .planned))
 
 -- Whether a start is to come: of an event while fewer than N are started; of a continuous one always, "Starts go on at j × P for
 -- every j." (Note 5)
 unfoldable pub startsLeft : Schedule → Bool
-startsLeft k = either (k .continuous) (ltb (k .started) (k .planned))
+startsLeft k = either (k .continuous) (toStart k)
 
 -- A tick starts a measurement where a start is to come and the wait for it ends.
 unfoldable pub begins : Schedule → Bool
@@ -74,7 +66,7 @@ begins k = both (startsLeft k) (leb (k .wait .0) 1)
 
 -- Whether the measurement that a tick starts is the first of a group: "Each N starts of a kind make a group" (Note 5).
 unfoldable pub beginsGroup : Schedule → Bool
-beginsGroup k = both (begins k) (negate (ltb (k .started) (k .planned)))
+beginsGroup k = both (begins k) (negate (toStart k))
 
 -- "A measurement undelivered 8,192 ticks after its start fails in that tick"
 unfoldable pub fails : Schedule → Bool
@@ -86,17 +78,7 @@ startSingle k = withLeft k 8192
 
 -- "Elapsed ticks count from acceptance at 0." "The start at 0 is reported by the command's answer"
 unfoldable pub startEvent : Ticks → ℕ → Bool → Schedule
-startEvent period planned continuous =
-    record {
-      left = ticks 8192;
-      wait = period;
-      period = period;
-      planned = planned;
-      started = 1;
-      settled = 0;
-      continuous = continuous;
-      good = 0;
-    }
+startEvent period planned continuous = scheduleOf (ticks 8192) period period planned 1 0 continuous 0
 
 unfoldable pub leftAfter : Schedule → ℕ
 leftAfter k = pick (begins k) 8192 (pick (ltb 0 (k .left .0)) (k .left .0 - 1) 0)
@@ -107,13 +89,13 @@ waitAfter k = pick (leb (k .wait .0) 1) (k .period .0) (k .wait .0 - 1)
 
 -- A start is one more of the event or of the group, or the first of the next group.
 unfoldable pub startedAfter : Schedule → ℕ
-startedAfter k = pick (begins k) (pick (ltb (k .started) (k .planned)) (k .started + 1) 1) (k .started)
+startedAfter k = pick (begins k) (pick (toStart k) (k .started + 1) 1) (k .started)
 
 -- Of a new group none is settled.
 unfoldable pub settledAfter : Schedule → ℕ
 settledAfter k =
     pick (beginsGroup k) 0
-    (pick (fails k) (pick (ltb (k .settled) (k .planned)) (k .settled + 1) (k .settled)) (k .settled))
+    (pick (fails k) (pick (toSettle k) (k .settled + 1) (k .settled)) (k .settled))
 
 -- "at the first start of a group that kind's sums, count and averages go to 0" (Note 5)
 unfoldable pub goodAfter : Schedule → ℕ
@@ -121,38 +103,22 @@ goodAfter k = pick (beginsGroup k) 0 (k .good)
 
 unfoldable pub tickSchedule : Schedule → Schedule
 tickSchedule k =
-    record {
-      left = ticks (leftAfter k);
-      wait = ticks (waitAfter k);
-      period = k .period;
-      planned = k .planned;
-      started = startedAfter k;
-      settled = settledAfter k;
-      continuous = k .continuous;
-      good = goodAfter k;
-    }
+    scheduleOf (ticks (leftAfter k)) (ticks (waitAfter k)) (k .period) (k .planned) (startedAfter k) (settledAfter k)
+    (k .continuous)
+    (goodAfter k)
 
 -- "A good measurement of an event adds one to its count, a single one none"; "A measurement is settled when it is good or
 -- failed."
 unfoldable pub settle : Schedule → Bool → Schedule
 settle k good =
-    pick (ltb (k .settled) (k .planned))
+    pick (toSettle k)
     (withSettled (withLeft k 0) (k .settled + 1) (pick good (k .good + 1) (k .good)))
     (withLeft k 0)
 
 -- "HALT drops awaited measurements, ends the event": what was to start or to settle no longer is.
 unfoldable pub haltSchedule : Schedule → Schedule
 haltSchedule k =
-    record {
-      left = ticks 0;
-      wait = k .wait;
-      period = k .period;
-      planned = k .settled;
-      started = k .settled;
-      settled = k .settled;
-      continuous = false;
-      good = k .good;
-    }
+    scheduleOf (ticks 0) (k .wait) (k .period) (k .settled) (k .settled) (k .settled) false (k .good)
 
 -- Part of soundness: what the schedules are that the calls make. The counts are in order, and at most 32, the largest N.
 unfoldable pub countsSound : Schedule → Bool

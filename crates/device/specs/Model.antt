@@ -16,95 +16,51 @@ use Rattle.device.specs.declared.Model.{Model}
 use Rattle.device.specs.Event.{noSchedule, scheduleSound, isAwaited, inEvent}
 use Rattle.device.specs.Status.{porBit, noBits}
 
--- Setters: a model, and the measurements of a kind, with one part anew.
+-- Setters: a model with one part anew, and the measurements of a kind with another schedule.
+abbrev pub modelOf : Clock → List ℕ → Status → Bool → Bool → Flight → Temperature → Model
+modelOf clock setup status initialised regulator flight temperature =
+    record {
+      clock = clock;
+      setup = setup;
+      status = status;
+      initialised = initialised;
+      regulator = regulator;
+      flight = flight;
+      temperature = temperature;
+    }
+
 abbrev pub withClock : Model → Clock → Model
 withClock m x =
-    record {
-      clock = x;
-      setup = m .setup;
-      status = m .status;
-      initialised = m .initialised;
-      regulator = m .regulator;
-      flight = m .flight;
-      temperature = m .temperature;
-    }
+    modelOf x (m .setup) (m .status) (m .initialised) (m .regulator) (m .flight) (m .temperature)
 
 abbrev pub withSetup : Model → List ℕ → Model
 withSetup m x =
-    record {
-      clock = m .clock;
-      setup = x;
-      status = m .status;
-      initialised = m .initialised;
-      regulator = m .regulator;
-      flight = m .flight;
-      temperature = m .temperature;
-    }
+    modelOf (m .clock) x (m .status) (m .initialised) (m .regulator) (m .flight) (m .temperature)
 
 abbrev pub withStatus : Model → Status → Model
 withStatus m x =
-    record {
-      clock = m .clock;
-      setup = m .setup;
-      status = x;
-      initialised = m .initialised;
-      regulator = m .regulator;
-      flight = m .flight;
-      temperature = m .temperature;
-    }
+    modelOf (m .clock) (m .setup) x (m .initialised) (m .regulator) (m .flight) (m .temperature)
 
 abbrev pub withInitialised : Model → Bool → Model
 withInitialised m x =
-    record {
-      clock = m .clock;
-      setup = m .setup;
-      status = m .status;
-      initialised = x;
-      regulator = m .regulator;
-      flight = m .flight;
-      temperature = m .temperature;
-    }
+    modelOf (m .clock) (m .setup) (m .status) x (m .regulator) (m .flight) (m .temperature)
 
 abbrev pub withRegulator : Model → Bool → Model
 withRegulator m x =
-    record {
-      clock = m .clock;
-      setup = m .setup;
-      status = m .status;
-      initialised = m .initialised;
-      regulator = x;
-      flight = m .flight;
-      temperature = m .temperature;
-    }
+    modelOf (m .clock) (m .setup) (m .status) (m .initialised) x (m .flight) (m .temperature)
 
 abbrev pub withFlight : Model → Flight → Model
 withFlight m x =
-    record {
-      clock = m .clock;
-      setup = m .setup;
-      status = m .status;
-      initialised = m .initialised;
-      regulator = m .regulator;
-      flight = x;
-      temperature = m .temperature;
-    }
+    modelOf (m .clock) (m .setup) (m .status) (m .initialised) (m .regulator) x (m .temperature)
 
 abbrev pub withTemperature : Model → Temperature → Model
 withTemperature m x =
-    record {
-      clock = m .clock;
-      setup = m .setup;
-      status = m .status;
-      initialised = m .initialised;
-      regulator = m .regulator;
-      flight = m .flight;
-      temperature = x;
-    }
+    modelOf (m .clock) (m .setup) (m .status) (m .initialised) (m .regulator) (m .flight) x
 
 abbrev pub flightWith : Flight → Schedule → Flight
-flightWith f x =
+flightWith f k =
     record {
-      schedule = x;
+      schedule = k;
       up = f .up;
       down = f .down;
       sum = f .sum;
@@ -114,12 +70,7 @@ flightWith f x =
     }
 
 abbrev pub temperatureWith : Temperature → Schedule → Temperature
-temperatureWith t x =
-    record {
-      schedule = x;
-      sums = t .sums;
-      ports = t .ports;
-    }
+temperatureWith t k = record { schedule = k; sums = t .sums; ports = t .ports }
 
 -- "results 0"
 unfoldable pub noFlight : Flight
@@ -141,16 +92,7 @@ noTemperature =
 -- "Fresh: not initialised; configuration at the factory values ..; results 0; alarm 0; clock 2000-01-01 00:00:00.00,
 -- weekday 1"; "A fresh model and Reset have the regulator off." (Note 8)
 unfoldable pub freshWith : Status → Model
-freshWith s =
-    record {
-      clock = start;
-      setup = factory;
-      status = s;
-      initialised = false;
-      regulator = false;
-      flight = noFlight;
-      temperature = noTemperature;
-    }
+freshWith s = modelOf start factory s false false noFlight noTemperature
 
 -- "status 0004h (POR)"
 unfoldable pub freshModel : Model

@@ -2,7 +2,6 @@
 use Prim.Native.Nat.{ℕ, _+_}
 use mathlib.Core.Bool.{true}
 use mathlib.Core.List.{List}
-use lib.Dec.{ltb}
 use Rattle.unit.specs.Choice.{pick}
 use Rattle.unit.specs.declared.Quanta.{Quanta}
 use Rattle.hit.specs.Words.{average, filled, failedPairs, plusEach}
@@ -10,7 +9,7 @@ use Rattle.hit.specs.Difference.{differenceWord, biased}
 use Rattle.device.specs.declared.Schedule.{Schedule}
 use Rattle.device.specs.declared.Flight.{Flight}
 use Rattle.device.specs.declared.Temperature.{Temperature}
-use Rattle.device.specs.Event.{settle}
+use Rattle.device.specs.Event.{toSettle, settle}
 
 -- "for a difference TOF_DIFF = AVGUP − AVGDN"
 unfoldable pub goodDifference : Flight → Quanta → Quanta → ℕ
@@ -19,7 +18,7 @@ goodDifference f up down =
 
 -- "the averages become the sums of the good differences .. ÷ count"; of an event alone
 unfoldable pub goodSum : Flight → Quanta → Quanta → ℕ
-goodSum f up down = pick (ltb (f .schedule .settled) (f .schedule .planned)) (f .sum + biased up down) (f .sum)
+goodSum f up down = pick (toSettle (f .schedule)) (f .sum + biased up down) (f .sum)
 
 -- "No word late: HIT pairs 1 to H hold the words, later HIT pairs 0, AVG the sum ÷ H rounded down"
 unfoldable pub goodFlight : Flight → ℕ → List ℕ → List ℕ → Flight
@@ -35,7 +34,7 @@ goodFlight f hits ups downs =
     }
 
 unfoldable pub goodSums : Temperature → List ℕ → List ℕ
-goodSums t w = pick (ltb (t .schedule .settled) (t .schedule .planned)) (plusEach (t .sums) w) (t .sums)
+goodSums t w = pick (toSettle (t .schedule)) (plusEach (t .sums) w) (t .sums)
 
 -- "the measurement fails, every HIT and AVG of the measured directions and, for a difference, TOF_DIFF become FFFFh"
 unfoldable pub failedDifference : Flight → ℕ

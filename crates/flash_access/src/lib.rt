@@ -14,6 +14,10 @@ use flash::not_erased;
 use flash::put_word;
 use flash::read_word;
 use flash::write_word;
+use model::refusal::BUSY;
+use model::refusal::FLASH_ADDRESS;
+use model::refusal::NOT_ERASED;
+use model::refusal::SUPPLY_OFF;
 use model::reply::accept;
 use model::reply::refuse;
 use model::state::is_busy;
@@ -38,7 +42,7 @@ fn erase(m: Model, b: &[u8], mem: &mut [u8]) -> Reply
 {
     let a = frame::word_at(b, 0);
     if erase_refused(mem.len(), a) {
-        return refuse(m, 16);
+        return refuse(m, FLASH_ADDRESS);
     }
     erase_block(mem, a as usize);
     accept(changed(m), false, false)
@@ -50,10 +54,10 @@ fn program(m: Model, b: &[u8], mem: &mut [u8]) -> Reply
 {
     let a = frame::word_at(b, 0);
     if address_refused(mem.len(), a) {
-        return refuse(m, 16);
+        return refuse(m, FLASH_ADDRESS);
     }
     if not_erased(mem, a as usize) {
-        return refuse(m, 17);
+        return refuse(m, NOT_ERASED);
     }
     let w = frame::word_at(b, 1);
     write_word(mem, a as usize, w);
@@ -66,7 +70,7 @@ fn load(m: Model, b: &[u8], out: &mut [u8], mem: &[u8]) -> Reply
 {
     let a = frame::word_at(b, 0);
     if address_refused(mem.len(), a) {
-        return refuse(m, 16);
+        return refuse(m, FLASH_ADDRESS);
     }
     let w = read_word(mem, a as usize);
     put_word(out, w);
@@ -79,7 +83,7 @@ pub fn flash_reply(m: Model, op: u32, b: &[u8], out: &mut [u8], mem: &mut [u8]) 
     ensures { λ r. ⌜ (r ≡ flashReply m op (now (b .entry)) (now (mem .entry))) × (now (out .exit) ≡ flashOut m op (now (b .entry)) (now (out .entry)) (now (mem .entry))) × (now (mem .exit) ≡ flashLeft m op (now (b .entry)) (now (mem .entry))) ⌝ }
 {
     if is_busy(m) {
-        return refuse(m, 6);
+        return refuse(m, BUSY);
     }
     if m.regulator {
         if op == 0x13 {
@@ -90,5 +94,5 @@ pub fn flash_reply(m: Model, op: u32, b: &[u8], out: &mut [u8], mem: &mut [u8]) 
         }
         return load(m, b, out, mem);
     }
-    refuse(m, 15)
+    refuse(m, SUPPLY_OFF)
 }

@@ -5,6 +5,8 @@ ghost use lib.ListN.{length};
 ghost use Rattle.frame.specs.Frame.{isCommand, isWrite, isRead, isFlash, flashFurther, notWhole, pastEnd, wordAt};
 ghost use Rattle.frame.specs.Decoding.{writeFrame, readFrame, flashFrame, decodeFrame};
 
+pub mod opcode;
+
 // What the bytes ask for. A read or a write names its first register, as in the opcode, and how many words follow;
 // a frame of the user flash has its opcode. A refusal holds its number.
 pub enum Decoded {

@@ -21,6 +21,11 @@ pub fn no_schedule() -> Schedule
     }
 }
 
+// The ticks after its start in which a measurement fails, and the shortest period of an event.
+const UNTIL_FAILURE: u32 = 8192;
+
+const SHORTEST_PERIOD: u32 = 16384;
+
 fn counts_sound(k: Schedule) -> bool
     ensures { λ r. ⌜ r ≡ countsSound k ⌝ }
 {
@@ -46,18 +51,18 @@ fn wait_sound(k: Schedule) -> bool
     let left = k.left;
     let wait = k.wait;
     let period = k.period;
-    if 8192 < left.0 {
+    if UNTIL_FAILURE < left.0 {
         return false;
     }
     if starts_left(k) {
-        if period.0 < 16384 {
+        if period.0 < SHORTEST_PERIOD {
             return false;
         }
         if period.0 < wait.0 {
             return false;
         }
         if 0 < left.0 {
-            if wait.0 < left.0 + 8192 {
+            if wait.0 < left.0 + UNTIL_FAILURE {
                 return false;
             }
             return true;
@@ -190,7 +195,7 @@ pub fn start_single(k: Schedule) -> Schedule
     ensures { λ r. ⌜ r ≡ startSingle k ⌝ }
 {
     let mut n = k;
-    let left = Ticks(8192);
+    let left = Ticks(UNTIL_FAILURE);
     n.left = left;
     n
 }
@@ -200,7 +205,7 @@ pub fn start_event(period: Ticks, planned: u8, continuous: bool) -> Schedule
     ensures { λ r. ⌜ r ≡ startEvent period planned continuous ⌝ }
 {
     Schedule {
-        left: Ticks(8192),
+        left: Ticks(UNTIL_FAILURE),
         wait: period,
         period,
         planned,
@@ -216,7 +221,7 @@ fn left_after(k: Schedule) -> u32
 {
     let left = k.left;
     if begins(k) {
-        return 8192;
+        return UNTIL_FAILURE;
     }
     if 0 < left.0 { left.0 - 1 } else { 0 }
 }

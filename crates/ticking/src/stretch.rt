@@ -15,6 +15,9 @@ use schedule::begins;
 use schedule::fails;
 use unit::Ticks;
 
+// The most ticks that a stretch has.
+pub const LONGEST: u32 = 16384;
+
 fn least(a: u32, b: u32) -> u32
     ensures { λ r. ⌜ r ≡ Stretch·least a b ⌝ }
 {
@@ -32,7 +35,7 @@ fn quiet_left(k: Schedule) -> u32
     ensures { λ r. ⌜ r ≡ quietLeft k ⌝ }
 {
     let left = k.left;
-    if left.0 == 0 { 16384 } else { left.0 - 1 }
+    if left.0 == 0 { LONGEST } else { left.0 - 1 }
 }
 
 fn quiet_wait(k: Schedule) -> u32
@@ -45,7 +48,7 @@ fn quiet_wait(k: Schedule) -> u32
             return 0;
         }
         if wait.0 == period.0 {
-            return 16384;
+            return LONGEST;
         }
         return 0;
     }
@@ -58,7 +61,7 @@ fn quiet_clock(m: Model) -> u32
     let clock = m.clock;
     let setup = m.setup;
     if setup::clock_stands(setup) {
-        return 16384;
+        return LONGEST;
     }
     let t = clock.ticks;
     less(32767, t.0)

@@ -7,7 +7,7 @@ use borrow.Author.Tests.{eq-eqb}
 use Rattle.calendar.specs.declared.Clock.{Clock}
 use Rattle.calendar.specs.Words.{minuteIn, hourIn}
 use Rattle.calendar.specs.Alarm.{reaches, alarmRings}
-use Rattle.calendar.proofs.Laws.{by-eqb}
+use Rattle.unit.proofs.Cases.{by-eqb}
 use Rattle.calendar.proofs.Facts.{minutes-ring, hours-ring, both-ring}
 use Rattle.calendar.proofs.Hours.{by-form, half-form, full-form}
 

@@ -14,7 +14,8 @@ use Rattle.calendar.specs.Calendar.{nextSecond, nextMinute, nextHour, ne
 use Rattle.calendar.specs.Words.{bcd, twelveHour, hourDigits, word31, hundredthsOf, ticksIn, minuteIn, twelveIn, hourNamed, hourIn, timeDigits, hourFits, alarmValid}
 use Rattle.calendar.specs.Moment.{firstMonths, dayNumber, timeTicks, moment}
 use Rattle.calendar.specs.Alarm.{reaches, alarmRings}
-use Rattle.calendar.proofs.Laws.{passed, held, year-days}
+use Rattle.unit.proofs.Joined.{passed, held}
+use Rattle.calendar.proofs.Laws.{year-days}
 
 abbrev pub months : List ℕ
 months = 1 ∷ 2 ∷ 3 ∷ 4 ∷ 5 ∷ 6 ∷ 7 ∷ 8 ∷ 9 ∷ 10 ∷ 11 ∷ 12 ∷ []
@@ -153,7 +154,7 @@ unfolding reaches
 reached b a t = (
   (λ e.
       let (c, r) = passed _ e in
-      (eqb-false _ _ c, eqb-true _ _ (held _ r .0))),
+      (eqb-false _ _ c, eqb-true _ _ r)),
   (λ h. rw (ne-eqb b a (h .0), eq-eqb a t (h .1))),
 )
 

@@ -6,7 +6,8 @@ use native.Mathlib.Omega.{arith}
 use lib.Dec.{ltb}
 use borrow.Author.Tests.{ltb-false, le-ltb, eq-eqb, ne-eqb}
 use Rattle.calendar.specs.Words.{bcd, twelveHour, hourDigits, twelveIn, hourNamed, hourIn, hourFits}
-use Rattle.calendar.proofs.Laws.{passed, by-leb, by-eqb}
+use Rattle.unit.proofs.Cases.{by-leb, by-eqb}
+use Rattle.unit.proofs.Joined.{passed, negated}
 
 pub bcd-digits : (x : ℕ) → x ≤ 99 → bcd x ≡ x / 10 * 16 + x % 10
 unfolding bcd
@@ -133,14 +134,14 @@ unfolding hourFits
 half-bounds w e f =
     let (t, n, _) = half-form w e in
     let (l, r) = passed (ltb (halfNamed w) 1) (rw (t, n) at f) in
-    let (h, _) = passed (ltb 12 (halfNamed w)) r in
+    let h = negated (ltb 12 (halfNamed w)) r in
     omega (arith, ltb-false)
 
 pub full-bounds : (w : ℕ) → w / 64 % 2 ≡ 0 → hourFits w ≡ true → fullNamed w ≤ 23
 unfolding hourFits
 full-bounds w e f =
     let (t, n, _) = full-form w e in
-    let (h, _) = passed (ltb 23 (fullNamed w)) (rw (t, n) at f) in
+    let h = negated (ltb 23 (fullNamed w)) (rw (t, n) at f) in
     omega (arith, ltb-false)
 
 -- The hour meant is one of the day's, in either form.

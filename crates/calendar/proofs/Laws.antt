@@ -8,20 +8,13 @@ use native.Mathlib.Omega.{arith}
 use lib.Dec.{ltb, leb, eqb}
 use borrow.Author.Tests.{ltb-false, le-ltb, leb-true, leb-false, eqb-true, eqb-false, eq-eqb, ne-eqb}
 use Rattle.unit.specs.Choice.{pick}
+use Rattle.unit.proofs.Cases.{by-leb, by-eqb}
+use Rattle.unit.proofs.Joined.{passed, held, negated}
 use Rattle.calendar.specs.declared.Clock.{Clock}
 use Rattle.calendar.specs.Calendar.{leap, monthLength, dateFits, timeFits, clockValid, nextYear, nextMonth, nextWeekday, nextDate}
 use Rattle.calendar.specs.Calendar.{nextHour, nextMinute, nextSecond, tickClock}
 use Rattle.calendar.specs.Moment.{firstMonths, dayNumber, dayTicks, century, timeTicks, moment, midnights}
 use Rattle.calendar.specs.Bounds.{afterTicks, Bounds}
-
--- Where no test failed, each did not.
-pub passed : (t : Bool) {r : Bool} → pick t false r ≡ true → (t ≡ false) × (r ≡ true)
-passed true e = (sym e, cc)
-passed false e = (refl, e)
-
-pub held : (t : Bool) {r : Bool} → pick t r false ≡ true → (t ≡ true) × (r ≡ true)
-held true e = (refl, e)
-held false e = (e, cc)
 
 pub bounds : (c : Clock) → clockValid c ≡ true → Bounds c
 unfolding clockValid dateFits timeFits
@@ -33,11 +26,11 @@ bounds c v =
     let (n0, d4) = passed (ltb (c .date) 1) d3 in
     let (n1, d5) = passed (ltb (monthLength (c .year) (c .month)) (c .date)) d4 in
     let (w0, d6) = passed (ltb (c .weekday) 1) d5 in
-    let (w1, _) = passed (ltb 7 (c .weekday)) d6 in
+    let w1 = negated (ltb 7 (c .weekday)) d6 in
     let (h, t1) = passed (ltb 23 (c .hour)) t in
     let (m, t2) = passed (ltb 59 (c .minute)) t1 in
     let (s, t3) = passed (ltb 59 (c .second)) t2 in
-    let (k, _) = passed (ltb 32767 (c .ticks .0)) t3 in
+    let k = negated (ltb 32767 (c .ticks .0)) t3 in
     omega (arith, ltb-false)
 
 pub valid : (c : Clock) → Bounds c → clockValid c ≡ true
@@ -57,21 +50,6 @@ valid c b =
       b .second,
       b .ticks,
     )
-
--- A test's two outcomes, each with what it says of the numbers.
-pub by-leb : {G : Type 0} (a b : ℕ) → (a ≤ b → leb a b ≡ true → G) → (b < a → leb a b ≡ false → G) → G
-by-leb {G} a b f g = go (leb a b) refl
-  where
-    go : (t : Bool) → leb a b ≡ t → G
-    go true e = f (leb-true a b e) e
-    go false e = g (leb-false a b e) e
-
-pub by-eqb : {G : Type 0} (a b : ℕ) → (a ≡ b → eqb a b ≡ true → G) → ((a ≡ b → ⊥) → eqb a b ≡ false → G) → G
-by-eqb {G} a b f g = go (eqb a b) refl
-  where
-    go : (t : Bool) → eqb a b ≡ t → G
-    go true e = f (eqb-true a b e) e
-    go false e = g (eqb-false a b e) e
 
 pub next-weekday : (w : ℕ) → 1 ≤ w → w ≤ 7 → nextWeekday w ≡ 1 + w % 7
 unfolding nextWeekday
@@ -247,9 +225,9 @@ over c d e b n p q t u f =
       form = n .form ∙ f;
     }
 
-modelTicked : (c : Clock) → Bounds c → Ticked c (tickClock c)
+one-tick : (c : Clock) → Bounds c → Ticked c (tickClock c)
 unfolding tickClock nextSecond nextMinute nextHour timeTicks
-modelTicked c b =
+one-tick c b =
     by-leb 32767 (c .ticks .0)
     (λ h e.
     rw e
@@ -267,20 +245,20 @@ modelTicked c b =
     (λ h e. rw e (within c _ b (omega arith) refl (omega arith) refl refl))
 
 pub tick-valid : (c : Clock) → clockValid c ≡ true → clockValid (tickClock c) ≡ true
-tick-valid c v = valid (tickClock c) (modelTicked c (bounds c v) .bounds)
+tick-valid c v = valid (tickClock c) (one-tick c (bounds c v) .bounds)
 
 pub tick-moment : (c : Clock) → clockValid c ≡ true → moment (tickClock c) ≡ (moment c + 1) % century
-tick-moment c v = modelTicked c (bounds c v) .adds
+tick-moment c v = one-tick c (bounds c v) .adds
 
 -- "Weekday steps at midnight, 7 to 1"
 pub tick-weekday : (c : Clock) →
     clockValid c ≡ true →
     (tickClock c) .weekday ≡ pick (eqb ((moment c + 1) % dayTicks) 0) (nextWeekday (c .weekday)) (c .weekday)
-tick-weekday c v = modelTicked c (bounds c v) .weekday
+tick-weekday c v = one-tick c (bounds c v) .weekday
 
 -- "A clock keeps the form it was last written in" (Note 2)
 pub tick-form : (c : Clock) → clockValid c ≡ true → (tickClock c) .twelve ≡ c .twelve
-tick-form c v = modelTicked c (bounds c v) .form
+tick-form c v = one-tick c (bounds c v) .form
 
 pub moment-below : (c : Clock) → clockValid c ≡ true → moment c < century
 unfolding moment timeTicks

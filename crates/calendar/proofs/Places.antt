@@ -8,7 +8,8 @@ use Rattle.unit.specs.declared.Ticks.{Ticks}
 use Rattle.calendar.specs.declared.Clock.{Clock}
 use Rattle.calendar.specs.Calendar.{clockValid}
 use Rattle.calendar.specs.Words.{bcd, twelveHour, hundredthsOf, word30, word31, word32, word33, clockFrom, wordsValid}
-use Rattle.calendar.proofs.Laws.{by-eqb, bounds, month-length}
+use Rattle.unit.proofs.Cases.{by-eqb}
+use Rattle.calendar.proofs.Laws.{bounds, month-length}
 use Rattle.calendar.proofs.Hours.{bcd-digits, half-digits, full-digits}
 use Rattle.calendar.proofs.Validity.{words-mean}
 use Rattle.calendar.proofs.RoundTrip.{round-trip, words-valid, time-back}

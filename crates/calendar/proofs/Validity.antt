@@ -9,7 +9,8 @@ use borrow.Author.Tests.{le-ltb, ltb-false}
 use Rattle.unit.specs.declared.Ticks.{Ticks}
 use Rattle.calendar.specs.Calendar.{monthLength}
 use Rattle.calendar.specs.Words.{minuteIn, clockFrom, timeDigits, hourFits, digitsFit, wordsValid, alarmValid}
-use Rattle.calendar.proofs.Laws.{passed, held, bounds, valid}
+use Rattle.unit.proofs.Joined.{passed, held, negated}
+use Rattle.calendar.proofs.Laws.{bounds, valid}
 use Rattle.calendar.proofs.Hours.{half-fits, full-fits, by-form, half-bounds, full-bounds, hour-below}
 
 -- Bit 6 set: "bit 5 is then PM, bit 4 ten hours, hours 1 to 12" (Note 2). Else "ten hours 5:4, hours 3:0", "hours to 23".
@@ -41,7 +42,7 @@ unfolding timeDigits
 time-digits-mean w = (
   (λ e.
       let (m, r) = passed (ltb 9 (w / 256 % 16)) e in
-      let (h, _) = passed (ltb 9 (w % 16)) r in
+      let h = negated (ltb 9 (w % 16)) r in
       omega (arith, ltb-false)),
   (λ v. rw (le-ltb 9 (w / 256 % 16) (v .0), le-ltb 9 (w % 16) (v .1))),
 )

@@ -1,6 +1,6 @@
 -- When a tick sets AF.
 use Prim.Native.Nat.{ℕ}
-use mathlib.Core.Bool.{Bool, true, false}
+use mathlib.Core.Bool.{Bool, false}
 use lib.Dec.{eqb}
 use Rattle.unit.specs.Choice.{pick}
 use Rattle.calendar.specs.declared.Clock.{Clock}
@@ -8,7 +8,7 @@ use Rattle.calendar.specs.Words.{minuteIn, hourIn}
 
 -- "in a tick where minutes change to the alarm's": they change, and afterwards they are
 unfoldable pub reaches : ℕ → ℕ → ℕ → Bool
-reaches before after target = pick (eqb before after) false (pick (eqb after target) true false)
+reaches before after target = pick (eqb before after) false (eqb after target)
 
 -- "AM (3:2 of 43h): 01b sets AF in a tick where minutes change to the alarm's; 10b where hours change to the alarm's;
 -- 11b where minutes change and both match". Clock and alarm have hours 0 to 23 here, whatever their forms: "An alarm matches

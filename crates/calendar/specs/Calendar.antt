@@ -1,8 +1,8 @@
 -- The calendar of document 01: validity, and the clock one tick later.
 use Prim.Native.Nat.{ℕ, _+_, _%_}
-use mathlib.Core.Bool.{Bool, true, false}
+use mathlib.Core.Bool.{Bool, false}
 use lib.Dec.{ltb, leb, eqb}
-use Rattle.unit.specs.Choice.{pick}
+use Rattle.unit.specs.Choice.{pick, negate}
 use Rattle.unit.specs.declared.Ticks.{Ticks}
 use Rattle.calendar.specs.declared.Clock.{Clock}
 
@@ -26,7 +26,7 @@ dateFits c =
     (pick (ltb (c .date) 1) false
     (pick (ltb (monthLength (c .year) (c .month)) (c .date)) false
     (pick (ltb (c .weekday) 1) false
-    (pick (ltb 7 (c .weekday)) false true))))))
+    (negate (ltb 7 (c .weekday))))))))
 
 -- "seconds and minutes to 59, hours to 23"; "The second holds s ticks, 0 to 32,767"
 unfoldable pub timeFits : Clock → Bool
@@ -34,7 +34,7 @@ timeFits c =
     pick (ltb 23 (c .hour)) false
     (pick (ltb 59 (c .minute)) false
     (pick (ltb 59 (c .second)) false
-    (pick (ltb 32767 (c .ticks .0)) false true)))
+    (negate (ltb 32767 (c .ticks .0)))))
 
 unfoldable pub clockValid : Clock → Bool
 clockValid c = pick (dateFits c) (timeFits c) false

@@ -1,8 +1,9 @@
 -- The words of registers 30h to 33h, and of the alarm 35h, which has 31h's layout.
 use Prim.Native.Nat.{ℕ, _+_, _*_, _/_, _%_}
-use mathlib.Core.Bool.{Bool, true, false}
+use mathlib.Core.Bool.{Bool, false}
 use lib.Dec.{ltb, leb, eqb}
-use Rattle.unit.specs.Choice.{pick}
+use Rattle.unit.specs.Choice.{pick, negate}
+use Rattle.unit.specs.Bits.{bits, isSet}
 use Rattle.unit.specs.declared.Ticks.{Ticks}
 use Rattle.calendar.specs.declared.Clock.{Clock}
 use Rattle.calendar.specs.Calendar.{clockValid}
@@ -43,60 +44,60 @@ word33 c = bcd (c .month) * 256 + bcd (c .year)
 
 -- The same places, read out of a written word. Bits that 000 names 0 are passed over: "ignored and read 0".
 unfoldable pub minuteIn : ℕ → ℕ
-minuteIn w = w / 4096 % 8 * 10 + w / 256 % 16
+minuteIn w = bits 14 12 w * 10 + bits 11 8 w
 
 -- "Bit 6 of 31h and of 35h" (Note 2): whether the word has 12-hour form
 unfoldable pub twelveIn : ℕ → Bool
-twelveIn w = eqb (w / 64 % 2) 1
+twelveIn w = isSet 6 w
 
 -- the hour that the digits name: in 12-hour form "bit 4 ten hours" (Note 2), else "ten hours 5:4"
 unfoldable pub hourNamed : ℕ → ℕ
-hourNamed w = pick (twelveIn w) (w / 16 % 2 * 10 + w % 16) (w / 16 % 4 * 10 + w % 16)
+hourNamed w = pick (twelveIn w) (bits 4 4 w * 10 + bits 3 0 w) (bits 5 4 w * 10 + bits 3 0 w)
 
 -- the hour meant, 0 to 23: "bit 5 is then PM"; "12 AM equals 00" (Note 2)
 unfoldable pub hourIn : ℕ → ℕ
 hourIn w =
-    pick (twelveIn w) (pick (eqb (w / 32 % 2) 1) (hourNamed w % 12 + 12) (hourNamed w % 12)) (hourNamed w)
+    pick (twelveIn w) (pick (isSet 5 w) (hourNamed w % 12 + 12) (hourNamed w % 12)) (hourNamed w)
 
 -- "A write that covers 30h sets s to c × 32,768 ÷ 100 rounded up, c being 10 × its tenths + its hundredths"
 unfoldable pub ticksIn : ℕ → Ticks
-ticksIn w = record { 0 = ((w / 4096 % 16 * 10 + w / 256 % 16) * 32768 + 99) / 100 }
+ticksIn w = record { 0 = ((bits 15 12 w * 10 + bits 11 8 w) * 32768 + 99) / 100 }
 
 unfoldable pub clockFrom : ℕ → ℕ → ℕ → ℕ → Ticks → Clock
 clockFrom w30 w31 w32 w33 t =
     record {
-      year = w33 / 16 % 16 * 10 + w33 % 16;
-      month = w33 / 4096 % 2 * 10 + w33 / 256 % 16;
-      date = w32 / 16 % 4 * 10 + w32 % 16;
-      weekday = w32 / 256 % 8;
+      year = bits 7 4 w33 * 10 + bits 3 0 w33;
+      month = bits 12 12 w33 * 10 + bits 11 8 w33;
+      date = bits 5 4 w32 * 10 + bits 3 0 w32;
+      weekday = bits 10 8 w32;
       hour = hourIn w31;
       minute = minuteIn w31;
-      second = w30 / 16 % 8 * 10 + w30 % 16;
+      second = bits 6 4 w30 * 10 + bits 3 0 w30;
       ticks = t;
       twelve = twelveIn w31;
     }
 
 -- "every digit 0 to 9" of minutes and hours
 unfoldable pub timeDigits : ℕ → Bool
-timeDigits w = pick (ltb 9 (w / 256 % 16)) false (pick (ltb 9 (w % 16)) false true)
+timeDigits w = pick (ltb 9 (bits 11 8 w)) false (negate (ltb 9 (bits 3 0 w)))
 
 -- "Number 7 is no longer given for the bit itself, but for an hour invalid in its form" (Note 2): 12-hour form has "hours 1
 -- to 12", 24-hour form "hours to 23"
 unfoldable pub hourFits : ℕ → Bool
 hourFits w =
-    pick (twelveIn w) (pick (ltb (hourNamed w) 1) false (pick (ltb 12 (hourNamed w)) false true))
-    (pick (ltb 23 (hourNamed w)) false true)
+    pick (twelveIn w) (pick (ltb (hourNamed w) 1) false (negate (ltb 12 (hourNamed w))))
+    (negate (ltb 23 (hourNamed w)))
 
 -- "every digit 0 to 9"; a digit of three bits or fewer always is
 unfoldable pub digitsFit : ℕ → ℕ → ℕ → ℕ → Bool
 digitsFit w30 w31 w32 w33 =
-    pick (ltb 9 (w30 / 4096 % 16)) false
-    (pick (ltb 9 (w30 / 256 % 16)) false
-    (pick (ltb 9 (w30 % 16)) false
-    (pick (ltb 9 (w32 % 16)) false
-    (pick (ltb 9 (w33 / 256 % 16)) false
-    (pick (ltb 9 (w33 / 16 % 16)) false
-    (pick (ltb 9 (w33 % 16)) false (timeDigits w31)))))))
+    pick (ltb 9 (bits 15 12 w30)) false
+    (pick (ltb 9 (bits 11 8 w30)) false
+    (pick (ltb 9 (bits 3 0 w30)) false
+    (pick (ltb 9 (bits 3 0 w32)) false
+    (pick (ltb 9 (bits 11 8 w33)) false
+    (pick (ltb 9 (bits 7 4 w33)) false
+    (pick (ltb 9 (bits 3 0 w33)) false (timeDigits w31)))))))
 
 -- "Valid means every digit 0 to 9, seconds and minutes to 59, ..": the digits, the hour in its form, and the clock that they
 -- give

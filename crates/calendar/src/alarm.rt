@@ -12,7 +12,7 @@ fn reaches(before: u32, after: u32, target: u32) -> bool
     if before == after {
         return false;
     }
-    if after == target { true } else { false }
+    after == target
 }
 
 // Whether the tick from `before` to `after` rings the alarm of word `w` in this mode (AM).

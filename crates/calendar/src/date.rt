@@ -7,7 +7,7 @@ use unit::Ticks;
 pub fn leap(year: u32) -> bool
     ensures { λ r. ⌜ r ≡ leap year ⌝ }
 {
-    if year % 4 == 0 { true } else { false }
+    year % 4 == 0
 }
 
 pub fn month_length(year: u32, month: u32) -> u32

@@ -77,7 +77,7 @@ pub fn minute_in(w: u32) -> u32
 pub fn twelve_in(w: u32) -> bool
     ensures { λ r. ⌜ r ≡ twelveIn w ⌝ }
 {
-    if w / 64 % 2 == 1 { true } else { false }
+    w / 64 % 2 == 1
 }
 
 // The hour that the digits name.

@@ -6,8 +6,9 @@ use Rattle.calendar.specs.Words.{hundredthsOf, minuteIn, twelveIn, hourNamed, h
 use Rattle.setup.specs.Setup.{factory, hitCount, differencePeriod, differenceCount, eventContinuous}
 use Rattle.hit.specs.Limit.{lateFrom, openFrom, anyWord, anyFrom}
 use Rattle.hit.specs.Words.{wordOrZero, sixWords, sixTotal, average}
-use Rattle.hit.specs.Difference.{differenceWord, biased, differenceMean}
-use Rattle.hit.specs.Mean.{All}
+use Rattle.hit.specs.Difference.{differenceWord, differenceMean}
+use Rattle.hit.specs.Biased.{biased}
+use Rattle.hit.specs.Mean.{All, differenceBits}
 use Rattle.device.specs.Event.{noSchedule, startSingle, startEvent, isAwaited, startsLeft, begins, beginsGroup, fails, settle, tickSchedule}
 use Rattle.device.specs.Event.{leftAfter, waitAfter, startedAfter, settledAfter, goodAfter}
 use Rattle.device.specs.Model.{freshModel, freshWith, noFlight}
@@ -15,8 +16,8 @@ use Rattle.device.specs.Registers.{half, flightWord, registerWord}
 use Rattle.device.specs.Results.{goodDifference, goodSum, goodFlight}
 use Rattle.device.specs.Delivery.{goodFlightModel}
 use Rattle.device.specs.Bus.{startsFlight, flightStarted, flightEvent, eventFlight, startedEvent, singleStarted}
-use Rattle.device.specs.Bench.{Example, bench, modelTicked, startTicks}
+use Rattle.device.specs.Bench.{Example, bench, awaitedFor, startTicks}
 
 pub bench-holds : All (λ (e : Example). e .given ≡ e .wanted) bench
-unfolding bench modelTicked startTicks leap monthLength dateFits timeFits clockValid nextYear nextMonth nextWeekday nextDate nextHour nextMinute nextSecond tickClock hundredthsOf minuteIn twelveIn hourNamed hourIn clockFrom timeDigits hourFits digitsFit wordsValid factory hitCount differencePeriod differenceCount lateFrom openFrom anyWord anyFrom wordOrZero sixWords sixTotal average differenceWord biased differenceMean noSchedule startSingle startEvent isAwaited begins fails settle tickSchedule leftAfter waitAfter startedAfter settledAfter freshModel freshWith noFlight half flightWord registerWord goodDifference goodSum goodFlight goodFlightModel startsFlight flightStarted flightEvent eventFlight startedEvent singleStarted startsLeft beginsGroup goodAfter eventContinuous
+unfolding bench awaitedFor startTicks leap monthLength dateFits timeFits clockValid nextYear nextMonth nextWeekday nextDate nextHour nextMinute nextSecond tickClock hundredthsOf minuteIn twelveIn hourNamed hourIn clockFrom timeDigits hourFits digitsFit wordsValid factory hitCount differencePeriod differenceCount lateFrom openFrom anyWord anyFrom wordOrZero sixWords sixTotal average differenceWord biased differenceMean differenceBits noSchedule startSingle startEvent isAwaited begins fails settle tickSchedule leftAfter waitAfter startedAfter settledAfter freshModel freshWith noFlight half flightWord registerWord goodDifference goodSum goodFlight goodFlightModel startsFlight flightStarted flightEvent eventFlight startedEvent singleStarted startsLeft beginsGroup goodAfter eventContinuous
 bench-holds = (refl, (refl, (refl, (refl, (refl, (refl, (refl, (refl, (refl, (refl, (refl, tt)))))))))))

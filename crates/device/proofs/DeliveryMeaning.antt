@@ -14,7 +14,8 @@ use Rattle.hit.specs.Limit.{openFrom, shortBelow, anyBelow, anyFault}
 use Rattle.hit.specs.Difference.{differenceWord}
 use Rattle.hit.specs.Mean.{sum}
 use Rattle.hit.specs.Words.{wordOrZero, sixWords, fourWords, average, filled, failedPairs, portPair, portPairs}
-use Rattle.hit.proofs.Sum.{six-total, neither}
+use Rattle.unit.proofs.Joined.{neither}
+use Rattle.hit.proofs.Sum.{six-total}
 use Rattle.hit.proofs.Ports.{port-open, port-short, port-whole}
 use Rattle.hit.proofs.Meaning.{short-not-open, whole-means}
 use Rattle.device.specs.declared.Flight.{Flight}

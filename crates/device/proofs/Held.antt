@@ -9,13 +9,14 @@ use lib.Dec.{ltb, eqb}
 use borrow.Author.Tests.{ltb-true, lt-ltb, eqb-true}
 use Rattle.unit.specs.Choice.{pick, both, negate}
 use Rattle.unit.proofs.Cases.{by-test}
-use Rattle.calendar.proofs.Laws.{held}
+use Rattle.unit.proofs.Joined.{held}
 use Rattle.setup.specs.Setup.{hitCount, portCycle, differencePeriod, differenceCount, temperaturePeriod, temperatureCount}
 use Rattle.setup.proofs.Laws.{hits-bounds}
 use Rattle.hit.specs.Limit.{openFrom}
 use Rattle.hit.specs.Words.{sixWords, fourWords, average, plusEach}
-use Rattle.hit.specs.Difference.{biased, differenceMean, portMean}
-use Rattle.hit.specs.Mean.{All, sum, Averages, InRange, biasedTotal, differenceBits, meanAverages, floorMeanWords}
+use Rattle.hit.specs.Difference.{differenceMean, portMean}
+use Rattle.hit.specs.Biased.{biased, InRange, biasedTotal}
+use Rattle.hit.specs.Mean.{All, sum, Averages, differenceBits, meanAverages, floorMeanWords}
 use Rattle.hit.proofs.Limits.{quotient-below}
 use Rattle.hit.proofs.Sum.{six-total}
 use Rattle.hit.proofs.Mean.{mean-word, port-mean-words}

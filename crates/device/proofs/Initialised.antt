@@ -20,7 +20,7 @@ use Rattle.device.specs.Call.{Call, transaction, tick, flight, temperatu
 use Rattle.device.specs.Call.{Verdict, accepted, refused, verdict}
 use Rattle.device.specs.Reply.{anyLate, portFault, acceptedAnswer, acceptedModel, replyBy, reply}
 use Rattle.device.specs.History.{isRefusal, after, log}
-use Rattle.device.specs.Initialised.{readyGiven, lastReady, InitialisedClaim}
+use Rattle.device.specs.Initialised.{initialisedBy, lastInitialised, InitialisedClaim}
 
 run-ready : (m : Model) (op : ℕ) → runModel m op .initialised ≡ pick (eqb op 4) false (pick (eqb op 5) true (m .initialised))
 unfolding runModel resetModel freshWith initialisedModel haltedModel supplied unsupplied startedEvent singleStarted
@@ -64,10 +64,10 @@ others op initialised =
 
 -- What one accepted call does, and that its answer is no refusal.
 abbrev Given : Model → Call → Type 0
-Given m c = (acceptedModel m c .initialised ≡ readyGiven c (m .initialised)) × (isRefusal (acceptedAnswer m c) ≡ false)
+Given m c = (acceptedModel m c .initialised ≡ initialisedBy c (m .initialised)) × (isRefusal (acceptedAnswer m c) ≡ false)
 
 given : (m : Model) (c : Call) → Given m c
-unfolding acceptedModel acceptedAnswer readyGiven isRefusal failedFlightModel goodFlightModel failedTemperatureModel goodTemperatureModel writeModel tickModel
+unfolding acceptedModel acceptedAnswer initialisedBy isRefusal failedFlightModel goodFlightModel failedTemperatureModel goodTemperatureModel writeModel tickModel
 given m (transaction f o x) =
     by-test (isCommand (opcode f)) (λ c. rw c (run-ready m (opcode f), refl))
     (λ c. rw (others (opcode f) (m .initialised) c)
@@ -83,23 +83,23 @@ given m (stretch n) = (ticked-ready n m, refl)
 
 -- One call, accepted or refused.
 step-ready : (m : Model) (c : Call) →
-    reply m c .model .initialised ≡ pick (isRefusal (reply m c .answer)) (m .initialised) (readyGiven c (m .initialised))
+    reply m c .model .initialised ≡ pick (isRefusal (reply m c .answer)) (m .initialised) (initialisedBy c (m .initialised))
 unfolding reply replyBy isRefusal
 step-ready m c = go (verdict m c)
   where
     go : (v : Verdict) →
-        replyBy v m c .model .initialised ≡ pick (isRefusal (replyBy v m c .answer)) (m .initialised) (readyGiven c (m .initialised))
+        replyBy v m c .model .initialised ≡ pick (isRefusal (replyBy v m c .answer)) (m .initialised) (initialisedBy c (m .initialised))
     go accepted = rw (given m c .1) (given m c .0)
     go (refused n) = refl
 
-pub all-ready : (cs : List Call) (m : Model) → after m cs .initialised ≡ lastReady (log m cs) (m .initialised)
-unfolding after log lastReady
-all-ready [] m = refl
-all-ready (c ∷ cs) m =
-    all-ready cs (reply m c .model) ∙ ap (lastReady (log (reply m c .model) cs)) (step-ready m c)
+pub all-initialised : (cs : List Call) (m : Model) → after m cs .initialised ≡ lastInitialised (log m cs) (m .initialised)
+unfolding after log lastInitialised
+all-initialised [] m = refl
+all-initialised (c ∷ cs) m =
+    all-initialised cs (reply m c .model) ∙ ap (lastInitialised (log (reply m c .model) cs)) (step-ready m c)
 
 pub initialised-until-reset : InitialisedClaim
-initialised-until-reset cs = all-ready cs freshModel ∙ ap (lastReady (log freshModel cs)) fresh-ready
+initialised-until-reset cs = all-initialised cs freshModel ∙ ap (lastInitialised (log freshModel cs)) fresh-ready
   where
     fresh-ready : freshModel .initialised ≡ false
     fresh-ready = unfold freshModel freshWith in refl

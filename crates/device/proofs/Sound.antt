@@ -12,7 +12,8 @@ use Rattle.unit.proofs.Cases.{by-test, by-ltb, by-eqb}
 use Rattle.unit.specs.declared.Ticks.{Ticks}
 use Rattle.calendar.specs.Calendar.{clockValid}
 use Rattle.calendar.specs.Words.{clockFrom, hourFits, digitsFit, wordsValid}
-use Rattle.calendar.proofs.Laws.{passed, held, tick-valid}
+use Rattle.unit.proofs.Joined.{both-true, neither, passed, held}
+use Rattle.calendar.proofs.Laws.{tick-valid}
 use Rattle.calendar.proofs.Facts.{start-valid}
 use Rattle.setup.specs.Setup.{hitCount, timeout, portCycle, clockStands, eventContinuous, differencePeriod, differenceCount, temperaturePeriod, temperatureCount}
 use Rattle.setup.proofs.Laws.{hits-bounds, cycle-below, difference-period-bounds, difference-count-bounds}
@@ -20,9 +21,9 @@ use Rattle.setup.proofs.Laws.{temperature-period-bounds, temperature-count-boun
 use Rattle.frame.specs.Frame.{isCommand, isWrite, isFlash}
 use Rattle.hit.specs.Limit.{lateFrom, openFrom, anyFrom}
 use Rattle.hit.specs.Words.{sixWords, fourWords, average, sixTotal, plusEach}
-use Rattle.hit.specs.Difference.{biased}
+use Rattle.hit.specs.Biased.{biased}
 use Rattle.hit.proofs.Limits.{quotient-below}
-use Rattle.hit.proofs.Sum.{neither, hits-fit}
+use Rattle.hit.proofs.Sum.{hits-fit}
 use Rattle.hit.proofs.Ports.{Good, good-ports}
 use Rattle.device.specs.declared.Schedule.{Schedule}
 use Rattle.device.specs.declared.Status.{Status}
@@ -44,7 +45,7 @@ use Rattle.device.specs.Call.{Call, transaction, tick, flight, temperatu
 use Rattle.device.specs.Parts.{flightFits}
 use Rattle.device.specs.Reply.{anyLate, portFault, acceptedModel, reply, replyBy}
 use Rattle.device.specs.Call.{miscounted, whileBusy, supplyOff, unreachable, unerased, notAwaited, badCalendar, verdict}
-use Rattle.device.proofs.Table.{NoneHolds, none-holds, negated, both-true, picked}
+use Rattle.device.proofs.Table.{NoneHolds, none-holds, negated, picked}
 use Rattle.device.specs.Event.{countsSound, waitSound, balanceSound, scheduleSound, noSchedule, isAwaited, inEvent, startsLeft, begins}
 use Rattle.device.specs.Event.{beginsGroup, leftAfter, waitAfter, startedAfter, settledAfter, goodAfter, fails, startSingle, startEvent}
 use Rattle.device.specs.Event.{tickSchedule, settle, haltSchedule}

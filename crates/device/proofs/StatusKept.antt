@@ -9,6 +9,7 @@ use lib.ListN.{length, getD}
 use lib.Dec.{ltb, leb, eqb}
 use borrow.Author.Tests.{leb-false, le-ltb, lt-leb}
 use Rattle.unit.specs.Choice.{pick, either, both, negate}
+use Rattle.unit.proofs.Joined.{neither}
 use Rattle.unit.proofs.Cases.{by-test, by-ltb, by-eqb}
 use Rattle.calendar.specs.Alarm.{alarmRings}
 use Rattle.setup.specs.Setup.{wordOf, alarmWord, alarmMode, eachInterrupt, timeout, portCycle}
@@ -60,9 +61,9 @@ nth-plain k =
 told-plain : (m : Model) (k : Schedule) → setsOwnBit k (eachInterrupt (m .setup)) ≡ told m k
 unfolding setsOwnBit inEvent eachInterrupt
 told-plain m k =
-    by-test (k .continuous) (λ c. rw c (same _))
+    by-test (k .continuous) (λ c. rw c)
     (λ c. rw c
-    (by-test (ltb (k .settled) (k .planned)) (λ e. rw e (same _)) (λ e. rw e)))
+    (by-test (ltb (k .settled) (k .planned)) (λ e. rw e) (λ e. rw e)))
 
 -- What a tick sets, by what happens in it.
 ticks-join :
@@ -164,14 +165,10 @@ flight-bits m u d =
     rw (← nth-plain (m .flight .schedule), ← told-plain m (m .flight .schedule))
     (by-test (anyLate m u d) (λ e. rw e (simp (kept, turned))) (λ e. rw e (simp kept)))
 
-neither : (a b : Bool) → either a b ≡ false → a ≡ false
-neither false b e = refl
-neither true b e = let z : _≡_ {A = ℕ} 0 1 = cc in absurd (omega arith)
-
 whole-not-open : (m : Model) (w : List ℕ) → portFault m w ≡ false → anyOpen m w ≡ false
 unfolding portFault anyFault anyOpen
 whole-not-open m w e =
-    neither (anyFrom (openFrom (portCycle (m .setup))) w) (anyBelow shortBelow w) e
+    neither (anyFrom (openFrom (portCycle (m .setup))) w) (anyBelow shortBelow w) e .0
 
 -- "A word is open when it is at least (512 × (PORTCYC + 1) − 8) × 65,536"; "PORTCYC is 1:0 of 40h"
 pub open-word :

@@ -11,7 +11,7 @@ use Rattle.unit.specs.Choice.{pick}
 use Rattle.unit.proofs.Cases.{by-test, by-ltb, by-eqb}
 use Rattle.calendar.specs.Calendar.{tickClock}
 use Rattle.calendar.specs.Bounds.{afterTicks}
-use Rattle.calendar.proofs.Laws.{held}
+use Rattle.unit.proofs.Joined.{held}
 use Rattle.setup.specs.Setup.{clockStands}
 use Rattle.unit.specs.declared.Ticks.{Ticks}
 use Rattle.device.specs.declared.Schedule.{Schedule}

@@ -5,7 +5,7 @@ use mathlib.Core.Bool.{Bool, true, false}
 use mathlib.Core.List.{List, [], _∷_, map}
 use mathlib.Core.Logic.{_↔_, _⊎_, inl, inr, ⊎-elim}
 use mathlib.Core.Path.{_≡_, refl, sym}
-use Rattle.unit.specs.Choice.{pick, both, negate}
+use Rattle.unit.specs.Choice.{pick, negate}
 use Rattle.unit.proofs.Cases.{by-test}
 use Rattle.device.specs.declared.Model.{Model}
 use Rattle.device.specs.Model.{isSound}
@@ -23,10 +23,6 @@ use Rattle.device.specs.FirstDemand.{First, None}
 pub picked : {A : Type 0} (P : A → Type 0) (t : Bool) {x y : A} → (t ≡ true → P x) → (t ≡ false → P y) → P (pick t x y)
 picked P true p q = p refl
 picked P false p q = q refl
-
-pub both-true : (a b : Bool) → both a b ≡ true → (a ≡ true) × (b ≡ true)
-both-true true b e = (refl, e)
-both-true false b e = (e, cc)
 
 pub negated : (b : Bool) → negate b ≡ false → b ≡ true
 negated true e = refl

@@ -10,6 +10,7 @@ use mathlib.Core.Logic.{_⊎_, inl, inr, ⊎-elim}
 use lib.Dec.{ltb, leb, eqb}
 use borrow.Author.Tests.{leb-true, le-leb, lt-ltb, le-ltb}
 use Rattle.unit.specs.Choice.{pick, both}
+use Rattle.unit.proofs.Joined.{both-true}
 use Rattle.unit.proofs.Cases.{by-test, by-eqb}
 use Rattle.calendar.specs.declared.Clock.{Clock}
 use Rattle.calendar.specs.Calendar.{tickClock}
@@ -21,7 +22,8 @@ use Rattle.calendar.proofs.RoundTrip.{round-trip}
 use Rattle.setup.specs.Setup.{wordOf, clockStands, eventContinuous, differencePeriod, differenceCount, temperaturePeriod, temperatureCount}
 use Rattle.setup.proofs.Laws.{difference-period-bounds, difference-count-bounds, temperature-period-bounds, temperature-count-bounds}
 use Rattle.frame.specs.Frame.{isCommand, isWrite, notWhole, pastEnd}
-use Rattle.hit.specs.Mean.{sum, biasedTotal}
+use Rattle.hit.specs.Mean.{sum}
+use Rattle.hit.specs.Biased.{biasedTotal}
 use Rattle.device.specs.declared.Model.{Model}
 use Rattle.device.specs.declared.Reply.{Reply}
 use Rattle.device.specs.declared.StretchReport.{StretchReport}
@@ -37,7 +39,7 @@ use Rattle.device.specs.History.{Kind, differences, temperatures, Plan, 
 use Rattle.device.specs.History.{startReported, beginning, runs, isRefusal, spanOf, stretchIn, named, noteTicks}
 use Rattle.device.specs.Claim.{ticksIn, tickCount}
 use Rattle.device.specs.Claim.{command, toldOf, StillBusy, ThirdDemand}
-use Rattle.device.proofs.Table.{none-holds, both-true, picked}
+use Rattle.device.proofs.Table.{none-holds, picked}
 use Rattle.device.proofs.Sound.{neither-picked, bounds-of, fresh-sound, keeps-sound}
 use Rattle.device.proofs.Going.{going-start}
 use Rattle.device.proofs.Calls.{stepped, setup-kept, clock-step}
@@ -236,8 +238,9 @@ write-busy m s b a high low o x from to =
       s,
       b,
       lt-ltb 0x0D a (omega arith),
-      le-ltb a 0x30 from,
-      le-ltb 0x43 a to,
+      le-leb 0x30 a from,
+      le-leb a 0x43 to,
+      le-ltb 0x44 (a + 1) (omega arith),
     )
 
 pub third-demand : ThirdDemand

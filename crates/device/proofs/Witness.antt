@@ -14,7 +14,9 @@ use Rattle.setup.specs.Setup.{differenceCount, temperatureCount, differencePeri
 use Rattle.frame.specs.Frame.{isCommand, isWrite, isFlash, isRead, notWhole, pastEnd, wordAt}
 use Rattle.hit.specs.Limit.{lateFrom, openFrom, shortBelow, anyWord, anyFrom, anyBelow, anyFault}
 use Rattle.hit.specs.Words.{wordOrZero, sixWords, fourWords, sixTotal, average, filled, portPair, portPairs, plusEach}
-use Rattle.hit.specs.Difference.{differenceWord, biased, differenceMean, portMean}
+use Rattle.hit.specs.Difference.{differenceWord, differenceMean, portMean}
+use Rattle.hit.specs.Biased.{biased}
+use Rattle.hit.specs.Mean.{differenceBits}
 use Rattle.device.specs.Event.{noSchedule, countsSound, waitSound, balanceSound, scheduleSound, isAwaited, inEvent, startsLeft, beginsGroup, fails, startEvent, tickSchedule, begins, leftAfter, waitAfter, startedAfter}
 use Rattle.device.specs.Event.{settledAfter, goodAfter, settle}
 use Rattle.device.specs.Status.{porBit, joined}
@@ -94,14 +96,14 @@ pub probes-seen :
     map (λ (w : List ℕ). map (registerWord (after freshModel (withProbes w))) (0xC5 ∷ 0xD4 ∷ 0xE2 ∷ 0xE4 ∷ 0xE5 ∷ 0xE7 ∷ 0xEF ∷ []))
     (whole ∷ cut ∷ [])
     ≡ (305 ∷ 289 ∷ 15 ∷ 1 ∷ 15 ∷ 61 ∷ 1 ∷ []) ∷ (305 ∷ 289 ∷ 15 ∷ 1 ∷ 15 ∷ 0xFFFF ∷ 0 ∷ []) ∷ []
-unfolding startReported named stretchReport lastTick scheduleTicked reportOf registerWord flightWord temperatureWord half settle goodFlight goodSum goodDifference goodFlightModel goodTemperatureModel failedTemperatureModel goodSums sixWords fourWords average sixTotal filled portPairs portPair plusEach wordOrZero biased differenceWord differenceMean portMean anyLate anyOpen portFault anyFault anyFrom anyBelow anyWord shortBelow lateFrom openFrom hitCount timeout portCycle flightMiscounted sameCount differencePeriod temperaturePeriod modelTicked begins leftAfter waitAfter startedAfter log onlyReads isRefusal mayFollow acceptedAnswer startedEvent eventFlight flightEvent startEvent differenceCount eventTemperature temperatureEvent temperatureCount tickModel clockTicked tickClock flightAfter fails tickSchedule settledAfter temperatureAfter after reply replyBy verdict firstOf table noFrame notCarried wrongLength pastRegisters shortOutput whileBusy supplyOff unreachable unerased badCalendar notInitialised badSetup notAwaited miscounted tooLong acceptedModel freshModel freshWith porBit noFlight noTemperature noSchedule start factory isSound sumFits flightSound temperatureSound scheduleSound clockValid dateFits timeFits leap monthLength kindBusy isBusy isAwaited inEvent isCommand isWrite isFlash isRead notWhole pastEnd wordAt calendarWord word30 word31 hourDigits word32 word33 bcd hundredthsOf minuteIn twelveIn hourNamed hourIn ticksIn clockFrom timeDigits hourFits digitsFit wordsValid alarmValid alarmWord covers written withWord setupAfter ticksAfter clockAfter writeInvalid writeModel mustBeIdle startsFlight startsTemperature isEvent commandBusy beforeInitialize flightSideUnset temperatureSideUnset eventSideUnset commandUnset flightUnset temperatureUnset eventContinuous startsLeft beginsGroup goodAfter countsSound waitSound balanceSound sumAfter sumsAfter flightTicked clockStands runModel initialisedModel joined
+unfolding startReported named stretchReport lastTick scheduleTicked reportOf registerWord flightWord temperatureWord half settle goodFlight goodSum goodDifference goodFlightModel goodTemperatureModel failedTemperatureModel goodSums sixWords fourWords average sixTotal filled portPairs portPair plusEach wordOrZero biased differenceWord differenceMean differenceBits portMean anyLate anyOpen portFault anyFault anyFrom anyBelow anyWord shortBelow lateFrom openFrom hitCount timeout portCycle flightMiscounted sameCount differencePeriod temperaturePeriod modelTicked begins leftAfter waitAfter startedAfter log onlyReads isRefusal mayFollow acceptedAnswer startedEvent eventFlight flightEvent startEvent differenceCount eventTemperature temperatureEvent temperatureCount tickModel clockTicked tickClock flightAfter fails tickSchedule settledAfter temperatureAfter after reply replyBy verdict firstOf table noFrame notCarried wrongLength pastRegisters shortOutput whileBusy supplyOff unreachable unerased badCalendar notInitialised badSetup notAwaited miscounted tooLong acceptedModel freshModel freshWith porBit noFlight noTemperature noSchedule start factory isSound sumFits flightSound temperatureSound scheduleSound clockValid dateFits timeFits leap monthLength kindBusy isBusy isAwaited inEvent isCommand isWrite isFlash isRead notWhole pastEnd wordAt calendarWord word30 word31 hourDigits word32 word33 bcd hundredthsOf minuteIn twelveIn hourNamed hourIn ticksIn clockFrom timeDigits hourFits digitsFit wordsValid alarmValid alarmWord covers written withWord setupAfter ticksAfter clockAfter writeInvalid writeModel mustBeIdle startsFlight startsTemperature isEvent commandBusy beforeInitialize flightSideUnset temperatureSideUnset eventSideUnset commandUnset flightUnset temperatureUnset eventContinuous startsLeft beginsGroup goodAfter countsSound waitSound balanceSound sumAfter sumsAfter flightTicked clockStands runModel initialisedModel joined
 probes-seen = refl
 
 -- and the command's answer reports a start
 pub start-seen :
     map (λ (f : Flow). f .started) (flowThrough freshModel (withProbes cut))
     ≡ false ∷ false ∷ false ∷ true ∷ false ∷ false ∷ false ∷ false ∷ []
-unfolding flowThrough flowOf startReported named stretchReport lastTick scheduleTicked reportOf registerWord flightWord temperatureWord half settle goodFlight goodSum goodDifference goodFlightModel goodTemperatureModel failedTemperatureModel goodSums sixWords fourWords average sixTotal filled portPairs portPair plusEach wordOrZero biased differenceWord differenceMean portMean anyLate anyOpen portFault anyFault anyFrom anyBelow anyWord shortBelow lateFrom openFrom hitCount timeout portCycle flightMiscounted sameCount differencePeriod temperaturePeriod modelTicked begins leftAfter waitAfter startedAfter log onlyReads isRefusal mayFollow acceptedAnswer startedEvent eventFlight flightEvent startEvent differenceCount eventTemperature temperatureEvent temperatureCount tickModel clockTicked tickClock flightAfter fails tickSchedule settledAfter temperatureAfter after reply replyBy verdict firstOf table noFrame notCarried wrongLength pastRegisters shortOutput whileBusy supplyOff unreachable unerased badCalendar notInitialised badSetup notAwaited miscounted tooLong acceptedModel freshModel freshWith porBit noFlight noTemperature noSchedule start factory isSound sumFits flightSound temperatureSound scheduleSound clockValid dateFits timeFits leap monthLength kindBusy isBusy isAwaited inEvent isCommand isWrite isFlash isRead notWhole pastEnd wordAt calendarWord word30 word31 hourDigits word32 word33 bcd hundredthsOf minuteIn twelveIn hourNamed hourIn ticksIn clockFrom timeDigits hourFits digitsFit wordsValid alarmValid alarmWord covers written withWord setupAfter ticksAfter clockAfter writeInvalid writeModel mustBeIdle startsFlight startsTemperature isEvent commandBusy beforeInitialize flightSideUnset temperatureSideUnset eventSideUnset commandUnset flightUnset temperatureUnset eventContinuous startsLeft beginsGroup goodAfter countsSound waitSound balanceSound sumAfter sumsAfter flightTicked clockStands runModel initialisedModel joined
+unfolding flowThrough flowOf startReported named stretchReport lastTick scheduleTicked reportOf registerWord flightWord temperatureWord half settle goodFlight goodSum goodDifference goodFlightModel goodTemperatureModel failedTemperatureModel goodSums sixWords fourWords average sixTotal filled portPairs portPair plusEach wordOrZero biased differenceWord differenceMean differenceBits portMean anyLate anyOpen portFault anyFault anyFrom anyBelow anyWord shortBelow lateFrom openFrom hitCount timeout portCycle flightMiscounted sameCount differencePeriod temperaturePeriod modelTicked begins leftAfter waitAfter startedAfter log onlyReads isRefusal mayFollow acceptedAnswer startedEvent eventFlight flightEvent startEvent differenceCount eventTemperature temperatureEvent temperatureCount tickModel clockTicked tickClock flightAfter fails tickSchedule settledAfter temperatureAfter after reply replyBy verdict firstOf table noFrame notCarried wrongLength pastRegisters shortOutput whileBusy supplyOff unreachable unerased badCalendar notInitialised badSetup notAwaited miscounted tooLong acceptedModel freshModel freshWith porBit noFlight noTemperature noSchedule start factory isSound sumFits flightSound temperatureSound scheduleSound clockValid dateFits timeFits leap monthLength kindBusy isBusy isAwaited inEvent isCommand isWrite isFlash isRead notWhole pastEnd wordAt calendarWord word30 word31 hourDigits word32 word33 bcd hundredthsOf minuteIn twelveIn hourNamed hourIn ticksIn clockFrom timeDigits hourFits digitsFit wordsValid alarmValid alarmWord covers written withWord setupAfter ticksAfter clockAfter writeInvalid writeModel mustBeIdle startsFlight startsTemperature isEvent commandBusy beforeInitialize flightSideUnset temperatureSideUnset eventSideUnset commandUnset flightUnset temperatureUnset eventContinuous startsLeft beginsGroup goodAfter countsSound waitSound balanceSound sumAfter sumsAfter flightTicked clockStands runModel initialisedModel joined
 start-seen = refl
 
 -- A continuous event of differences, N = 1, so that each start begins a group: a delivery with a late word, and a good one in the
@@ -114,24 +116,24 @@ overGroups =
     flight (33554432 ∷ []) (19000000 ∷ []) ∷ stretch 16384 ∷ flight (20000000 ∷ []) (18000000 ∷ []) ∷ []
 
 pub continuous-accepted : verdict (after freshModel setUp) (command 8 [] []) ≡ accepted
-unfolding startReported named stretchReport lastTick scheduleTicked reportOf registerWord flightWord temperatureWord half settle goodFlight goodSum goodDifference goodFlightModel goodTemperatureModel failedTemperatureModel goodSums sixWords fourWords average sixTotal filled portPairs portPair plusEach wordOrZero biased differenceWord differenceMean portMean anyLate anyOpen portFault anyFault anyFrom anyBelow anyWord shortBelow lateFrom openFrom hitCount timeout portCycle flightMiscounted sameCount differencePeriod temperaturePeriod modelTicked begins leftAfter waitAfter startedAfter log onlyReads isRefusal mayFollow acceptedAnswer startedEvent eventFlight flightEvent startEvent differenceCount eventTemperature temperatureEvent temperatureCount tickModel clockTicked tickClock flightAfter fails tickSchedule settledAfter temperatureAfter after reply replyBy verdict firstOf table noFrame notCarried wrongLength pastRegisters shortOutput whileBusy supplyOff unreachable unerased badCalendar notInitialised badSetup notAwaited miscounted tooLong acceptedModel freshModel freshWith porBit noFlight noTemperature noSchedule start factory isSound sumFits flightSound temperatureSound scheduleSound clockValid dateFits timeFits leap monthLength kindBusy isBusy isAwaited inEvent isCommand isWrite isFlash isRead notWhole pastEnd wordAt calendarWord word30 word31 hourDigits word32 word33 bcd hundredthsOf minuteIn twelveIn hourNamed hourIn ticksIn clockFrom timeDigits hourFits digitsFit wordsValid alarmValid alarmWord covers written withWord setupAfter ticksAfter clockAfter writeInvalid writeModel mustBeIdle startsFlight startsTemperature isEvent commandBusy beforeInitialize flightSideUnset temperatureSideUnset eventSideUnset commandUnset flightUnset temperatureUnset eventContinuous startsLeft beginsGroup goodAfter countsSound waitSound balanceSound sumAfter sumsAfter flightTicked clockStands runModel initialisedModel joined isTick stretchIn spanOf failedFlight failedDifference failedFlightModel
+unfolding startReported named stretchReport lastTick scheduleTicked reportOf registerWord flightWord temperatureWord half settle goodFlight goodSum goodDifference goodFlightModel goodTemperatureModel failedTemperatureModel goodSums sixWords fourWords average sixTotal filled portPairs portPair plusEach wordOrZero biased differenceWord differenceMean differenceBits portMean anyLate anyOpen portFault anyFault anyFrom anyBelow anyWord shortBelow lateFrom openFrom hitCount timeout portCycle flightMiscounted sameCount differencePeriod temperaturePeriod modelTicked begins leftAfter waitAfter startedAfter log onlyReads isRefusal mayFollow acceptedAnswer startedEvent eventFlight flightEvent startEvent differenceCount eventTemperature temperatureEvent temperatureCount tickModel clockTicked tickClock flightAfter fails tickSchedule settledAfter temperatureAfter after reply replyBy verdict firstOf table noFrame notCarried wrongLength pastRegisters shortOutput whileBusy supplyOff unreachable unerased badCalendar notInitialised badSetup notAwaited miscounted tooLong acceptedModel freshModel freshWith porBit noFlight noTemperature noSchedule start factory isSound sumFits flightSound temperatureSound scheduleSound clockValid dateFits timeFits leap monthLength kindBusy isBusy isAwaited inEvent isCommand isWrite isFlash isRead notWhole pastEnd wordAt calendarWord word30 word31 hourDigits word32 word33 bcd hundredthsOf minuteIn twelveIn hourNamed hourIn ticksIn clockFrom timeDigits hourFits digitsFit wordsValid alarmValid alarmWord covers written withWord setupAfter ticksAfter clockAfter writeInvalid writeModel mustBeIdle startsFlight startsTemperature isEvent commandBusy beforeInitialize flightSideUnset temperatureSideUnset eventSideUnset commandUnset flightUnset temperatureUnset eventContinuous startsLeft beginsGroup goodAfter countsSound waitSound balanceSound sumAfter sumsAfter flightTicked clockStands runModel initialisedModel joined isTick stretchIn spanOf failedFlight failedDifference failedFlightModel
 continuous-accepted = refl
 
 pub plan-is :
     planOf differences ((after freshModel setUp) .setup) ≡ record { period = 16384; count = 1; continuous = true }
-unfolding startReported named stretchReport lastTick scheduleTicked reportOf registerWord flightWord temperatureWord half settle goodFlight goodSum goodDifference goodFlightModel goodTemperatureModel failedTemperatureModel goodSums sixWords fourWords average sixTotal filled portPairs portPair plusEach wordOrZero biased differenceWord differenceMean portMean anyLate anyOpen portFault anyFault anyFrom anyBelow anyWord shortBelow lateFrom openFrom hitCount timeout portCycle flightMiscounted sameCount differencePeriod temperaturePeriod modelTicked begins leftAfter waitAfter startedAfter log onlyReads isRefusal mayFollow acceptedAnswer startedEvent eventFlight flightEvent startEvent differenceCount eventTemperature temperatureEvent temperatureCount tickModel clockTicked tickClock flightAfter fails tickSchedule settledAfter temperatureAfter after reply replyBy verdict firstOf table noFrame notCarried wrongLength pastRegisters shortOutput whileBusy supplyOff unreachable unerased badCalendar notInitialised badSetup notAwaited miscounted tooLong acceptedModel freshModel freshWith porBit noFlight noTemperature noSchedule start factory isSound sumFits flightSound temperatureSound scheduleSound clockValid dateFits timeFits leap monthLength kindBusy isBusy isAwaited inEvent isCommand isWrite isFlash isRead notWhole pastEnd wordAt calendarWord word30 word31 hourDigits word32 word33 bcd hundredthsOf minuteIn twelveIn hourNamed hourIn ticksIn clockFrom timeDigits hourFits digitsFit wordsValid alarmValid alarmWord covers written withWord setupAfter ticksAfter clockAfter writeInvalid writeModel mustBeIdle startsFlight startsTemperature isEvent commandBusy beforeInitialize flightSideUnset temperatureSideUnset eventSideUnset commandUnset flightUnset temperatureUnset eventContinuous startsLeft beginsGroup goodAfter countsSound waitSound balanceSound sumAfter sumsAfter flightTicked clockStands runModel initialisedModel joined isTick stretchIn spanOf failedFlight failedDifference failedFlightModel periodOf countOf
+unfolding startReported named stretchReport lastTick scheduleTicked reportOf registerWord flightWord temperatureWord half settle goodFlight goodSum goodDifference goodFlightModel goodTemperatureModel failedTemperatureModel goodSums sixWords fourWords average sixTotal filled portPairs portPair plusEach wordOrZero biased differenceWord differenceMean differenceBits portMean anyLate anyOpen portFault anyFault anyFrom anyBelow anyWord shortBelow lateFrom openFrom hitCount timeout portCycle flightMiscounted sameCount differencePeriod temperaturePeriod modelTicked begins leftAfter waitAfter startedAfter log onlyReads isRefusal mayFollow acceptedAnswer startedEvent eventFlight flightEvent startEvent differenceCount eventTemperature temperatureEvent temperatureCount tickModel clockTicked tickClock flightAfter fails tickSchedule settledAfter temperatureAfter after reply replyBy verdict firstOf table noFrame notCarried wrongLength pastRegisters shortOutput whileBusy supplyOff unreachable unerased badCalendar notInitialised badSetup notAwaited miscounted tooLong acceptedModel freshModel freshWith porBit noFlight noTemperature noSchedule start factory isSound sumFits flightSound temperatureSound scheduleSound clockValid dateFits timeFits leap monthLength kindBusy isBusy isAwaited inEvent isCommand isWrite isFlash isRead notWhole pastEnd wordAt calendarWord word30 word31 hourDigits word32 word33 bcd hundredthsOf minuteIn twelveIn hourNamed hourIn ticksIn clockFrom timeDigits hourFits digitsFit wordsValid alarmValid alarmWord covers written withWord setupAfter ticksAfter clockAfter writeInvalid writeModel mustBeIdle startsFlight startsTemperature isEvent commandBusy beforeInitialize flightSideUnset temperatureSideUnset eventSideUnset commandUnset flightUnset temperatureUnset eventContinuous startsLeft beginsGroup goodAfter countsSound waitSound balanceSound sumAfter sumsAfter flightTicked clockStands runModel initialisedModel joined isTick stretchIn spanOf failedFlight failedDifference failedFlightModel periodOf countOf
 plan-is = refl
 
 -- Its calls are accepted, and hold 16,384 ticks.
 pub groups-read :
     (onlyReads (log (reply (after freshModel setUp) (command 8 [] []) .model) overGroups) ≡ true) ×
     (tickCount (log (reply (after freshModel setUp) (command 8 [] []) .model) overGroups) ≡ 16384)
-unfolding startReported named stretchReport lastTick scheduleTicked reportOf registerWord flightWord temperatureWord half settle goodFlight goodSum goodDifference goodFlightModel goodTemperatureModel failedTemperatureModel goodSums sixWords fourWords average sixTotal filled portPairs portPair plusEach wordOrZero biased differenceWord differenceMean portMean anyLate anyOpen portFault anyFault anyFrom anyBelow anyWord shortBelow lateFrom openFrom hitCount timeout portCycle flightMiscounted sameCount differencePeriod temperaturePeriod modelTicked begins leftAfter waitAfter startedAfter log onlyReads isRefusal mayFollow acceptedAnswer startedEvent eventFlight flightEvent startEvent differenceCount eventTemperature temperatureEvent temperatureCount tickModel clockTicked tickClock flightAfter fails tickSchedule settledAfter temperatureAfter after reply replyBy verdict firstOf table noFrame notCarried wrongLength pastRegisters shortOutput whileBusy supplyOff unreachable unerased badCalendar notInitialised badSetup notAwaited miscounted tooLong acceptedModel freshModel freshWith porBit noFlight noTemperature noSchedule start factory isSound sumFits flightSound temperatureSound scheduleSound clockValid dateFits timeFits leap monthLength kindBusy isBusy isAwaited inEvent isCommand isWrite isFlash isRead notWhole pastEnd wordAt calendarWord word30 word31 hourDigits word32 word33 bcd hundredthsOf minuteIn twelveIn hourNamed hourIn ticksIn clockFrom timeDigits hourFits digitsFit wordsValid alarmValid alarmWord covers written withWord setupAfter ticksAfter clockAfter writeInvalid writeModel mustBeIdle startsFlight startsTemperature isEvent commandBusy beforeInitialize flightSideUnset temperatureSideUnset eventSideUnset commandUnset flightUnset temperatureUnset eventContinuous startsLeft beginsGroup goodAfter countsSound waitSound balanceSound sumAfter sumsAfter flightTicked clockStands runModel initialisedModel joined isTick stretchIn spanOf failedFlight failedDifference failedFlightModel ticksCounted tickCount
+unfolding startReported named stretchReport lastTick scheduleTicked reportOf registerWord flightWord temperatureWord half settle goodFlight goodSum goodDifference goodFlightModel goodTemperatureModel failedTemperatureModel goodSums sixWords fourWords average sixTotal filled portPairs portPair plusEach wordOrZero biased differenceWord differenceMean differenceBits portMean anyLate anyOpen portFault anyFault anyFrom anyBelow anyWord shortBelow lateFrom openFrom hitCount timeout portCycle flightMiscounted sameCount differencePeriod temperaturePeriod modelTicked begins leftAfter waitAfter startedAfter log onlyReads isRefusal mayFollow acceptedAnswer startedEvent eventFlight flightEvent startEvent differenceCount eventTemperature temperatureEvent temperatureCount tickModel clockTicked tickClock flightAfter fails tickSchedule settledAfter temperatureAfter after reply replyBy verdict firstOf table noFrame notCarried wrongLength pastRegisters shortOutput whileBusy supplyOff unreachable unerased badCalendar notInitialised badSetup notAwaited miscounted tooLong acceptedModel freshModel freshWith porBit noFlight noTemperature noSchedule start factory isSound sumFits flightSound temperatureSound scheduleSound clockValid dateFits timeFits leap monthLength kindBusy isBusy isAwaited inEvent isCommand isWrite isFlash isRead notWhole pastEnd wordAt calendarWord word30 word31 hourDigits word32 word33 bcd hundredthsOf minuteIn twelveIn hourNamed hourIn ticksIn clockFrom timeDigits hourFits digitsFit wordsValid alarmValid alarmWord covers written withWord setupAfter ticksAfter clockAfter writeInvalid writeModel mustBeIdle startsFlight startsTemperature isEvent commandBusy beforeInitialize flightSideUnset temperatureSideUnset eventSideUnset commandUnset flightUnset temperatureUnset eventContinuous startsLeft beginsGroup goodAfter countsSound waitSound balanceSound sumAfter sumsAfter flightTicked clockStands runModel initialisedModel joined isTick stretchIn spanOf failedFlight failedDifference failedFlightModel ticksCounted tickCount
 groups-read = (refl, refl)
 
 -- E4h to E6h of the second group: one good difference of 2,000,000 quanta
 pub groups-held :
     map (registerWord (after (reply (after freshModel setUp) (command 8 [] []) .model) overGroups)) (0xE4 ∷ 0xE5 ∷ 0xE6 ∷ [])
     ≡ 1 ∷ 0x001E ∷ 0x8480 ∷ []
-unfolding startReported named stretchReport lastTick scheduleTicked reportOf registerWord flightWord temperatureWord half settle goodFlight goodSum goodDifference goodFlightModel goodTemperatureModel failedTemperatureModel goodSums sixWords fourWords average sixTotal filled portPairs portPair plusEach wordOrZero biased differenceWord differenceMean portMean anyLate anyOpen portFault anyFault anyFrom anyBelow anyWord shortBelow lateFrom openFrom hitCount timeout portCycle flightMiscounted sameCount differencePeriod temperaturePeriod modelTicked begins leftAfter waitAfter startedAfter log onlyReads isRefusal mayFollow acceptedAnswer startedEvent eventFlight flightEvent startEvent differenceCount eventTemperature temperatureEvent temperatureCount tickModel clockTicked tickClock flightAfter fails tickSchedule settledAfter temperatureAfter after reply replyBy verdict firstOf table noFrame notCarried wrongLength pastRegisters shortOutput whileBusy supplyOff unreachable unerased badCalendar notInitialised badSetup notAwaited miscounted tooLong acceptedModel freshModel freshWith porBit noFlight noTemperature noSchedule start factory isSound sumFits flightSound temperatureSound scheduleSound clockValid dateFits timeFits leap monthLength kindBusy isBusy isAwaited inEvent isCommand isWrite isFlash isRead notWhole pastEnd wordAt calendarWord word30 word31 hourDigits word32 word33 bcd hundredthsOf minuteIn twelveIn hourNamed hourIn ticksIn clockFrom timeDigits hourFits digitsFit wordsValid alarmValid alarmWord covers written withWord setupAfter ticksAfter clockAfter writeInvalid writeModel mustBeIdle startsFlight startsTemperature isEvent commandBusy beforeInitialize flightSideUnset temperatureSideUnset eventSideUnset commandUnset flightUnset temperatureUnset eventContinuous startsLeft beginsGroup goodAfter countsSound waitSound balanceSound sumAfter sumsAfter flightTicked clockStands runModel initialisedModel joined isTick stretchIn spanOf failedFlight failedDifference failedFlightModel
+unfolding startReported named stretchReport lastTick scheduleTicked reportOf registerWord flightWord temperatureWord half settle goodFlight goodSum goodDifference goodFlightModel goodTemperatureModel failedTemperatureModel goodSums sixWords fourWords average sixTotal filled portPairs portPair plusEach wordOrZero biased differenceWord differenceMean differenceBits portMean anyLate anyOpen portFault anyFault anyFrom anyBelow anyWord shortBelow lateFrom openFrom hitCount timeout portCycle flightMiscounted sameCount differencePeriod temperaturePeriod modelTicked begins leftAfter waitAfter startedAfter log onlyReads isRefusal mayFollow acceptedAnswer startedEvent eventFlight flightEvent startEvent differenceCount eventTemperature temperatureEvent temperatureCount tickModel clockTicked tickClock flightAfter fails tickSchedule settledAfter temperatureAfter after reply replyBy verdict firstOf table noFrame notCarried wrongLength pastRegisters shortOutput whileBusy supplyOff unreachable unerased badCalendar notInitialised badSetup notAwaited miscounted tooLong acceptedModel freshModel freshWith porBit noFlight noTemperature noSchedule start factory isSound sumFits flightSound temperatureSound scheduleSound clockValid dateFits timeFits leap monthLength kindBusy isBusy isAwaited inEvent isCommand isWrite isFlash isRead notWhole pastEnd wordAt calendarWord word30 word31 hourDigits word32 word33 bcd hundredthsOf minuteIn twelveIn hourNamed hourIn ticksIn clockFrom timeDigits hourFits digitsFit wordsValid alarmValid alarmWord covers written withWord setupAfter ticksAfter clockAfter writeInvalid writeModel mustBeIdle startsFlight startsTemperature isEvent commandBusy beforeInitialize flightSideUnset temperatureSideUnset eventSideUnset commandUnset flightUnset temperatureUnset eventContinuous startsLeft beginsGroup goodAfter countsSound waitSound balanceSound sumAfter sumsAfter flightTicked clockStands runModel initialisedModel joined isTick stretchIn spanOf failedFlight failedDifference failedFlightModel
 groups-held = refl

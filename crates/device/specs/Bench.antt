@@ -49,17 +49,17 @@ abbrev pair : Model → ℕ → List ℕ
 pair m int = registerWord m int ∷ registerWord m (int + 1) ∷ []
 
 -- the date, the time and s
-abbrev setsOwnBit : Clock → List ℕ
-setsOwnBit c = c .year ∷ c .month ∷ c .date ∷ c .hour ∷ c .minute ∷ c .second ∷ c .ticks .0 ∷ []
+abbrev dateAndTime : Clock → List ℕ
+dateAndTime c = c .year ∷ c .month ∷ c .date ∷ c .hour ∷ c .minute ∷ c .second ∷ c .ticks .0 ∷ []
 
 -- February 29 of a year, whose two digits are the low byte of 33h
 abbrev leapDay : ℕ → ℕ
 leapDay year = flag (wordsValid 0 0 0x0129 (0x0200 + year) (ticks 0))
 
 -- a schedule after n ticks, and the ticks of n, t gone before, in which it starts a measurement
-unfoldable pub modelTicked : ℕ → Schedule → Schedule
-modelTicked zero k = k
-modelTicked (suc n) k = modelTicked n (tickSchedule k)
+unfoldable pub awaitedFor : ℕ → Schedule → Schedule
+awaitedFor zero k = k
+awaitedFor (suc n) k = awaitedFor n (tickSchedule k)
 
 unfoldable pub startTicks : ℕ → ℕ → List ℕ → Schedule → List ℕ
 startTicks zero t found k = found
@@ -121,7 +121,7 @@ bench =
     record {
       number = 7;
       given =
-          setsOwnBit
+          dateAndTime
           (tickClock
           (record {
             year = 99;
@@ -152,10 +152,10 @@ bench =
     record {
       number = 10;
       given =
-          flag (isAwaited (modelTicked 8191 (startSingle noSchedule))) ∷
-          flag (fails (modelTicked 8190 (startSingle noSchedule))) ∷
-          flag (fails (modelTicked 8191 (startSingle noSchedule))) ∷
-          flag (isAwaited (modelTicked 8192 (startSingle noSchedule))) ∷
+          flag (isAwaited (awaitedFor 8191 (startSingle noSchedule))) ∷
+          flag (fails (awaitedFor 8190 (startSingle noSchedule))) ∷
+          flag (fails (awaitedFor 8191 (startSingle noSchedule))) ∷
+          flag (isAwaited (awaitedFor 8192 (startSingle noSchedule))) ∷
           [];
       wanted = 1 ∷ 0 ∷ 1 ∷ 0 ∷ [];
     } ∷

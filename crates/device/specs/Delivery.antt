@@ -7,7 +7,8 @@ use Rattle.unit.specs.Choice.{pick, both, negate}
 use Rattle.unit.specs.declared.Quanta.{Quanta}
 use Rattle.setup.specs.Setup.{eachInterrupt}
 use Rattle.hit.specs.Words.{average, filled, portPairs, plusEach}
-use Rattle.hit.specs.Difference.{differenceWord, biased}
+use Rattle.hit.specs.Difference.{differenceWord}
+use Rattle.hit.specs.Biased.{biased}
 use Rattle.device.specs.declared.Status.{Status}
 use Rattle.device.specs.declared.Flight.{Flight}
 use Rattle.device.specs.declared.Temperature.{Temperature}

@@ -9,18 +9,18 @@ use Rattle.device.specs.Call.{Call, transaction, tick, flight, temperatu
 use Rattle.device.specs.History.{Entry, isRefusal, after, log}
 
 -- after an accepted call, by its first byte: 04h Reset, 05h Initialize, or any other, which changes nothing
-unfoldable pub readyGiven : Call → Bool → Bool
-readyGiven (transaction f o x) initialised = pick (eqb (opcode f) 0x04) false (pick (eqb (opcode f) 0x05) true initialised)
-readyGiven tick initialised = initialised
-readyGiven (flight u d) initialised = initialised
-readyGiven (temperature w) initialised = initialised
-readyGiven (stretch n) initialised = initialised
+unfoldable pub initialisedBy : Call → Bool → Bool
+initialisedBy (transaction f o x) initialised = pick (eqb (opcode f) 0x04) false (pick (eqb (opcode f) 0x05) true initialised)
+initialisedBy tick initialised = initialised
+initialisedBy (flight u d) initialised = initialised
+initialisedBy (temperature w) initialised = initialised
+initialisedBy (stretch n) initialised = initialised
 
 -- what the last accepted 04h or 05h says: a refused call says nothing
-unfoldable pub lastReady : List Entry → Bool → Bool
-lastReady [] initialised = initialised
-lastReady (e ∷ es) initialised = lastReady es (pick (isRefusal (e .answer)) initialised (readyGiven (e .call) initialised))
+unfoldable pub lastInitialised : List Entry → Bool → Bool
+lastInitialised [] initialised = initialised
+lastInitialised (e ∷ es) initialised = lastInitialised es (pick (isRefusal (e .answer)) initialised (initialisedBy (e .call) initialised))
 
 -- On a model that grew from a fresh one by any list of calls, refused ones among them; a fresh one is not initialised.
 abbrev pub InitialisedClaim : Type 0
-InitialisedClaim = (cs : List Call) → (after freshModel cs) .initialised ≡ lastReady (log freshModel cs) false
+InitialisedClaim = (cs : List Call) → (after freshModel cs) .initialised ≡ lastInitialised (log freshModel cs) false

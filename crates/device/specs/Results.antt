@@ -5,7 +5,8 @@ use mathlib.Core.List.{List}
 use Rattle.unit.specs.Choice.{pick}
 use Rattle.unit.specs.declared.Quanta.{Quanta}
 use Rattle.hit.specs.Words.{average, filled, failedPairs, plusEach}
-use Rattle.hit.specs.Difference.{differenceWord, biased}
+use Rattle.hit.specs.Difference.{differenceWord}
+use Rattle.hit.specs.Biased.{biased}
 use Rattle.device.specs.declared.Schedule.{Schedule}
 use Rattle.device.specs.declared.Flight.{Flight}
 use Rattle.device.specs.declared.Temperature.{Temperature}

@@ -1,14 +1,15 @@
 -- What the tests of a frame mean in plain numbers.
 use Prim.Native.Nat.{ℕ, _+_, _-_, _*_, _/_, _%_, _≤_, _<_}
 use native.Mathlib.Omega.{arith}
-use mathlib.Core.Path.{_≡_, refl}
+use mathlib.Core.Path.{_≡_, refl, sym}
 use mathlib.Core.Logic.{_↔_, _⊎_, inl, inr, ⊎-elim}
 use mathlib.Core.Bool.{true, false}
 use mathlib.Core.List.{List, [], _∷_}
 use lib.ListN.{getD}
-use lib.Dec.{ltb}
-use Rattle.unit.specs.Choice.{pick}
-use Rattle.unit.proofs.Cases.{by-test, by-ltb, by-eqb, holds, fails, refuted}
+use lib.Dec.{ltb, leb}
+use borrow.Author.Tests.{lt-ltb, le-ltb}
+use Rattle.unit.specs.Choice.{both}
+use Rattle.unit.proofs.Cases.{by-test, by-ltb, by-leb, by-eqb, holds, fails, refuted}
 use Rattle.frame.specs.Frame.{isCommand, isWrite, isRead, isFlash, flashFurther, notWhole, pastEnd, wordAt}
 use Rattle.frame.specs.Decoding.{writeFrame, readFrame}
 use Rattle.frame.specs.declared.Decoded.the-variants.{Read, Write}
@@ -47,15 +48,13 @@ pub flash-lengths : (1 + flashFurther 0x90) ∷ (1 + flashFurther 0x10) ∷ (1 +
 unfolding flashFurther
 flash-lengths = refl
 
-within :
-    (low high op : ℕ) →
-    (pick (ltb op low) false (pick (ltb high op) false true) ≡ true) ↔ ((low ≤ op) × (op ≤ high))
+within : (low high op : ℕ) → (both (leb low op) (leb op high) ≡ true) ↔ ((low ≤ op) × (op ≤ high))
 within low high op =
-    by-ltb op low
+    by-leb low op
+    (λ h t. by-leb op high
+    (λ k u. rw (t, u) (holds (omega arith)))
+    (λ k u. rw (t, u) (fails false (λ m. omega arith))))
     (λ h t. rw t (fails false (λ m. omega arith)))
-    (λ h t. by-ltb high op
-    (λ k u. rw (t, u) (fails false (λ m. omega arith)))
-    (λ k u. rw (t, u) (holds (omega arith))))
 
 -- "30h to 43h write"
 pub write-means : (op : ℕ) → (isWrite op ≡ true) ↔ ((0x30 ≤ op) × (op ≤ 0x43))
@@ -119,11 +118,19 @@ whole-means further =
 pub end-means : (op words end : ℕ) → (pastEnd op words end ≡ false) ↔ (op + words ≤ end)
 unfolding pastEnd
 end-means op words end =
-    by-ltb end words
-    (λ h t. rw t (fails true (λ m. omega arith)))
-    (λ h t. by-ltb (end - words) op
-    (λ k u. rw (t, u) (fails true (λ m. omega arith)))
-    (λ k u. rw (t, u) (holds (omega arith))))
+    by-ltb end (op + words) (λ h t. rw t (fails true (λ m. omega arith))) (λ h t. rw t (holds (omega arith)))
+
+-- the same by a difference, so that no sum can overflow
+pub past-all : (op words end : ℕ) → end < words → true ≡ pastEnd op words end
+unfolding pastEnd
+past-all op words end h = sym (lt-ltb end (op + words) (omega arith))
+
+pub past-rest : (op words end : ℕ) → words ≤ end → ltb (end - words) op ≡ pastEnd op words end
+unfolding pastEnd
+past-rest op words end h =
+    by-ltb end (op + words)
+    (λ l t. rw (t, lt-ltb (end - words) op (omega arith)))
+    (λ l t. rw (t, le-ltb (end - words) op (omega arith)))
 
 -- an accepted write or read: "n ≥ 1 words", no "write past 43h" or "read past FFh", no "output buffer below 2n bytes"
 pub write-accepted :

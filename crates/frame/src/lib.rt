@@ -32,7 +32,7 @@ fn is_command(op: u32) -> bool
     if op == 0x06 {
         return false;
     }
-    if op == 0x0b { false } else { true }
+    op != 0x0b
 }
 
 fn is_write(op: u32) -> bool
@@ -41,7 +41,7 @@ fn is_write(op: u32) -> bool
     if op < 0x30 {
         return false;
     }
-    if 0x43 < op { false } else { true }
+    op <= 0x43
 }
 
 fn is_read(op: u32) -> bool
@@ -50,7 +50,7 @@ fn is_read(op: u32) -> bool
     if op < 0xb0 {
         return false;
     }
-    if 0xff < op { false } else { true }
+    op <= 0xff
 }
 
 fn is_flash(op: u32) -> bool
@@ -62,7 +62,7 @@ fn is_flash(op: u32) -> bool
     if op == 0x10 {
         return true;
     }
-    if op == 0x13 { true } else { false }
+    op == 0x13
 }
 
 fn flash_further(op: u32) -> usize
@@ -78,7 +78,7 @@ fn not_whole(further: usize) -> bool
     if further == 0 {
         return true;
     }
-    if further % 2 == 1 { true } else { false }
+    further % 2 == 1
 }
 
 // Whether so many words from a register on go past the register before the end.
@@ -88,11 +88,7 @@ fn past_end(op: u32, words: usize, end: u32) -> bool
     if (end as usize) < words {
         return true;
     }
-    if (end as usize) - words < op as usize {
-        true
-    } else {
-        false
-    }
+    (end as usize) - words < op as usize
 }
 
 fn write_frame(op: u32, further: usize) -> Decoded

@@ -11,11 +11,11 @@ use mir.Syntax.{w32}
 use mir.Val.{SFits, toZ}
 use mir.Facts.{toZ-ofZ}
 use Rattle.unit.specs.Choice.{pick}
-use Rattle.unit.proofs.Cases.{by-ltb}
+use Rattle.unit.proofs.Cases.{by-ltb, by-eqb}
 use Rattle.unit.specs.declared.Quanta.{Quanta}
-use Rattle.hit.specs.Difference.{differenceWord, biased, differenceMean, portMean}
-use Rattle.hit.specs.Mean.{All, sum, Averages, InRange, difference, total, floorMean, differenceBits}
-use Rattle.hit.specs.Mean.{floorMeanWords, meanAverages, biasedTotal}
+use Rattle.hit.specs.Mean.{All, sum, Averages, difference, total, floorMean, differenceBits, floorMeanWords, meanAverages}
+use Rattle.hit.specs.Difference.{differenceWord, differenceMean, portMean}
+use Rattle.hit.specs.Biased.{biased, InRange, biasedTotal}
 use Rattle.hit.proofs.Sum.{sum-short}
 use Rattle.hit.proofs.Integer.{sub-sum, sub-same, shr-sub}
 
@@ -48,7 +48,19 @@ total-biased (a ∷ good) h =
     rw (total-biased good (h .1), sub-sum)
     (sub-same (a .up + s) (a .down + n) (a .up + 2147483648 - a .down + s) (suc (length good) * 2147483648) (omega arith))
 
--- a mean with 2^31 added, as a word
+-- the word of a mean, from the mean with 2^31 added
+word-of : (q : ℕ) → differenceBits (subℕ q 2147483648) % 4294967296 ≡ (q % 4294967296 + 2147483648) % 4294967296
+unfolding differenceBits
+word-of q = by-ltb q 2147483648 (λ l t. rw t (omega arith)) (λ l t. rw t (omega arith))
+
+-- The mean as the code has it: the floor of a sum without a sign is its quotient.
+pub mean-unsigned :
+    (s n : ℕ) →
+    differenceMean s n ≡ pick (eqb n 0) 0 ((s / n % 4294967296 + 2147483648) % 4294967296)
+unfolding differenceMean
+mean-unsigned s n =
+    by-eqb n 0 (λ e t. rw t) (λ e t. rw (t, shr-sub s n 2147483648 (omega arith)) (word-of (s / n)))
+
 rebased : (q : ℕ) → q ≤ 4294967295 → (q % 4294967296 + 2147483648) % 4294967296 ≡ differenceBits (subℕ q 2147483648)
 unfolding differenceBits
 rebased q h = by-ltb q 2147483648 (λ l t. rw t (omega arith)) (λ l t. rw t (omega arith))
@@ -75,7 +87,7 @@ pub mean-word :
 unfolding differenceMean meanAverages floorMean differenceBits
 mean-word [] h = refl
 mean-word (a ∷ good) h =
-    rw (eqb·suc-zero (length good), mean-quotient a good h)
+    rw (mean-unsigned (biasedTotal (a ∷ good)) (suc (length good)), eqb·suc-zero (length good), mean-quotient a good h)
     (rebased (biasedTotal (a ∷ good) / suc (length good)) (quotient-most a good h))
 
 -- the mean is in the range of a word, which gives it back

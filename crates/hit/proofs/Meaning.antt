@@ -19,7 +19,8 @@ use Rattle.unit.specs.declared.Quanta.{Quanta}
 use Rattle.hit.specs.Limit.{lateFrom, openFrom, shortBelow, anyWord, anyFrom, anyBelow, anyFault}
 use Rattle.hit.specs.Words.{average, sixTotal}
 use Rattle.hit.specs.Mean.{All, sum, Averages, difference, total, floorMean, floorMeanWords, differenceBits}
-use Rattle.hit.proofs.Sum.{neither, all-below, all-above}
+use Rattle.unit.proofs.Joined.{neither}
+use Rattle.hit.proofs.Sum.{all-below, all-above}
 use Rattle.hit.proofs.Integer.{sub-pos}
 
 -- "TOF_DIFF = AVGUP − AVGDN"

@@ -10,7 +10,8 @@ use Rattle.unit.specs.declared.Quanta.{Quanta}
 use Rattle.hit.specs.Limit.{openFrom, shortBelow, anyFrom, anyBelow, anyFault}
 use Rattle.hit.specs.Words.{wordOrZero, fourWords, portPair, portPairs, failedPorts}
 use Rattle.hit.specs.Mean.{All}
-use Rattle.hit.proofs.Sum.{neither, all-below, all-above}
+use Rattle.unit.proofs.Joined.{neither}
+use Rattle.hit.proofs.Sum.{all-below, all-above}
 
 pub open-below : (cycle : ℕ) → cycle < 4 → openFrom cycle .0 < 2147483648
 unfolding openFrom

@@ -7,7 +7,7 @@ use lib.Pow.{pow-mono}
 use Rattle.unit.proofs.Cases.{by-ltb}
 use Rattle.unit.proofs.Rows.{agree, agree-at, past-last}
 use Rattle.hit.specs.Limit.{lateFrom}
-use Rattle.hit.specs.Timeout.{timeoutTable, timeoutRow}
+use Rattle.setup.specs.Table11.{timeoutTable, timeoutRow}
 
 -- a row's microseconds in quanta, no further than the least word that is no hit
 abbrev pub bound : ℕ → ℕ

@@ -9,7 +9,7 @@ use lib.ListN.{length}
 use lib.Dec.{leb, ltb}
 use lib.Pow.{pow-pos}
 use borrow.Author.Tests.{leb-false, ltb-false}
-use Rattle.unit.specs.Choice.{either}
+use Rattle.unit.proofs.Joined.{neither}
 use Rattle.unit.specs.declared.Quanta.{Quanta}
 use Rattle.hit.specs.Limit.{anyWord, anyFrom, anyBelow, lateFrom}
 use Rattle.hit.specs.Words.{wordOrZero, sixWords, sixTotal}
@@ -25,11 +25,6 @@ six-total (a ∷ b ∷ c ∷ d ∷ []) h = omega arith
 six-total (a ∷ b ∷ c ∷ d ∷ e ∷ []) h = omega arith
 six-total (a ∷ b ∷ c ∷ d ∷ e ∷ f ∷ []) h = omega arith
 six-total (a ∷ b ∷ c ∷ d ∷ e ∷ f ∷ g ∷ ws) h = absurd (omega arith)
-
--- neither of two tests holds
-pub neither : (a b : Bool) → either a b ≡ false → (a ≡ false) × (b ≡ false)
-neither true b e = (e, cc)
-neither false b e = (refl, e)
 
 -- where no word meets a test, each fails it; so it is below a limit that none is at
 none-meets : (test : ℕ → Bool) (ws : List ℕ) → anyWord test ws ≡ false → All (λ w. test w ≡ false) ws

@@ -1,5 +1,5 @@
 pub mod Limit
 pub mod Words
-pub mod Difference
 pub mod Mean
-pub mod Timeout
+pub mod Difference
+pub mod Biased

@@ -1,12 +1,11 @@
 -- Sums, differences and means in plain arithmetic, over the lists of what was good.
-use Prim.Native.Nat.{ℕ, _+_, _/_, _<_}
+use Prim.Native.Nat.{ℕ, _+_, _/_}
 use mathlib.Core.List.{List, [], _∷_, map}
 use lib.ListN.{length}
 use lib.IntN.{ℤ, pos, subℕ, _+ℤ_}
 use lib.Signed.{shrZ}
 use mir.Syntax.{w32}
 use mir.Val.{ofZ}
-use Rattle.hit.specs.Difference.{biased}
 
 -- a statement of each element of a list
 abbrev pub All : {A : Type 0} → (A → Type 0) → List A → Type 0
@@ -21,10 +20,6 @@ sum (w ∷ ws) = w + sum ws
 pub record Averages : Type 0 where
   pub up : ℕ
   pub down : ℕ
-
--- both below 2^31, as means of words that are hits: "2^31 or more means no hit"
-abbrev pub InRange : Averages → Type 0
-InRange a = (a .up < 2147483648) × (a .down < 2147483648)
 
 -- "TOF_DIFF = AVGUP − AVGDN"
 unfoldable pub difference : Averages → ℤ
@@ -52,8 +47,3 @@ floorMeanWords (w ∷ ws) = sum (w ∷ ws) / length (w ∷ ws)
 -- the mean of the differences of good measurements
 unfoldable pub meanAverages : List Averages → ℤ
 meanAverages good = floorMean (map difference good)
-
--- the sum that a machine keeps of them: each difference with 2^31 added
-unfoldable pub biasedTotal : List Averages → ℕ
-biasedTotal [] = 0
-biasedTotal (a ∷ rest) = biased (record { 0 = a .up }) (record { 0 = a .down }) + biasedTotal rest

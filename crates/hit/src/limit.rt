@@ -1,35 +1,27 @@
 // The words that are late, open or short.
 ghost use mathlib.Core.Path.{_≡_};
 ghost use Rattle.hit.specs.Limit.{lateFrom, openFrom, shortBelow, anyFrom, anyBelow};
-ghost use Rattle.hit.specs.Timeout.{timeoutRow};
-use crate::words::wide;
 use unit::Quanta;
+use unit::wide;
 
-// The least late word, by the TIMOUT code. A microsecond is 4 periods of 4 MHz, 262,144 quanta; 2^31 and more are no hit.
+// The least word that is no hit, 2^31.
+const NO_HIT: u64 = 2147483648;
+
+// Quanta in a microsecond: 4 periods of 4 MHz, 65,536 each.
+const MICROSECOND: u64 = 4 * 65536;
+
+// The least word that is no short: 8 µs.
+const SHORT: u64 = 32 * 65536;
+
+// The least late word, by the TIMOUT code.
 pub fn late_from(timeout: u32) -> Quanta
     ensures { λ r. ⌜ r ≡ lateFrom timeout ⌝ }
 {
-    let bound = timeout_row(timeout) as u64 * 262144;
-    if 2147483648 < bound {
-        return Quanta(2147483648);
+    let bound = setup::timeout_row(timeout) as u64 * MICROSECOND;
+    if NO_HIT < bound {
+        return Quanta(NO_HIT);
     }
     Quanta(bound)
-}
-
-// TIMOUT[2:0] as data sheet 000's Table 11 prints it: the timeout in microseconds.
-pub fn timeout_row(timeout: u32) -> u32
-    ensures { λ r. ⌜ r ≡ timeoutRow timeout ⌝ }
-{
-    match timeout {
-        0b000 => 128,
-        0b001 => 256,
-        0b010 => 512,
-        0b011 => 1024,
-        0b100 => 2048,
-        0b101 => 4096,
-        0b110 => 8192,
-        _ => 16384, // 111b
-    }
 }
 
 // The least open word, by the PORTCYC code.
@@ -43,7 +35,7 @@ pub fn open_from(cycle: u32) -> Quanta
 pub fn short_below() -> Quanta
     ensures { λ r. ⌜ r ≡ shortBelow ⌝ }
 {
-    Quanta(2097152)
+    Quanta(SHORT)
 }
 
 // Whether a word is at least the limit.

@@ -6,6 +6,10 @@ ghost use Rattle.unit.specs.Choice.{pick};
 ghost use Rattle.hit.specs.Words.{wordOrZero, sixWords, fourWords, sixTotal, average, filled, failedPairs, failedPorts, plusEach, portPair, portPairs};
 use crate::limit::short_below;
 use unit::Quanta;
+use unit::wide;
+
+// FFFFh FFFFh, the pair of a register that failed or is open.
+const FAILED: u32 = 0xffffffff;
 
 fn word_or_zero(words: &[u32], i: usize) -> u32
     ensures { λ r. ⌜ r ≡ wordOrZero (now (words .entry)) i ⌝ }
@@ -35,12 +39,6 @@ pub fn four_words(words: &[u32]) -> [u32; 4]
     let c = word_or_zero(words, 2);
     let d = word_or_zero(words, 3);
     [a, b, c, d]
-}
-
-pub fn wide(x: u32) -> u64
-    ensures { λ r. ⌜ (r ≡ x) × (r < 4294967296) ⌝ }
-{
-    x as u64
 }
 
 fn six_total(hits: [u32; 6]) -> u64
@@ -76,15 +74,7 @@ pub fn filled(hits: [u32; 6], mean: Quanta) -> [u32; 7]
 pub fn failed_pairs() -> [u32; 7]
     ensures { λ r. ⌜ r ≡ failedPairs ⌝ }
 {
-    [
-        4294967295,
-        4294967295,
-        4294967295,
-        4294967295,
-        4294967295,
-        4294967295,
-        4294967295,
-    ]
+    [FAILED, FAILED, FAILED, FAILED, FAILED, FAILED, FAILED]
 }
 
 // A port's pair: FFFFh FFFFh where the word is open, 0000h 0000h where it is short.
@@ -93,7 +83,7 @@ pub fn port_pair(limit: Quanta, word: u32) -> u32
 {
     let short = short_below();
     if limit.0 <= word as u64 {
-        return 4294967295;
+        return FAILED;
     }
     if (word as u64) < short.0 {
         return 0;
@@ -114,7 +104,7 @@ pub fn port_pairs(limit: Quanta, w: [u32; 4]) -> [u32; 4]
 pub fn failed_ports() -> [u32; 4]
     ensures { λ r. ⌜ r ≡ failedPorts ⌝ }
 {
-    [4294967295, 4294967295, 4294967295, 4294967295]
+    [FAILED, FAILED, FAILED, FAILED]
 }
 
 fn plus(sum: u64, word: u32) -> u64

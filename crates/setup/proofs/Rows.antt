@@ -6,7 +6,7 @@ use mathlib.Core.Path.{_≡_, refl}
 use mathlib.Core.List.{List}
 use Rattle.unit.proofs.Rows.{agree, agree-at}
 use Rattle.setup.specs.Setup.{wordOf, hitCount}
-use Rattle.setup.specs.Stop.{stopTable, stopRow}
+use Rattle.setup.specs.Table11.{stopTable, stopRow}
 use Rattle.setup.proofs.Laws.{hits-are}
 
 -- "H = STOP + 1 and at most 6"

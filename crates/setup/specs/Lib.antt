@@ -1,2 +1,2 @@
 pub mod Setup
-pub mod Stop
+pub mod Table11

@@ -3,7 +3,7 @@ ghost use mathlib.Core.Path.{_≡_};
 ghost use Prim.Native.Nat.{_<_};
 ghost use lib.ListN.{getD};
 ghost use Rattle.setup.specs.Setup.{factory, alarmWord, hitCount, timeout, portCycle, flightUnset, temperatureUnset, eventContinuous, differencePeriod, differenceCount, temperaturePeriod, temperatureCount, interruptEnabled, eachInterrupt, clockStands, alarmMode};
-ghost use Rattle.setup.specs.Stop.{stopRow};
+ghost use Rattle.setup.specs.Table11.{stopRow, timeoutRow};
 use unit::Ticks;
 
 // The word at a place of the set-up.
@@ -11,13 +11,7 @@ pub fn word(s: [u16; 16], i: usize) -> u32
     requires { ⌜ i < 16 ⌝ }
     ensures { λ r. ⌜ r ≡ getD s i 0 ⌝ }
 {
-    wide(s[i])
-}
-
-fn wide(x: u16) -> u32
-    ensures { λ r. ⌜ r ≡ x ⌝ }
-{
-    x as u32
+    s[i] as u32
 }
 
 // The factory values.
@@ -56,6 +50,22 @@ pub fn stop_row(stop: u32) -> u32
     }
 }
 
+// TIMOUT[2:0] as data sheet 000's Table 11 prints it: the timeout in microseconds.
+pub fn timeout_row(timeout: u32) -> u32
+    ensures { λ r. ⌜ r ≡ timeoutRow timeout ⌝ }
+{
+    match timeout {
+        0b000 => 128,
+        0b001 => 256,
+        0b010 => 512,
+        0b011 => 1024,
+        0b100 => 2048,
+        0b101 => 4096,
+        0b110 => 8192,
+        _ => 16384, // 111b
+    }
+}
+
 // TIMOUT.
 pub fn timeout(s: [u16; 16]) -> u32
     ensures { λ r. ⌜ r ≡ timeout s ⌝ }
@@ -78,40 +88,28 @@ pub fn flight_unset(s: [u16; 16]) -> bool
     if w / 256 % 256 == 0 {
         return true;
     }
-    if w / 16 % 16 == 0 { true } else { false }
+    w / 16 % 16 == 0
 }
 
 // TP does not select all four ports.
 pub fn temperature_unset(s: [u16; 16]) -> bool
     ensures { λ r. ⌜ r ≡ temperatureUnset s ⌝ }
 {
-    if word(s, 12) / 32 % 4 == 3 {
-        false
-    } else {
-        true
-    }
+    word(s, 12) / 32 % 4 != 0b11
 }
 
 // EOSC.
 pub fn clock_stands(s: [u16; 16]) -> bool
     ensures { λ r. ⌜ r ≡ clockStands s ⌝ }
 {
-    if word(s, 15) / 16 % 2 == 1 {
-        true
-    } else {
-        false
-    }
+    word(s, 15) / 16 % 2 == 1
 }
 
 // ET_CONT.
 pub fn event_continuous(s: [u16; 16]) -> bool
     ensures { λ r. ⌜ r ≡ eventContinuous s ⌝ }
 {
-    if word(s, 14) / 256 % 2 == 1 {
-        true
-    } else {
-        false
-    }
+    word(s, 14) / 256 % 2 == 1
 }
 
 pub fn difference_period(s: [u16; 16]) -> Ticks
@@ -142,22 +140,14 @@ pub fn temperature_count(s: [u16; 16]) -> u8
 pub fn interrupt_enabled(s: [u16; 16]) -> bool
     ensures { λ r. ⌜ r ≡ interruptEnabled s ⌝ }
 {
-    if word(s, 14) / 512 % 2 == 1 {
-        true
-    } else {
-        false
-    }
+    word(s, 14) / 512 % 2 == 1
 }
 
 // CONT_INT.
 pub fn each_interrupt(s: [u16; 16]) -> bool
     ensures { λ r. ⌜ r ≡ eachInterrupt s ⌝ }
 {
-    if word(s, 14) / 128 % 2 == 1 {
-        true
-    } else {
-        false
-    }
+    word(s, 14) / 128 % 2 == 1
 }
 
 // AM.

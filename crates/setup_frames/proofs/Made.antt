@@ -6,6 +6,7 @@ use mathlib.Core.Path.{_≡_, refl, sym}
 use lib.ListN.{drop}
 use lib.Dec.{ltb, leb, eqb}
 use Rattle.unit.specs.Choice.{pick}
+use Rattle.unit.proofs.Joined.{both-true}
 use Rattle.unit.proofs.Cases.{by-test}
 use Rattle.calendar.specs.Words.{alarmValid, wordsValid}
 use Rattle.setup.specs.Setup.{factory, alarmWord}
@@ -21,7 +22,7 @@ use Rattle.device.specs.Call.{Call, transaction, tick, flight, temperature, str
 use Rattle.device.specs.Call.{badCalendar, Verdict, accepted, refused, verdict}
 use Rattle.device.specs.Reply.{anyLate, portFault, acceptedModel, reply, replyBy}
 use Rattle.device.specs.History.{after}
-use Rattle.device.proofs.Table.{picked, both-true, negated, none-holds}
+use Rattle.device.proofs.Table.{picked, negated, none-holds}
 use Rattle.device.proofs.Stretch.{setup-ticked}
 use Rattle.setup_frames.specs.Frames.{frames}
 use Rattle.setup_frames.specs.Sending.{sent, setupFrom, Words}

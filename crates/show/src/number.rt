@@ -113,7 +113,7 @@ fn field(w: u32, x: u8) -> u32 {
         b'l' => w / 16 % 16, // DPL
         b'r' => w / 16 % 16 + 1, // what 2 MHz is divided by
         b'h' => setup::stop_row(w / 8192 % 8), // STOP
-        b't' => hit::limit::timeout_row(w % 8), // TIMOUT in microseconds
+        b't' => setup::timeout_row(w % 8), // TIMOUT in microseconds
         b'f' => (w / 4096 % 16 + 1) / 2, // TDF in seconds
         b'g' => (w / 4096 % 16 + 1) % 2 * 5, // and its decimal
         b'n' => w / 128 % 32 + 1, // TDM

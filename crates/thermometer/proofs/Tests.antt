@@ -10,6 +10,7 @@ use lib.Dec.{ltb, leb, eqb}
 use borrow.Author.Tests.{ltb-true, leb-true, eqb-true, lt-ltb, le-leb, eq-eqb}
 use Rattle.unit.specs.Choice.{either, both}
 use Rattle.unit.proofs.Cases.{fails}
+use Rattle.unit.proofs.Joined.{both-true}
 
 pub eqb-means : (a b : ℕ) → (eqb a b ≡ true) ↔ (a ≡ b)
 eqb-means a b = (eqb-true a b, eq-eqb a b)
@@ -30,9 +31,6 @@ either-means false t p q = (
 pub both-means : {P Q : Type 0} (s t : Bool) → ((s ≡ true) ↔ P) → ((t ≡ true) ↔ Q) → (both s t ≡ true) ↔ (P × Q)
 both-means true t p q = (λ h. (p .0 refl, q .0 h), λ h. q .1 (h .1))
 both-means false t p q = (λ h. absurd (fails false (λ (z : ⊥). z) .0 h), λ h. p .1 (h .0))
-
-both-true : (s t : Bool) → both s t ≡ true → (s ≡ true) × (t ≡ true)
-both-true s t h = both-means s t (λ e. e, λ e. e) (λ e. e, λ e. e) .0 h
 
 -- the test f passes at each entry of the list and its place, counted from i
 abbrev pub every : (ℕ → ℕ → Bool) → ℕ → List ℕ → Bool

@@ -8,18 +8,13 @@ ghost use Rattle.thermometer.specs.Degrees.{resistance, interpolated, Be
 mod table;
 
 use table::PT1000;
+use unit::wide;
 
 pub enum Reading {
     // Thousandths of a degree.
     Thousandths(u32),
     // The number of the refusal.
     Refused(u32),
-}
-
-fn wide(x: u32) -> u64
-    ensures { λ r. ⌜ (r ≡ x) × (r < 4294967296) ⌝ }
-{
-    x as u64
 }
 
 // Milliohms, by the reference of 1,000 ohms.

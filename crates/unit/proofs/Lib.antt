@@ -1,4 +1,5 @@
 pub mod Tests
 pub mod Cases
+pub mod Joined
 pub mod Rows
 pub mod Bits

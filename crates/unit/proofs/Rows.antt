@@ -9,15 +9,12 @@ use lib.Dec.{eqb}
 use borrow.Author.Tests.{eqb-true}
 use Rattle.unit.specs.Choice.{both}
 use Rattle.unit.proofs.Cases.{by-eqb}
+use Rattle.unit.proofs.Joined.{both-true}
 
 -- the rows and the rule give the same at each value below n
 abbrev pub agree : (ℕ → ℕ) → (ℕ → ℕ) → ℕ → Bool
 agree rows rule zero = true
 agree rows rule (suc n) = both (eqb (rows n) (rule n)) (agree rows rule n)
-
-both-true : (a b : Bool) → both a b ≡ true → (a ≡ true) × (b ≡ true)
-both-true true b e = (refl, e)
-both-true false b e = let z : _≡_ {A = ℕ} 0 1 = cc in absurd (omega arith)
 
 pub agree-at : (rows rule : ℕ → ℕ) (n : ℕ) → agree rows rule n ≡ true → (k : ℕ) → k < n → rows k ≡ rule k
 agree-at f g zero e k h = absurd (omega arith)

@@ -13,9 +13,5 @@ returns-2 : tie.Need-returns-2
 unfolding isRead
 returns-2 c = search (needs, tests)
 
-returns-3 : tie.Need-returns-3
-unfolding isRead
-returns-3 c = search (needs, tests)
-
 pub is-read-spec : {M : Type 1} → statement M
-is-read-spec = tie.close (tie.spec returns returns-2 returns-3)
+is-read-spec = tie.close (tie.spec returns returns-2)

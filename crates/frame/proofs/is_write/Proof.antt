@@ -13,9 +13,5 @@ returns-2 : tie.Need-returns-2
 unfolding isWrite
 returns-2 c = search (needs, tests)
 
-returns-3 : tie.Need-returns-3
-unfolding isWrite
-returns-3 c = search (needs, tests)
-
 pub is-write-spec : {M : Type 1} → statement M
-is-write-spec = tie.close (tie.spec returns returns-2 returns-3)
+is-write-spec = tie.close (tie.spec returns returns-2)

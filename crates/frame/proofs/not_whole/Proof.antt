@@ -13,9 +13,5 @@ returns-2 : tie.Need-returns-2
 unfolding notWhole
 returns-2 c = search (needs, tests)
 
-returns-3 : tie.Need-returns-3
-unfolding notWhole
-returns-3 c = search (needs, tests)
-
 pub not-whole-spec : {M : Type 1} → statement M
-not-whole-spec = tie.close (tie.spec returns returns-2 returns-3)
+not-whole-spec = tie.close (tie.spec returns returns-2)

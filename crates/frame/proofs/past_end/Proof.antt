@@ -1,24 +1,17 @@
 -- `frame::past_end` meets its contract.
-use Rattle.unit.proofs.Tests.{tests}
-use Rattle.frame.specs.Frame.{pastEnd}
 use borrow.Author.Needs.{needs}
+use Rattle.frame.proofs.Laws.{past-all, past-rest}
 use Rattle.frame.proofs.past_end.Statement.{statement}
 use Rattle.frame.proofs.past_end.Tie as tie
 
 returns : tie.Need-returns
-unfolding pastEnd
-returns c = search (needs, tests)
+returns c = past-all (c .before .args .op) _ _ (c .if1 .taken)
 
-sub-if2 : tie.Need-sub-if2
-sub-if2 c = search needs
+sub-result : tie.Need-sub-result
+sub-result c = search needs
 
 returns-2 : tie.Need-returns-2
-unfolding pastEnd
-returns-2 c = search (needs, tests)
-
-returns-3 : tie.Need-returns-3
-unfolding pastEnd
-returns-3 c = search (needs, tests)
+returns-2 c = past-rest _ _ _ (c .if1 .left)
 
 pub past-end-spec : {M : Type 1} → statement M
-past-end-spec = tie.close (tie.spec returns sub-if2 returns-2 returns-3)
+past-end-spec = tie.close (tie.spec returns sub-result returns-2)

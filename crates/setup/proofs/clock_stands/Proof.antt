@@ -1,5 +1,4 @@
 -- `setup::clock_stands` meets its contract.
-use Rattle.unit.proofs.Tests.{tests}
 use Rattle.setup.specs.Setup.{clockStands}
 use borrow.Author.Needs.{needs}
 use Rattle.setup.proofs.clock_stands.Statement.{statement}
@@ -10,11 +9,7 @@ word-requires c κs = search needs
 
 returns : tie.Need-returns
 unfolding clockStands
-returns c = search (needs, tests, c .if1 .taken, ← c .before .word .ensures)
-
-returns-2 : tie.Need-returns-2
-unfolding clockStands
-returns-2 c = search (needs, tests, c .if1 .left, ← c .before .word .ensures)
+returns c = simp (← c .word .ensures)
 
 pub clock-stands-spec : {M : Type 1} → statement M
-clock-stands-spec = tie.close (tie.spec word-requires returns returns-2)
+clock-stands-spec = tie.close (tie.spec word-requires returns)

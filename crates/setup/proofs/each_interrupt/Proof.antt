@@ -1,5 +1,4 @@
 -- `setup::each_interrupt` meets its contract.
-use Rattle.unit.proofs.Tests.{tests}
 use Rattle.setup.specs.Setup.{eachInterrupt}
 use borrow.Author.Needs.{needs}
 use Rattle.setup.proofs.each_interrupt.Statement.{statement}
@@ -10,11 +9,7 @@ word-requires c κs = search needs
 
 returns : tie.Need-returns
 unfolding eachInterrupt
-returns c = search (needs, tests, c .if1 .taken, ← c .before .word .ensures)
-
-returns-2 : tie.Need-returns-2
-unfolding eachInterrupt
-returns-2 c = search (needs, tests, c .if1 .left, ← c .before .word .ensures)
+returns c = simp (← c .word .ensures)
 
 pub each-interrupt-spec : {M : Type 1} → statement M
-each-interrupt-spec = tie.close (tie.spec word-requires returns returns-2)
+each-interrupt-spec = tie.close (tie.spec word-requires returns)

@@ -1,5 +1,4 @@
 -- `setup::event_continuous` meets its contract.
-use Rattle.unit.proofs.Tests.{tests}
 use Rattle.setup.specs.Setup.{eventContinuous}
 use borrow.Author.Needs.{needs}
 use Rattle.setup.proofs.event_continuous.Statement.{statement}
@@ -10,11 +9,7 @@ word-requires c κs = search needs
 
 returns : tie.Need-returns
 unfolding eventContinuous
-returns c = search (needs, tests, c .if1 .taken, ← c .before .word .ensures)
-
-returns-2 : tie.Need-returns-2
-unfolding eventContinuous
-returns-2 c = search (needs, tests, c .if1 .left, ← c .before .word .ensures)
+returns c = simp (← c .word .ensures)
 
 pub event-continuous-spec : {M : Type 1} → statement M
-event-continuous-spec = tie.close (tie.spec word-requires returns returns-2)
+event-continuous-spec = tie.close (tie.spec word-requires returns)

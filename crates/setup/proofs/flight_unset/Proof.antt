@@ -14,11 +14,7 @@ returns c = search (needs, tests, c .if1 .taken, ← c .before .word .ensures)
 
 returns-2 : tie.Need-returns-2
 unfolding flightUnset
-returns-2 c = search (needs, tests, c .if2 .taken, c .before .if1 .left, ← c .before .before .word .ensures)
-
-returns-3 : tie.Need-returns-3
-unfolding flightUnset
-returns-3 c = search (needs, tests, c .if2 .left, c .before .if1 .left, ← c .before .before .word .ensures)
+returns-2 c = search (needs, tests, c .if1 .left, ← c .before .word .ensures)
 
 pub flight-unset-spec : {M : Type 1} → statement M
-flight-unset-spec = tie.close (tie.spec word-requires returns returns-2 returns-3)
+flight-unset-spec = tie.close (tie.spec word-requires returns returns-2)

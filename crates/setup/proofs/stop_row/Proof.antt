@@ -2,7 +2,7 @@
 use mathlib.Core.Path.{refl}
 use borrow.Author.Needs.{needs}
 use Rattle.unit.proofs.Rows.{past-last, untaken-from}
-use Rattle.setup.specs.Stop.{stopTable, stopRow}
+use Rattle.setup.specs.Table11.{stopTable, stopRow}
 use Rattle.setup.proofs.stop_row.Statement.{statement}
 use Rattle.setup.proofs.stop_row.Tie as tie
 

@@ -13,9 +13,5 @@ returns-2 : tie.Need-returns-2
 unfolding reaches
 returns-2 c = search (needs, tests)
 
-returns-3 : tie.Need-returns-3
-unfolding reaches
-returns-3 c = search (needs, tests)
-
 pub reaches-spec : {M : Type 1} → statement M
-reaches-spec = tie.close (tie.spec returns returns-2 returns-3)
+reaches-spec = tie.close (tie.spec returns returns-2)

@@ -9,9 +9,5 @@ returns : tie.Need-returns
 unfolding leap
 returns c = search (needs, tests)
 
-returns-2 : tie.Need-returns-2
-unfolding leap
-returns-2 c = search (needs, tests)
-
 pub leap-spec : {M : Type 1} → statement M
-leap-spec = tie.close (tie.spec returns returns-2)
+leap-spec = tie.close (tie.spec returns)

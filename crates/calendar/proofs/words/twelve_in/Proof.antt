@@ -9,9 +9,5 @@ returns : tie.Need-returns
 unfolding twelveIn
 returns c = search (needs, tests)
 
-returns-2 : tie.Need-returns-2
-unfolding twelveIn
-returns-2 c = search (needs, tests)
-
 pub twelve-in-spec : {M : Type 1} → statement M
-twelve-in-spec = tie.close (tie.spec returns returns-2)
+twelve-in-spec = tie.close (tie.spec returns)

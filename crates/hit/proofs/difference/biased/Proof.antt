@@ -1,6 +1,6 @@
 -- `hit::difference::biased` meets its contract.
 use Rattle.unit.proofs.Tests.{tests}
-use Rattle.hit.specs.Difference.{biased}
+use Rattle.hit.specs.Biased.{biased}
 use borrow.Author.Needs.{needs}
 use Rattle.hit.proofs.difference.biased.Statement.{statement}
 use Rattle.hit.proofs.difference.biased.Tie as tie

@@ -1,10 +1,10 @@
--- `hit::limit::timeout_row` meets its contract.
+-- `setup::timeout_row` meets its contract.
 use mathlib.Core.Path.{refl}
 use borrow.Author.Needs.{needs}
 use Rattle.unit.proofs.Rows.{past-last, untaken-from}
-use Rattle.hit.specs.Timeout.{timeoutTable, timeoutRow}
-use Rattle.hit.proofs.limit.timeout_row.Statement.{statement}
-use Rattle.hit.proofs.limit.timeout_row.Tie as tie
+use Rattle.setup.specs.Table11.{timeoutTable, timeoutRow}
+use Rattle.setup.proofs.timeout_row.Statement.{statement}
+use Rattle.setup.proofs.timeout_row.Tie as tie
 
 returns : tie.Need-returns
 unfolding timeoutRow timeoutTable

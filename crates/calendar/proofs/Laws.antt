@@ -138,7 +138,7 @@ record NextDay (c d : Clock) : Type 0 where
   time : timeTicks d ≡ timeTicks c
   form : d .twelve ≡ c .twelve
 
--- The same within the century.
+-- What a midnight does within the century.
 later : (c d : Clock) →
     Bounds d →
     dayOf d ≡ dayOf c + 1 →

@@ -42,7 +42,8 @@ word32 c = c .weekday % 8 * 256 + bcd (c .date)
 unfoldable pub word33 : Clock → ℕ
 word33 c = bcd (c .month) * 256 + bcd (c .year)
 
--- The same places, read out of a written word. Bits that 000 names 0 are passed over: "ignored and read 0".
+-- The minutes in a written word of 31h or 35h: "ten minutes 14:12, minutes 11:8". Here and below, bits that 000 names 0 are passed
+-- over: "ignored and read 0".
 unfoldable pub minuteIn : ℕ → ℕ
 minuteIn w = bits 14 12 w * 10 + bits 11 8 w
 

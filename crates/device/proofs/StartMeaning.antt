@@ -72,7 +72,7 @@ pub idle-starts-none :
     (k : Schedule) → ScheduleBounds k → inEvent k ≡ false → (n : ℕ) → begins (scheduleTicked n k) ≡ false
 idle-starts-none k b i n = ended-none (scheduleTicked n k) (ended-ticked n k (ended-of k b i))
 
--- the same by the counts: an event of N that are all settled, not a continuous one
+-- where the N of an event, not a continuous one, are all settled, no tick starts a measurement, however many pass
 pub settled-starts-none :
     (k : Schedule) →
     ScheduleBounds k →

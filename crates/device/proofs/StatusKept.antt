@@ -177,7 +177,7 @@ pub open-word :
 unfolding anyOpen openFrom portCycle
 open-word m w = from-means (openFrom (portCycle (m .setup))) w
 
--- The same of a temperature one: "any open .. sets TO"; "A short alone does not set TO" (Note 3).
+-- All bits after an accepted temperature delivery: "any open .. sets TO"; "A short alone does not set TO" (Note 3).
 pub temperature-bits :
     (m : Model) (w : List ℕ) →
     acceptedModel m (temperature w) .status
@@ -347,13 +347,13 @@ bits-kept m c k = go (verdict m c) refl
     go accepted e = unfold replyBy in accepted-keeps m c k e
     go (refused n) e = unfold replyBy in all-kept _
 
--- and a refused call none, whatever its frame
+-- A refused call clears and sets no bit, whatever its frame.
 pub refused-keeps :
     (m : Model) (c : Call) (n : ℕ) → verdict m c ≡ refused n → reply m c .model .status ≡ m .status
 unfolding reply replyBy
 refused-keeps m c n e = rw e
 
--- Such a read clears every bit where it is accepted, and Reset gives "status 0000h".
+-- A read over FEh clears every bit where it is accepted, and Reset gives "status 0000h".
 pub read-clears-all :
     (m : Model) (f o x : List ℕ) →
     ReadsStatus f →

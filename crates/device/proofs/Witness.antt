@@ -124,7 +124,7 @@ pub plan-is :
 unfolding startReported named stretchReport lastTick scheduleTicked reportOf registerWord flightWord temperatureWord half settle goodFlight goodSum goodDifference goodFlightModel goodTemperatureModel failedTemperatureModel goodSums sixWords fourWords average sixTotal filled portPairs portPair plusEach wordOrZero biased differenceWord differenceMean differenceBits portMean anyLate anyOpen portFault anyFault anyFrom anyBelow anyWord shortBelow lateFrom openFrom hitCount timeout portCycle flightMiscounted sameCount differencePeriod temperaturePeriod modelTicked begins leftAfter waitAfter startedAfter log onlyReads isRefusal mayFollow acceptedAnswer startedEvent eventFlight flightEvent startEvent differenceCount eventTemperature temperatureEvent temperatureCount tickModel clockTicked tickClock flightAfter fails tickSchedule settledAfter temperatureAfter after reply replyBy verdict firstOf table noFrame notCarried wrongLength pastRegisters shortOutput whileBusy supplyOff unreachable unerased badCalendar notInitialised badSetup notAwaited miscounted tooLong acceptedModel freshModel freshWith porBit noFlight noTemperature noSchedule start factory isSound sumFits flightSound temperatureSound scheduleSound clockValid dateFits timeFits leap monthLength kindBusy isBusy isAwaited inEvent isCommand isWrite isFlash isRead notWhole pastEnd wordAt calendarWord word30 word31 hourDigits word32 word33 bcd hundredthsOf minuteIn twelveIn hourNamed hourIn ticksIn clockFrom timeDigits hourFits digitsFit wordsValid alarmValid alarmWord covers written withWord setupAfter ticksAfter clockAfter writeInvalid writeModel mustBeIdle startsFlight startsTemperature isEvent commandBusy beforeInitialize flightSideUnset temperatureSideUnset eventSideUnset commandUnset flightUnset temperatureUnset eventContinuous startsLeft beginsGroup goodAfter countsSound waitSound balanceSound sumAfter sumsAfter flightTicked clockStands runModel initialisedModel joined isTick stretchIn spanOf failedFlight failedDifference failedFlightModel periodOf countOf
 plan-is = refl
 
--- Its calls are accepted, and hold 16,384 ticks.
+-- The calls of `overGroups` are accepted, and hold 16,384 ticks.
 pub groups-read :
     (onlyReads (log (reply (after freshModel setUp) (command 8 [] []) .model) overGroups) ≡ true) ×
     (tickCount (log (reply (after freshModel setUp) (command 8 [] []) .model) overGroups) ≡ 16384)

@@ -23,7 +23,7 @@ pub record Example : Type 0 where
   pub given : List ℕ
   pub wanted : List ℕ
 
--- 1 where it holds
+-- 1 where a test holds, else 0
 abbrev flag : Bool → ℕ
 flag b = pick b 1 0
 

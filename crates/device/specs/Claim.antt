@@ -133,7 +133,7 @@ pub record EventClaim (m : Model) (op : ℕ) (o x : List ℕ) (later : List Call
       (k : Kind) →
       runs k op ≡ true →
       KindClaim k (m .setup) (toldOf k m op o x later) (after (reply m (command op o x) .model) later)
-  -- both count the same ticks
+  -- The histories of both kinds count the same ticks.
   pub ticks :
       (k : Kind) → (toldOf k m op o x later) .ticks ≡ tickCount (log (reply m (command op o x) .model) later)
   pub clock :

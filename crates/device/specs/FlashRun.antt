@@ -16,7 +16,7 @@ use Rattle.device.specs.Call.{Call, transaction, tick, flight, temperatu
 use Rattle.device.specs.Reply.{reply, memory}
 use Rattle.device.specs.History.{isRefusal}
 
--- The same call, lent the memory x.
+-- A call, lent the memory x in place of its own.
 unfoldable pub lent : List ℕ → Call → Call
 lent x (transaction f o y) = transaction f o x
 lent x tick = tick
@@ -24,7 +24,7 @@ lent x (flight u d) = flight u d
 lent x (temperature w) = temperature w
 lent x (stretch n) = stretch n
 
--- The memory that it leaves. A call that is no transaction is lent none.
+-- The memory that a call leaves. A call that is no transaction is lent none.
 unfoldable pub memoryLeft : Model → List ℕ → Call → List ℕ
 memoryLeft m x (transaction f o y) = memory m (transaction f o x)
 memoryLeft m x tick = x
@@ -49,7 +49,7 @@ operationOf (flight u d) = []
 operationOf (temperature w) = []
 operationOf (stretch n) = []
 
--- Those of a list, in order of time, told by the answers.
+-- The writes and erases that a list of calls made, in order of time, told by the answers.
 unfoldable pub operations : Model → List ℕ → List Call → List Operation
 operations m x [] = []
 operations m x (c ∷ cs) =

@@ -52,7 +52,7 @@ unfoldable pub onlyReads : List Entry → Bool
 onlyReads [] = true
 onlyReads (e ∷ es) = both (either (isRefusal (e .answer)) (mayFollow (e .call))) (onlyReads es)
 
--- The two kinds.
+-- The two kinds of measurement.
 pub data Kind : Type 0 where
   differences : Kind
   temperatures : Kind
@@ -199,7 +199,7 @@ pub record History : Type 0 where
   -- "failed, those answered failed and the failures that ticks report"
   pub failed : ℕ
 
--- At acceptance, by the command's answer.
+-- The history at acceptance, by the command's answer.
 unfoldable pub beginning : Kind → Answer → History
 beginning k a =
     record {
@@ -218,7 +218,8 @@ beginning k a =
 unfoldable pub opensGroup : Plan → History → Bool
 opensGroup p h = both (p .continuous) (eqb (h .started) (p .count))
 
--- One tick more, with its reports. A start that opens a group is the group's first, and nothing is good or failed in it yet.
+-- A history with one tick more, and what it reports. A start that opens a group is the group's first, and nothing is good or failed
+-- in it yet.
 unfoldable pub noteTick : Plan → Bool → Bool → History → History
 noteTick p started failed h =
     record {
@@ -241,7 +242,7 @@ noteTicks p (suc n) r h = noteTick p (eqb (r .started) (n + 1)) (eqb (r .failed)
 unfoldable pub stretchIn : Entry → ℕ
 stretchIn e = pick (isRefusal (e .answer)) 0 (spanOf (e .call))
 
--- A delivery answered good, or failed.
+-- A history with one delivery more that is answered good, or failed.
 unfoldable pub noteGood : List ℕ → Call → History → History
 noteGood s c h =
     record {
@@ -268,7 +269,7 @@ noteFailed s c h =
       failed = h .failed + 1;
     }
 
--- One entry more. A model that the calls made refuses no tick, so each `tick` of the list counts.
+-- A history with one call and its answer more. A model that the calls made refuses no tick, so each `tick` of the list counts.
 unfoldable pub note : Kind → List ℕ → Entry → History → History
 note k s e h =
     pick (isTick (e .call)) (noteTick (planOf k s) (startReported k (e .answer)) (failureReported k (e .answer)) h)

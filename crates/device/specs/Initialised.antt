@@ -8,7 +8,8 @@ use Rattle.device.specs.Model.{freshModel}
 use Rattle.device.specs.Call.{Call, transaction, tick, flight, temperature, stretch, opcode}
 use Rattle.device.specs.History.{Entry, isRefusal, after, log}
 
--- after an accepted call, by its first byte: 04h Reset, 05h Initialize, or any other, which changes nothing
+-- whether a model is initialised after an accepted call, by its first byte: 04h Reset, 05h Initialize, or any other, which
+-- changes nothing
 unfoldable pub initialisedBy : Call → Bool → Bool
 initialisedBy (transaction f o x) initialised = pick (eqb (opcode f) 0x04) false (pick (eqb (opcode f) 0x05) true initialised)
 initialisedBy tick initialised = initialised
@@ -21,6 +22,7 @@ unfoldable pub lastInitialised : List Entry → Bool → Bool
 lastInitialised [] initialised = initialised
 lastInitialised (e ∷ es) initialised = lastInitialised es (pick (isRefusal (e .answer)) initialised (initialisedBy (e .call) initialised))
 
--- On a model that grew from a fresh one by any list of calls, refused ones among them; a fresh one is not initialised.
+-- On a model that grew from a fresh one by any list of calls, refused ones among them, "initialised" is what the last accepted 04h or
+-- 05h says; a fresh one is not initialised.
 abbrev pub InitialisedClaim : Type 0
 InitialisedClaim = (cs : List Call) → (after freshModel cs) .initialised ≡ lastInitialised (log freshModel cs) false

@@ -82,7 +82,7 @@ unfoldable pub flashFits : ℕ → ℕ → ℕ → Bool
 flashFits op further room =
     pick (eqb op 0x13) (leb 2 further) (pick (eqb op 0x10) (leb 4 further) (both (leb 2 further) (leb 2 room)))
 
--- Of what is no refusal it is asked for no number; 2 stands there.
+-- The number of a decoded refusal. Of what is none it is asked for no number; 2 stands there.
 unfoldable pub refusalNumber : Decoded → ℕ
 refusalNumber (Command op) = 2
 refusalNumber (Read op n) = 2

@@ -18,7 +18,7 @@ pub data OtherProbes : Call → Call → Type 0 where
   -- "temperature registers and what reads of them return may differ": a buffer that is lent again may hold such bytes
   buffer : (f o p x : List ℕ) → length o ≡ length p → OtherProbes (transaction f o x) (transaction f p x)
 
--- "equal call lists" but for that, call by call
+-- "equal call lists" but for the values of delivered temperature words, call by call
 pub data OtherProbesIn : List Call → List Call → Type 0 where
   none : OtherProbesIn [] []
   next : (c d : Call) (cs ds : List Call) → OtherProbes c d → OtherProbesIn cs ds → OtherProbesIn (c ∷ cs) (d ∷ ds)

@@ -73,7 +73,7 @@ isBit a b = eqb (place a) (place b)
 unfoldable pub noBits : Status
 noBits = statusOf (λ b. false)
 
--- the bits of both
+-- the bits that either of two statuses has
 unfoldable pub joined : Status → Status → Status
 joined s t = statusOf (λ b. either (has s b) (has t b))
 

@@ -16,8 +16,7 @@ use Rattle.device.specs.Event.{ticks, begins, fails}
 use Rattle.device.specs.Tick.{tickModel}
 use Rattle.device.specs.Stretch.{modelTicked, stretchReport}
 
--- The rest is how the code moves on: by as many ticks at once as pass with nothing to report and no second's end, else by a
--- single one.
+-- the smaller of two numbers
 unfoldable pub least : ℕ → ℕ → ℕ
 least a b = pick (ltb b a) b a
 
@@ -39,7 +38,7 @@ unfoldable pub quietFor : Model → ℕ
 quietFor m =
     least (quietClock m) (least (quietSchedule (m .flight .schedule)) (quietSchedule (m .temperature .schedule)))
 
--- A schedule, a clock and a model after q such ticks.
+-- A schedule, a clock and a model after q ticks in which nothing happens.
 unfoldable pub laterSchedule : ℕ → Schedule → Schedule
 laterSchedule q k =
     record {

@@ -23,6 +23,7 @@ unfoldable pub lastSupply : List Entry → Bool → Bool
 lastSupply [] on = on
 lastSupply (e ∷ es) on = lastSupply es (pick (isRefusal (e .answer)) on (supplyGiven (e .call) on))
 
--- On a model that grew from a fresh one by any list of calls, refused ones among them.
+-- On a model that grew from a fresh one by any list of calls, refused ones among them, the regulator is as the last accepted 04h, 0Ch
+-- or 0Dh says.
 abbrev pub SupplyClaim : Type 0
 SupplyClaim = (cs : List Call) → (after freshModel cs) .regulator ≡ lastSupply (log freshModel cs) false

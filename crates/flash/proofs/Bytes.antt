@@ -41,11 +41,12 @@ module _ (mem : List ℕ) (a w : ℕ) where
       getD-set-other (set mem a (w / 256 % 256)) (a + 1) i (w % 256) 0 n
       ∙ getD-set-other mem a i (w / 256 % 256) 0 m
 
--- The same for the first two bytes of an output, and for a word reached as a part of the memory.
+-- A word in the first two bytes of an output is a word written at 0.
 pub first-written : (out : List ℕ) (w : ℕ) → firstWord out w ≡ flashWritten out 0 w
 unfolding firstWord flashWritten
 first-written out w = refl
 
+-- A word put into a part of the memory, two bytes from a on, is a word written at a.
 pub part-written :
     (mem : List ℕ) (a w : ℕ) →
     a + 1 < length mem →

@@ -36,15 +36,15 @@ flashErased mem a = erasedFrom mem (a / blockSize * blockSize) blockSize
 unfoldable pub firstWord : List ℕ → ℕ → List ℕ
 firstWord out w = set (set out 0 (w / 256 % 256)) 1 (w % 256)
 
--- "16 flash address for a memory of another size, ..": by the memory's length
+-- "16 flash address for a memory of another size": by the memory's length
 unfoldable pub wrongSize : ℕ → Bool
 wrongSize size = negate (eqb size flashSize)
 
--- ".. an odd address in a read or write, ..
+-- "16 flash address for .. an odd address in a read or write"
 unfoldable pub oddAddress : ℕ → Bool
 oddAddress a = eqb (a % 2) 1
 
--- .. or one above 1FFFh"
+-- "16 flash address for .. one above 1FFFh"
 unfoldable pub beyond : ℕ → Bool
 beyond a = ltb 0x1FFF a
 

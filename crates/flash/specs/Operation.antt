@@ -26,7 +26,7 @@ unfoldable pub setsWord : ℕ → Operation → Bool
 setsWord a (write b w) = eqb b a
 setsWord a (erase b) = eqb (b / blockSize) (a / blockSize)
 
--- The word that it sets.
+-- The word that an operation sets: the one written, or FFFFh of an erase.
 unfoldable pub wordSet : Operation → ℕ
 wordSet (write b w) = w
 wordSet (erase b) = 0xFFFF

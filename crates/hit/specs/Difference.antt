@@ -17,6 +17,6 @@ differenceWord up down = (up .0 + 2 ^ 32 - down .0) % 2 ^ 32
 unfoldable pub differenceMean : ℕ → ℕ → ℕ
 differenceMean sum n = pick (eqb n 0) 0 (differenceBits (shrZ (subℕ sum (n * 2 ^ 31)) n) % 2 ^ 32)
 
--- the same of the words of a port
+-- the mean of the good words of a port, from their sum, "÷ count, rounded toward minus infinity"; 0 of none
 unfoldable pub portMean : ℕ → ℕ → ℕ
 portMean sum n = pick (eqb n 0) 0 (sum / n % 2 ^ 32)

@@ -23,7 +23,7 @@ pub record Held (l : List ℕ) (n : ℕ) (cs : List ℕ) : Type 0 where
   pub count : n ≡ min (length l) (length cs)
   pub bytes : take n l ≡ take (length l) cs
 
--- And so it does with the line's next byte.
+-- A buffer that holds the start of a line holds it with the line's next byte too.
 pub held-more : (l : List ℕ) (n : ℕ) (cs : List ℕ) (b : ℕ) → Held l n cs
     → (heldCount l n ≡ min (length l) (length (cs ++ (b ∷ [])))) × (take (heldCount l n) (heldBytes l n b) ≡ take (length l) (cs ++ (b ∷ [])))
 unfolding heldBytes heldCount

@@ -52,7 +52,7 @@ module _ (s : List ℕ) (i : ℕ) (inside : i < length s) where
       let some : 0 < length (part at i s) = rw (length-part at i s (omega arith)) (omega arith) in
       rw (drop-cons s i 0 inside, e) (ended-some (part at i s) _ some)
 
--- And so does the end.
+-- The end of the bytes ends a word.
 pub word-ends : (s : List ℕ) (at i : ℕ) → at < i → i ≤ length s → length s ≤ i → wordsAfter (part at i s) (drop i s) ≡ part at i s ∷ words (drop i s)
 unfolding words wordsAfter ended
 word-ends s at i h high all =

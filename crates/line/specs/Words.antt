@@ -28,7 +28,7 @@ words cs = wordsAfter [] cs
 abbrev pub part : ℕ → ℕ → List ℕ → List ℕ
 part i j s = take (j - i) (drop i s)
 
--- The same bytes.
+-- Whether two lists have the same bytes.
 unfoldable pub sameBytes : List ℕ → List ℕ → Bool
 sameBytes [] [] = true
 sameBytes [] (y ∷ ys) = false

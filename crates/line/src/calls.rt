@@ -148,7 +148,7 @@ fn is_out(word: &[u8]) -> bool
     same(&word[..4], b"out=")
 }
 
-// The number after it.
+// The number after `out=`.
 fn out_number(word: &[u8]) -> Number
     requires { ⌜ isOut (now word) ≡ true ⌝ }
     ensures { λ r. ⌜ r ≡ readDecimal 200 (drop 4 (now (word .entry))) ⌝ }

@@ -90,7 +90,7 @@ fn clean_numbers(s: &[u8], at: usize, form: Form, n: usize, numbers: &mut [u32])
     Reached { at: i, count }
 }
 
-// The same, where each is two digits behind one blank.
+// Stores numbers as `clean_numbers` does, where each is two digits behind one blank.
 fn pairs(s: &[u8], at: usize, form: Form, n: usize, numbers: &mut [u32]) -> Reached
     requires { ⌜ (at ≤ length (now s)) × (form .most ≡ 2) × (form .least ≡ 2) ⌝ }
     ensures { λ r. ⌜ Passed form (now (s .entry)) at n (now (numbers .entry)) (r .at) (r .count) (now (numbers .exit)) ⌝ }

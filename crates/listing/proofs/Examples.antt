@@ -13,7 +13,7 @@ marked : line (captureDigits Two) 3 (negsuc 125901) ≡ 48 ∷ 51 ∷ 32 ∷ 45 
 unfolding line sign rightJustified nanoseconds fourDecimals tenThousandths decimal decimalWidth widthFrom digits glyph
 marked = refl
 
--- the same in the new form
+-- the request's example in the new form, with eight digits
 marked-wide : line (captureDigits usual) 3 (negsuc 125901) ≡ 48 ∷ 48 ∷ 48 ∷ 48 ∷ 48 ∷ 48 ∷ 48 ∷ 51 ∷ 32 ∷ 45 ∷ 32 ∷ 32 ∷ 32 ∷ 32 ∷ 52 ∷ 56 ∷ 48 ∷ 46 ∷ 50 ∷ 55 ∷ 56 ∷ 48 ∷ 10 ∷ []
 unfolding line sign rightJustified nanoseconds fourDecimals tenThousandths decimal decimalWidth widthFrom digits glyph
 marked-wide = refl

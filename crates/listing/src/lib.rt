@@ -26,7 +26,7 @@ pub fn write_listing(differences: &[i32], first: u32, out: &mut [u8]) -> Listed
     write_listing_as(Width::Eight, differences, first, out)
 }
 
-// The same in the width that is named.
+// Lists the differences as `write_listing` does, a capture number having as many digits as `width` names.
 pub fn write_listing_as(width: Width, differences: &[i32], first: u32, out: &mut [u8]) -> Listed
     ensures { λ r. ⌜ record { answer = r; bytes = now (out .exit) } ≡ listing (captureDigits width) (now (differences .entry)) first (now (out .entry)) ⌝ }
 {

@@ -29,7 +29,7 @@ odd-power m n (suc a) (suc b) o p h =
     let e = doubled n b in
     let r = odd-power m n a b o p (omega arith) in (r .0, ap suc (r .1))
 
--- the same for the exponents of two floats
+-- two floats of odd digits that mean the same number have equal digits and exponents
 odd-scaled :
     (m n : ℕ) (e d : ℤ) → m % 2 ≡ 1 → n % 2 ≡ 1 → m * up e * down d ≡ n * up d * down e → (m ≡ n) × (e ≡ d)
 odd-scaled m n (pos a) (pos b) o p h =

@@ -20,7 +20,7 @@ unfoldable pub widthFrom : ℕ → ℕ → ℕ
 widthFrom zero v = 1
 widthFrom (suc k) v = cond (ltb v 10) 1 (suc (widthFrom k (v / 10)))
 
--- The same of a number below 2^64, which takes at most twenty.
+-- How many decimal digits a number below 2^64 takes without leading zeros, at most twenty.
 unfoldable pub decimalWidth : ℕ → ℕ
 decimalWidth v = widthFrom 19 v
 

@@ -50,7 +50,7 @@ unfolding changes
 set-adds s t j v =
     sum-but-one (changed s (set t j v)) (changed s t) j (weight s j) 16 (other-places s t j v) (its-place s t (set t j v) j)
 
--- the same by register: 30h to 33h weigh nothing
+-- the weight of a register a: 30h to 33h weigh nothing
 register : List ℕ → ℕ → ℕ
 register s a = pick (ltb a 0x34) 0 (weight s (a - 0x34))
 

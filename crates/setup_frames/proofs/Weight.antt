@@ -34,7 +34,7 @@ weight-gap s i =
     (λ d. inr (rw (before-next s i, d) (by-test (differs s (suc i)) (λ e. rw e (omega arith)) (λ e. rw e (omega arith)))))
     (λ d. rw d (inl refl))
 
--- the same of the frames, 2 for each
+-- the weight of a word by frames alone: 2 where it starts one
 mark : List ℕ → ℕ → ℕ
 mark s i = pick (starts s i) 2 0
 

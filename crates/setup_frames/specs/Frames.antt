@@ -18,15 +18,15 @@ use Rattle.setup_frames.specs.declared.Framed.the-variants.{Refused, Fra
 unfoldable pub differs : List ℕ → ℕ → Bool
 differs s i = negate (eqb (getD s i 0) (getD factory i 0))
 
--- the word before it; before 34h there is none
+-- whether the word before that of 34h + i differs; before 34h there is none
 unfoldable pub differsBefore : List ℕ → ℕ → Bool
 differsBefore s i = pick (eqb i 0) false (differs s (i - 1))
 
--- "maximal runs of differing words": one starts where a word differs and the word before it does not ..
+-- "maximal runs of differing words": one starts where a word differs and the word before it does not
 unfoldable pub starts : List ℕ → ℕ → Bool
 starts s i = pick (differsBefore s i) false (differs s i)
 
--- .. and has as many words as differ, of the k from i on, up to the first that does not
+-- The words of a run: as many as differ, of the k from i on, up to the first that does not.
 unfoldable pub runLength : List ℕ → ℕ → ℕ → ℕ
 runLength s i zero = 0
 runLength s i (suc k) = pick (differs s i) (suc (runLength s (suc i) k)) 0

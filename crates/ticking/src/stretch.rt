@@ -218,7 +218,7 @@ pub fn next_is_quiet(m: Model) -> bool
     0 < quiet_for(m)
 }
 
-// Such a tick.
+// A tick that starts, fails and carries nothing.
 pub fn quiet_tick(m: Model) -> Model
     requires { ⌜ 1 ≤ quietFor m ⌝ }
     ensures { λ r. ⌜ r ≡ tickModel m ⌝ }

@@ -41,10 +41,10 @@ pub record CallClaim (m : Model) (c : Call) : Type 0 where
   -- a call is accepted exactly when no row holds, and refused with n exactly when the first that holds has n
   pub accepts : (verdict m c ≡ accepted) ↔ None (table m c)
   pub refuses : (n : ℕ) → (verdict m c ≡ refused n) ↔ First (table m c) n
-  -- then it leaves what the definitions give, or else nothing changes
+  -- an accepted call leaves what the definitions give, and a refused one changes nothing
   pub left : None (table m c) → AcceptedClaim m c
   pub kept : (n : ℕ) → First (table m c) n → RefusedClaim m c n
-  -- and the one or the other is the case
+  -- every call is accepted or refused
   pub decided : None (table m c) ⊎ ((n : ℕ) × First (table m c) n)
 
 -- for every model, sound or not, and every call

@@ -86,7 +86,7 @@ replyBy (refused n) m c = refuse n m
 unfoldable pub reply : Model → Call → Reply
 reply m c = replyBy (verdict m c) m c
 
--- What each answer says in 01's terms: its number where it is a refusal,
+-- The number of an answer in 01's terms, where it is a refusal.
 unfoldable pub numberIn : Answer → List ℕ
 numberIn (Refused n) = n ∷ []
 numberIn (Accepted f t) = []
@@ -95,12 +95,13 @@ numberIn (Stretched f t) = []
 numberIn Good = []
 numberIn Failed = []
 
--- and else its values, 1 for yes and 0 for no: of a transaction whether it started a flight and a temperature measurement, of a tick
--- whether a flight one started, one failed, a temperature one started, one failed in it, of a stretch the ticks in which they did,
--- of a delivery whether it is good.
+-- 1 for yes, 0 for no
 abbrev pub flag : Bool → ℕ
 flag b = pick b 1 0
 
+-- The values of an answer that is no refusal, 1 for yes and 0 for no: of a transaction whether it started a flight and a temperature
+-- measurement, of a tick whether a flight one started, one failed, a temperature one started, one failed in it, of a stretch the
+-- ticks in which they did, of a delivery whether it is good.
 unfoldable pub valuesIn : Answer → List ℕ
 valuesIn (Refused n) = []
 valuesIn (Accepted f t) = flag f ∷ flag t ∷ []

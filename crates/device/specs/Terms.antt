@@ -88,8 +88,8 @@ expiring k = eqb (k .left .0) 1
 abbrev pub nth : Schedule → Bool
 nth k = eqb (k .settled + 1) (k .planned)
 
--- its settling sets TOF or TE: no event of the kind runs, neither a continuous one nor one of which some are to settle; or CONT_INT,
--- bit 7 of 42h, is 1
+-- settling a measurement of the kind sets TOF or TE: no event of the kind runs, neither a continuous one nor one of which some are
+-- to settle; or CONT_INT, bit 7 of 42h, is 1
 abbrev pub told : Model → Schedule → Bool
 told m k =
     either (negate (either (k .continuous) (ltb (k .settled) (k .planned)))) (eqb (wordOf (m .setup) 0x42 / 128 % 2) 1)

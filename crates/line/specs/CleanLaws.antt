@@ -19,12 +19,12 @@ use Rattle.line.specs.Numbers.{isSlash, kindOf, tallied, Outcome}
 use Rattle.line.specs.NumberLaws.{tally-word}
 use Rattle.line.specs.Clean.{DigitsAt, WholeAt, PairAt, Passed}
 
--- A digit is no blank ..
+-- A digit is no blank.
 digit-dark : (c : ℕ) → digitOf c < 16 → isBlank c ≡ false
 unfolding isBlank digitOf
 digit-dark c h = rw (ne-eqb c 32 (λ e. let d : digitOf c ≡ digitOf 32 = rw e in omega arith), ne-eqb c 9 (λ e. let d : digitOf c ≡ digitOf 9 = rw e in omega arith))
 
--- .. and digits are no slash.
+-- Digits are no slash.
 digits-apart : (w : List ℕ) → areDigits 16 w ≡ true → sameBytes w (47 ∷ []) ≡ false
 unfolding areDigits digitOf
 digits-apart w all = go (sameBytes w (47 ∷ [])) refl

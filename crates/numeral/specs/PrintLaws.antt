@@ -75,14 +75,14 @@ width-some (suc k) v = width-cases v (λ h. rw (width-one (suc k) v h) (omega ar
 pub tenth : (k v : ℕ) → v < 10 ^ suc (suc k) → v / 10 < 10 ^ suc k
 tenth k v h = omega (arith, rw pow-suc at h)
 
--- The digits suffice ..
+-- The digits of a width suffice.
 pub width-holds : (k v : ℕ) → v < 10 ^ suc k → v < 10 ^ widthFrom k v
 width-holds zero v h = rw (width-one zero v h) h
 width-holds (suc k) v h =
     width-cases v (λ p. rw (width-one (suc k) v p) p)
     (λ p. rw (width-more k v p, pow-suc) (omega (arith, width-holds k (v / 10) (tenth k v h))))
 
--- .. are no more than another number of digits that suffices ..
+-- A width is no more than another number of digits that suffices.
 pub width-most : (k j v : ℕ) → v < 10 ^ suc j → widthFrom k v ≤ suc j
 width-most zero j v h = rw (width-zero v) (omega arith)
 width-most (suc k) zero v h = rw (width-one (suc k) v h) (omega arith)
@@ -90,7 +90,7 @@ width-most (suc k) (suc j) v h =
     width-cases v (λ p. rw (width-one (suc k) v p) (omega arith))
     (λ p. rw (width-more k v p) (omega (arith, width-most k j (v / 10) (tenth j v h))))
 
--- .. and the first is not 0.
+-- The first of the digits of a width is not 0.
 pub width-first : (k v : ℕ) → 0 < v → 10 ^ (widthFrom k v - 1) ≤ v
 width-first zero v h = rw (width-zero v) h
 width-first (suc k) v h =

@@ -73,7 +73,7 @@ pub fn put_named(
     put_later(out, b, flight, temperature, second, done)
 }
 
-// Those named after `tick`, two at most.
+// What is named after `tick`, two at most.
 fn put_later(
     out: &mut [u8],
     at: usize,

@@ -7,6 +7,15 @@ ghost use Rattle.frame.specs.Decoding.{writeFrame, readFrame, flashFrame
 
 pub mod opcode;
 
+use opcode::BLOCK_ERASE;
+use opcode::READ_FLASH;
+use opcode::WRITE_FLASH;
+
+// The registers past the last that is written, 43h, and past the last that is read, FFh.
+const WRITE_END: u32 = 0x44;
+
+const READ_END: u32 = 0x100;
+
 // What the bytes ask for. A read or a write names its first register, as in the opcode, and how many words follow;
 // a frame of the user flash has its opcode. A refusal holds its number.
 pub enum Decoded {
@@ -56,19 +65,19 @@ fn is_read(op: u32) -> bool
 fn is_flash(op: u32) -> bool
     ensures { λ r. ⌜ r ≡ isFlash op ⌝ }
 {
-    if op == 0x90 {
+    if op == READ_FLASH {
         return true;
     }
-    if op == 0x10 {
+    if op == WRITE_FLASH {
         return true;
     }
-    op == 0x13
+    op == BLOCK_ERASE
 }
 
 fn flash_further(op: u32) -> usize
     ensures { λ r. ⌜ r ≡ flashFurther op ⌝ }
 {
-    if op == 0x13 { 2 } else { 4 }
+    if op == BLOCK_ERASE { 2 } else { 4 }
 }
 
 // Whether the bytes after the opcode are other than one or more whole words.
@@ -98,7 +107,7 @@ fn write_frame(op: u32, further: usize) -> Decoded
         return Decoded::Refusal(3);
     }
     let words = further / 2;
-    if past_end(op, words, 0x44) {
+    if past_end(op, words, WRITE_END) {
         return Decoded::Refusal(4);
     }
     Decoded::Write(op, words)
@@ -111,7 +120,7 @@ fn read_frame(op: u32, further: usize, room: usize) -> Decoded
         return Decoded::Refusal(3);
     }
     let words = further / 2;
-    if past_end(op, words, 0x100) {
+    if past_end(op, words, READ_END) {
         return Decoded::Refusal(4);
     }
     if room < 2 * words {
@@ -125,7 +134,7 @@ fn flash_frame(op: u32, further: usize, room: usize) -> Decoded
 {
     let wanted = flash_further(op);
     if further == wanted {
-        if op == 0x90 {
+        if op == READ_FLASH {
             if room < 2 {
                 return Decoded::Refusal(5);
             }

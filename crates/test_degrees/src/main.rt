@@ -1,19 +1,19 @@
 // Writes the temperatures of probe words over the built-in table, then over others. A row has the probe word, the reference word,
 // and the thousandths of a degree or `no` and the number of the refusal; over another table its size stands in front.
 // `peer/readings.py` works out the same rows by itself.
-use thermometer::Reading;
+use thermometer::InDegrees;
 
-fn put_reading(line: &mut [u8], at: usize, reading: Reading) -> usize {
+fn put_reading(line: &mut [u8], at: usize, reading: InDegrees) -> usize {
     match reading {
-        Reading::Thousandths(t) => numeral::put_decimal(line, at, t as u64),
-        Reading::Refused(n) => {
+        InDegrees::Thousandths(t) => numeral::put_decimal(line, at, t as u64),
+        InDegrees::Refused(n) => {
             let next = numeral::put_text(line, at, b"no ");
             numeral::put_decimal(line, next, n as u64)
         }
     }
 }
 
-fn put_row(line: &mut [u8], from: usize, probe: u32, reference: u32, reading: Reading) -> usize {
+fn put_row(line: &mut [u8], from: usize, probe: u32, reference: u32, reading: InDegrees) -> usize {
     let mut at = numeral::put_decimal(line, from, probe as u64);
     at = numeral::put_text(line, at, b" ");
     at = numeral::put_decimal(line, at, reference as u64);

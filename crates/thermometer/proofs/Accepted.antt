@@ -9,7 +9,8 @@ use mathlib.Core.List.{List, [], _∷_}
 use lib.ListN.{length, getD}
 use lib.Dec.{leb}
 use Rattle.unit.proofs.Cases.{by-test, by-ltb, fails, refuted}
-use Rattle.thermometer.specs.Table.{rising, noneAbove, accepted, Usable}
+use Rattle.thermometer.specs.Table.{isRising, noneAbove, isAccepted}
+use Rattle.thermometer.specs.Usable.{Usable}
 use Rattle.thermometer.specs.Degrees.{last}
 use Rattle.thermometer.proofs.Tests.{leb-means, both-means}
 use Rattle.thermometer.proofs.Rise.{rises, rising-means}
@@ -38,8 +39,8 @@ none-above-means limit (e ∷ rest) =
     each p zero l = p .0
     each p (suc i) l = p .1 i (omega arith)
 
-pub accepted-means : (table : List ℕ) → (accepted table ≡ true) ↔ Accepted table
-unfolding accepted
+pub accepted-means : (table : List ℕ) → (isAccepted table ≡ true) ↔ Accepted table
+unfolding isAccepted
 accepted-means table =
     let m =
     both-means _ _ (leb-means 2 (length table))
@@ -49,7 +50,7 @@ accepted-means table =
       λ a. m .1 (a .some, (a .few, (a .rises, a .bounded))),
     )
 
-pub accepted-usable : (table : List ℕ) → accepted table ≡ true → Usable table
+pub accepted-usable : (table : List ℕ) → isAccepted table ≡ true → Usable table
 accepted-usable table t =
     let a = accepted-means table .0 t in
     record { some = a .some; few = a .few; rises = rising-means table .1 (a .rises) }
@@ -57,7 +58,7 @@ accepted-usable table t =
 -- in a rising table the last entry is the largest
 pub bounded-by-last :
     (table : List ℕ) →
-    rising table ≡ true →
+    isRising table ≡ true →
     last table ≤ 10000000 →
     (i : ℕ) →
     i < length table →
@@ -69,21 +70,21 @@ bounded-by-last table up l i h =
 
 -- a check by its size, its last entry and its rise
 module _ (table : List ℕ) where
-  pub too-short : length table < 2 → false ≡ accepted table
-  too-short h = rw (refuted (accepted table) (λ t. absurd (omega (arith, accepted-means table .0 t .some))))
+  pub too-short : length table < 2 → false ≡ isAccepted table
+  too-short h = rw (refuted (isAccepted table) (λ t. absurd (omega (arith, accepted-means table .0 t .some))))
 
-  pub too-long : 512 < length table → false ≡ accepted table
-  too-long h = rw (refuted (accepted table) (λ t. absurd (omega (arith, accepted-means table .0 t .few))))
+  pub too-long : 512 < length table → false ≡ isAccepted table
+  too-long h = rw (refuted (isAccepted table) (λ t. absurd (omega (arith, accepted-means table .0 t .few))))
 
-  pub too-high : 2 ≤ length table → 10000000 < last table → false ≡ accepted table
+  pub too-high : 2 ≤ length table → 10000000 < last table → false ≡ isAccepted table
   too-high n h =
       rw
-      (refuted (accepted table)
+      (refuted (isAccepted table)
       (λ t. absurd (omega (arith, accepted-means table .0 t .bounded (length table - 1) (omega arith)))))
 
-  pub rise-decides : 2 ≤ length table → length table ≤ 512 → last table ≤ 10000000 → rising table ≡ accepted table
+  pub rise-decides : 2 ≤ length table → length table ≤ 512 → last table ≤ 10000000 → isRising table ≡ isAccepted table
   rise-decides some few l =
-      by-test (rising table)
+      by-test (isRising table)
       (λ t. rw (
         t,
         accepted-means table .1 (record {
@@ -93,5 +94,5 @@ module _ (table : List ℕ) where
           bounded = bounded-by-last table t l;
         }),
       ))
-      (λ t. let falls : rising table ≡ true → ⊥ = λ up. fails true (λ (z : ⊥). z) .0 (sym up ∙ t) in
-      rw (t, refuted (accepted table) (λ u. falls (accepted-usable table u .rises))))
+      (λ t. let falls : isRising table ≡ true → ⊥ = λ up. fails true (λ (z : ⊥). z) .0 (sym up ∙ t) in
+      rw (t, refuted (isAccepted table) (λ u. falls (accepted-usable table u .rises))))

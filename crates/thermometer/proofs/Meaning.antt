@@ -9,7 +9,7 @@ use mathlib.Core.List.{List, [], _∷_}
 use lib.ListN.{length, getD}
 use borrow.Author.Tests.{lt-ltb, le-ltb}
 use Rattle.unit.proofs.Cases.{by-ltb}
-use Rattle.thermometer.specs.Table.{rising}
+use Rattle.thermometer.specs.Table.{isRising}
 use Rattle.thermometer.specs.Degrees.{resistance, interpolated, Between, thousandths, thousandthsFrom, first, last}
 use Rattle.thermometer.proofs.Rise.{rising-cons, first-least, rises}
 
@@ -36,7 +36,7 @@ part-below e f r l h = quotient-below (1000 * (r - e)) (f - e) 1000 (omega arith
 -- the answer over the entries from degree k on
 between-from :
     (k : ℕ) (table : List ℕ) (i r : ℕ) →
-    rising table ≡ true →
+    isRising table ≡ true →
     suc i < length table →
     getD table i 0 ≤ r →
     r < getD table (suc i) 0 →
@@ -53,7 +53,7 @@ between-from k (e ∷ f ∷ rest) (suc i) r up n l h =
 
 last-from :
     (k : ℕ) (e : ℕ) (rest : List ℕ) (r : ℕ) →
-    rising (e ∷ rest) ≡ true →
+    isRising (e ∷ rest) ≡ true →
     getD (e ∷ rest) (length rest) 0 ≤ r →
     thousandthsFrom k (e ∷ rest) r ≡ 1000 * (k + length rest)
 unfolding thousandthsFrom
@@ -65,7 +65,7 @@ last-from k e (f ∷ rest) r up l =
 
 pub last-of :
     (table : List ℕ) (r : ℕ) →
-    rising table ≡ true →
+    isRising table ≡ true →
     0 < length table →
     last table ≤ r →
     thousandths table r ≡ 1000 * (length table - 1)
@@ -75,7 +75,7 @@ last-of (e ∷ rest) r up n l =
     let end : suc (length rest) - 1 ≡ length rest = omega arith in
     rw end (last-from 0 e rest r up (rw end at l) ∙ omega arith)
 
-module _ (table : List ℕ) (up : rising table ≡ true) where
+module _ (table : List ℕ) (up : isRising table ≡ true) where
   -- "Between entries e and f of degree i, with e ≤ R < f, the answer is 1,000 × i + 1,000 × (R − e) ÷ (f − e)
   -- thousandths of a degree, rounded down"
   pub between :
@@ -124,7 +124,7 @@ low-from k (e ∷ f ∷ rest) r =
 
 rise-from :
     (k e : ℕ) (rest : List ℕ) (r s : ℕ) →
-    rising (e ∷ rest) ≡ true →
+    isRising (e ∷ rest) ≡ true →
     e ≤ r →
     r ≤ s →
     thousandthsFrom k (e ∷ rest) r ≤ thousandthsFrom k (e ∷ rest) s
@@ -141,7 +141,7 @@ rise-from k e (f ∷ rest) r s up l h =
 -- a larger resistance is no lower temperature
 pub rises-with :
     (table : List ℕ) (r s : ℕ) →
-    rising table ≡ true →
+    isRising table ≡ true →
     first table ≤ r →
     r ≤ s →
     thousandths table r ≤ thousandths table s

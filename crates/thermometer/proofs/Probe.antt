@@ -7,9 +7,9 @@ use mathlib.Core.Bool.{false}
 use mathlib.Core.List.{List, [], _∷_}
 use lib.ListN.{length}
 use Rattle.unit.proofs.Cases.{by-test, refuted}
-use Rattle.thermometer.specs.declared.Reading.the-variants.{Refused}
-use Rattle.thermometer.specs.Table.{entry, pt1000, accepted}
-use Rattle.thermometer.specs.Degrees.{resistance, thousandths, last, offTable, degreesOver, degreesBy, numberIn, valueRead}
+use Rattle.thermometer.specs.declared.InDegrees.the-variants.{Refused}
+use Rattle.thermometer.specs.Table.{entry, pt1000, isAccepted}
+use Rattle.thermometer.specs.Degrees.{resistance, thousandths, last, offTable, degreesOver, degreesBy, numberIn, thousandthsIn}
 use Rattle.thermometer.proofs.Rise.{rises}
 use Rattle.thermometer.proofs.Pt1000.{pt1000-length, pt1000-at, pt1000-usable}
 use Rattle.thermometer.proofs.Meaning.{at-last}
@@ -30,12 +30,12 @@ module _ (table : List ℕ) (a b : ℕ) where
   unfolding degreesBy
   by-accepted h = rw (accepted-means table .1 h)
 
-  refused-then : accepted table ≡ false → degreesBy table a b ≡ Refused 14
+  refused-then : isAccepted table ≡ false → degreesBy table a b ≡ Refused 14
   unfolding degreesBy
   refused-then t = rw t
 
   pub by-refused : ¬ Accepted table → degreesBy table a b ≡ Refused 14
-  by-refused n = refused-then (refuted (accepted table) (λ t. n (accepted-means table .0 t)))
+  by-refused n = refused-then (refuted (isAccepted table) (λ t. n (accepted-means table .0 t)))
 
   -- "Turned away: number 14, bad table, .. for any table failing these", exactly then
   pub number-14 : (numberIn (degreesBy table a b) ≡ 14 ∷ []) ↔ (¬ Accepted table)
@@ -49,7 +49,7 @@ module _ (table : List ℕ) (a b : ℕ) where
   pub number-13-by : (numberIn (degreesBy table a b) ≡ 13 ∷ []) ↔ (Accepted table × OffTable table a b)
   unfolding numberIn
   number-13-by = (
-    λ n. by-test (accepted table)
+    λ n. by-test (isAccepted table)
         (λ t. let h = accepted-means table .0 t in
         (h, number-13 table a b .0 (ap numberIn (sym (by-accepted h)) ∙ n)))
         (λ t. let e : 14 ∷ [] ≡ 13 ∷ [] = sym (ap numberIn (refused-then t)) ∙ n in
@@ -62,7 +62,7 @@ module _ (table : List ℕ) (a b : ℕ) where
       Accepted table →
       ¬ OffTable table a b →
       (numberIn (degreesBy table a b) ≡ []) ×
-      (valueRead (degreesBy table a b) ≡ thousandths table (resistance a b) ∷ [])
+      (thousandthsIn (degreesBy table a b) ≡ thousandths table (resistance a b) ∷ [])
   answer-by h n = rw (by-accepted h) (answer-means table a b n)
 
   -- "The last entry of an n-entry table answers 1,000 × (n − 1)."
@@ -70,7 +70,7 @@ module _ (table : List ℕ) (a b : ℕ) where
       Accepted table →
       ¬ OffTable table a b →
       resistance a b ≡ last table →
-      valueRead (degreesBy table a b) ≡ 1000 * (length table - 1) ∷ []
+      thousandthsIn (degreesBy table a b) ≡ 1000 * (length table - 1) ∷ []
   last-by h n e =
       answer-by h n .1 ∙
       ap (λ (t : ℕ). t ∷ [])

@@ -10,7 +10,8 @@ use lib.ListN.{length, getD}
 use lib.Seq.{ext-getD}
 use lib.Dec.{ltb, eqb}
 use Rattle.unit.specs.Choice.{both}
-use Rattle.thermometer.specs.Table.{entry, entries, pt1000, Usable}
+use Rattle.thermometer.specs.Table.{entry, entries, pt1000}
+use Rattle.thermometer.specs.Usable.{Usable}
 use Rattle.thermometer.proofs.Tests.{eqb-means, ltb-means, both-means, every, every-at}
 use Rattle.thermometer.specs.Degrees.{thousandths, last}
 use Rattle.thermometer.proofs.Rise.{rising-of}

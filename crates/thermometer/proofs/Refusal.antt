@@ -7,8 +7,8 @@ use mathlib.Core.List.{List, [], _∷_}
 use native.Mathlib.Omega.{arith}
 use Rattle.unit.specs.Choice.{pick}
 use Rattle.unit.proofs.Cases.{fails, refuted}
-use Rattle.thermometer.specs.declared.Reading.the-variants.{Thousandths, Refused}
-use Rattle.thermometer.specs.Degrees.{resistance, thousandths, first, last, offTable, degreesOver, numberIn, valueRead}
+use Rattle.thermometer.specs.declared.InDegrees.the-variants.{Thousandths, Refused}
+use Rattle.thermometer.specs.Degrees.{resistance, thousandths, first, last, offTable, degreesOver, numberIn, thousandthsIn}
 use Rattle.thermometer.proofs.Tests.{eqb-means, ltb-means, either-means}
 
 -- "either word is FFFFFFFFh, b is 0, or the resistance is below the first or above the last entry"
@@ -60,6 +60,6 @@ number-13 table a b =
 pub answer-means :
     (table : List ℕ) (a b : ℕ) →
     ¬ OffTable table a b →
-    (numberIn (degreesOver table a b) ≡ []) × (valueRead (degreesOver table a b) ≡ thousandths table (resistance a b) ∷ [])
-unfolding numberIn valueRead
-answer-means table a b n = let on = on-answered table a b n in (ap numberIn on, ap valueRead on)
+    (numberIn (degreesOver table a b) ≡ []) × (thousandthsIn (degreesOver table a b) ≡ thousandths table (resistance a b) ∷ [])
+unfolding numberIn thousandthsIn
+answer-means table a b n = let on = on-answered table a b n in (ap numberIn on, ap thousandthsIn on)

@@ -13,18 +13,18 @@ use lib.Dec.{ltb}
 use borrow.Author.Tests.{ltb-true, lt-ltb, le-ltb}
 use Rattle.unit.specs.Choice.{both}
 use Rattle.unit.proofs.Cases.{by-test, fails}
-use Rattle.thermometer.specs.Table.{rising}
+use Rattle.thermometer.specs.Table.{isRising}
 
 -- the first two entries, and the rest
-pub rising-cons : (e f : ℕ) (rest : List ℕ) → rising (e ∷ f ∷ rest) ≡ true → (e < f) × (rising (f ∷ rest) ≡ true)
-unfolding rising
+pub rising-cons : (e f : ℕ) (rest : List ℕ) → isRising (e ∷ f ∷ rest) ≡ true → (e < f) × (isRising (f ∷ rest) ≡ true)
+unfolding isRising
 rising-cons e f rest =
     by-test (ltb e f) (λ t. rw t (λ h. (ltb-true e f t, h))) (λ t. rw t (λ h. absurd (fails false (λ (z : ⊥). z) .0 h)))
 
 -- no entry is below the first
 pub first-least :
     (e : ℕ) (rest : List ℕ) →
-    rising (e ∷ rest) ≡ true →
+    isRising (e ∷ rest) ≡ true →
     (i : ℕ) →
     i < length (e ∷ rest) →
     e ≤ getD (e ∷ rest) i 0
@@ -37,7 +37,7 @@ first-least e (f ∷ rest) up (suc i) h =
 -- "strictly rising": any two entries
 pub rises :
     (table : List ℕ) →
-    rising table ≡ true →
+    isRising table ≡ true →
     (i j : ℕ) →
     i < j →
     j < length table →
@@ -54,8 +54,8 @@ rises (e ∷ f ∷ rest) up (suc i) (suc j) l h =
 pub rising-of :
     (table : List ℕ) →
     ((i : ℕ) → suc i < length table → getD table i 0 < getD table (suc i) 0) →
-    rising table ≡ true
-unfolding rising
+    isRising table ≡ true
+unfolding isRising
 rising-of [] up = refl
 rising-of (e ∷ []) up = refl
 rising-of (e ∷ f ∷ rest) up =
@@ -64,31 +64,31 @@ rising-of (e ∷ f ∷ rest) up =
 -- "strictly rising", both ways
 pub rising-means :
     (table : List ℕ) →
-    (rising table ≡ true) ↔ ((i j : ℕ) → i < j → j < length table → getD table i 0 < getD table j 0)
+    (isRising table ≡ true) ↔ ((i j : ℕ) → i < j → j < length table → getD table i 0 < getD table j 0)
 rising-means table = (rises table, λ up. rising-of table (λ i h. up i (suc i) (omega arith) h))
 
 -- a loop that compares neighbours in turn: a pair that does not rise, a pair that does, and the last entry
 pair-at :
     (table : List ℕ) (i : ℕ) →
     i + 1 < length table →
-    rising (drop i table) ≡ both (ltb (getD table i 0) (getD table (i + 1) 0)) (rising (drop (i + 1) table))
-unfolding rising
+    isRising (drop i table) ≡ both (ltb (getD table i 0) (getD table (i + 1) 0)) (isRising (drop (i + 1) table))
+unfolding isRising
 pair-at table i h =
     rw (add-one i)
     (rw (drop-cons table i 0 (omega arith), drop-cons table (suc i) 0 (omega arith)))
 
-one-rises : (xs : List ℕ) → length xs ≤ 1 → rising xs ≡ true
-unfolding rising
+one-rises : (xs : List ℕ) → length xs ≤ 1 → isRising xs ≡ true
+unfolding isRising
 one-rises [] h = refl
 one-rises (e ∷ []) h = refl
 one-rises (e ∷ f ∷ rest) h = absurd (omega arith)
 
-module _ (table : List ℕ) (i : ℕ) (so-far : rising table ≡ rising (drop i table)) where
-  pub pair-falls : i + 1 < length table → getD table (i + 1) 0 ≤ getD table i 0 → false ≡ rising table
+module _ (table : List ℕ) (i : ℕ) (so-far : isRising table ≡ isRising (drop i table)) where
+  pub pair-falls : i + 1 < length table → getD table (i + 1) 0 ≤ getD table i 0 → false ≡ isRising table
   pair-falls h l = rw (so-far, pair-at table i h, le-ltb _ _ l)
 
-  pub pair-rises : i + 1 < length table → getD table i 0 < getD table (i + 1) 0 → rising table ≡ rising (drop (i + 1) table)
+  pub pair-rises : i + 1 < length table → getD table i 0 < getD table (i + 1) 0 → isRising table ≡ isRising (drop (i + 1) table)
   pair-rises h l = rw (so-far, pair-at table i h, lt-ltb _ _ l)
 
-  pub all-rise : length table ≤ i + 1 → true ≡ rising table
+  pub all-rise : length table ≤ i + 1 → true ≡ isRising table
   all-rise h = rw so-far (sym (one-rises (drop i table) (omega (arith, length-drop i table))))

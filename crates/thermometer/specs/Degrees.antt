@@ -5,9 +5,9 @@ use mathlib.Core.List.{List, [], _∷_}
 use lib.ListN.{length, getD}
 use lib.Dec.{ltb, eqb}
 use Rattle.unit.specs.Choice.{pick, either}
-use Rattle.thermometer.specs.Table.{accepted}
-use Rattle.thermometer.specs.declared.Reading.{Reading}
-use Rattle.thermometer.specs.declared.Reading.the-variants.{Thousandths, Refused}
+use Rattle.thermometer.specs.Table.{pt1000, isAccepted}
+use Rattle.thermometer.specs.declared.InDegrees.{InDegrees}
+use Rattle.thermometer.specs.declared.InDegrees.the-variants.{Thousandths, Refused}
 
 -- "From a probe word a and its reference word b, reference 1,000 Ω, resistance is a × 1,000,000 ÷ b milliohms, rounded
 -- down."
@@ -47,19 +47,23 @@ offTable table a b =
     (either (eqb b 0) (either (ltb (resistance a b) (first table)) (ltb (last table) (resistance a b)))))
 
 -- the answer over a table: "Turned away: number 13"
-unfoldable pub degreesOver : List ℕ → ℕ → ℕ → Reading
+unfoldable pub degreesOver : List ℕ → ℕ → ℕ → InDegrees
 degreesOver table a b = pick (offTable table a b) (Refused 13) (Thousandths (thousandths table (resistance a b)))
+
+-- over "a constant table of PT1000"
+abbrev pub degrees : ℕ → ℕ → InDegrees
+degrees a b = degreesOver pt1000 a b
 
 -- the answer over the caller's own table: "Turned away: number 14, bad table, before number 13, for any table failing these."
 -- (Note 7)
-unfoldable pub degreesBy : List ℕ → ℕ → ℕ → Reading
-degreesBy table a b = pick (accepted table) (degreesOver table a b) (Refused 14)
+unfoldable pub degreesBy : List ℕ → ℕ → ℕ → InDegrees
+degreesBy table a b = pick (isAccepted table) (degreesOver table a b) (Refused 14)
 
 -- What an answer says: its number where it is a refusal, else its thousandths of a degree.
-unfoldable pub numberIn : Reading → List ℕ
+unfoldable pub numberIn : InDegrees → List ℕ
 numberIn (Refused n) = n ∷ []
 numberIn (Thousandths t) = []
 
-unfoldable pub valueRead : Reading → List ℕ
-valueRead (Refused n) = []
-valueRead (Thousandths t) = t ∷ []
+unfoldable pub thousandthsIn : InDegrees → List ℕ
+thousandthsIn (Refused n) = []
+thousandthsIn (Thousandths t) = t ∷ []

@@ -1,8 +1,7 @@
 -- Tables of a probe's resistance, entry i for degree i, and PT1000's.
-use Prim.Native.Nat.{ℕ, zero, suc, _+_, _-_, _*_, _/_, _≤_}
+use Prim.Native.Nat.{ℕ, zero, suc, _+_, _-_, _*_, _/_}
 use mathlib.Core.Bool.{Bool, true}
 use mathlib.Core.List.{List, [], _∷_}
-use mathlib.Core.Path.{_≡_}
 use lib.ListN.{length}
 use lib.Dec.{ltb, leb}
 use Rattle.unit.specs.Choice.{both}
@@ -22,10 +21,10 @@ unfoldable pub pt1000 : List ℕ
 pt1000 = entries 181 0
 
 -- each entry is above the one before it
-unfoldable pub rising : List ℕ → Bool
-rising [] = true
-rising (e ∷ []) = true
-rising (e ∷ f ∷ rest) = both (ltb e f) (rising (f ∷ rest))
+unfoldable pub isRising : List ℕ → Bool
+isRising [] = true
+isRising (e ∷ []) = true
+isRising (e ∷ f ∷ rest) = both (ltb e f) (isRising (f ∷ rest))
 
 -- no entry is above the limit
 unfoldable pub noneAbove : ℕ → List ℕ → Bool
@@ -33,12 +32,6 @@ noneAbove limit [] = true
 noneAbove limit (e ∷ rest) = both (leb e limit) (noneAbove limit rest)
 
 -- "Each call checks it: 2 to 512 entries, strictly rising, none above 10,000,000." (Note 7)
-unfoldable pub accepted : List ℕ → Bool
-accepted table =
-    both (leb 2 (length table)) (both (leb (length table) 512) (both (rising table) (noneAbove 10000000 table)))
-
--- what a search needs of a table
-pub record Usable (table : List ℕ) : Type 0 where
-  pub some : 2 ≤ length table
-  pub few : length table ≤ 512
-  pub rises : rising table ≡ true
+unfoldable pub isAccepted : List ℕ → Bool
+isAccepted table =
+    both (leb 2 (length table)) (both (leb (length table) 512) (both (isRising table) (noneAbove 10000000 table)))

@@ -2,15 +2,38 @@
 ghost use mathlib.Core.Path.{_≡_};
 ghost use Prim.Native.Nat.{_<_, _≤_};
 ghost use lib.ListN.{length};
-ghost use Rattle.thermometer.specs.Table.{pt1000, rising, accepted, Usable};
-ghost use Rattle.thermometer.specs.Degrees.{resistance, interpolated, Between, thousandths, first, last, degreesOver, degreesBy};
+ghost use Rattle.thermometer.specs.Table.{isRising, isAccepted};
+ghost use Rattle.thermometer.specs.Usable.{Usable};
+ghost use Rattle.thermometer.specs.Degrees.{resistance, interpolated, Between, thousandths, first, last, degreesOver, degrees, degreesBy};
 
 mod table;
 
 use table::PT1000;
 use unit::wide;
 
-pub enum Reading {
+// The word of a failed measurement.
+const FAILED: u32 = 0xFFFFFFFF;
+
+// The reference of 1,000 ohms, in milliohms.
+const REFERENCE: u64 = 1000000;
+
+// Thousandths in a degree.
+const DEGREE: u64 = 1000;
+
+// What a caller's table may hold: entries, and milliohms in one.
+const FEWEST: usize = 2;
+
+const MOST: usize = 512;
+
+const HIGHEST: u32 = 10000000;
+
+// Numbers of refusals: off the table; a bad table.
+const OFF_TABLE: u32 = 13;
+
+const BAD_TABLE: u32 = 14;
+
+// The answer of `degrees` and `degrees_by`.
+pub enum InDegrees {
     // Thousandths of a degree.
     Thousandths(u32),
     // The number of the refusal.
@@ -22,7 +45,7 @@ fn resistance(probe: u32, reference: u32) -> u64
     requires { ⌜ 0 < reference ⌝ }
     ensures { λ r. ⌜ r ≡ resistance probe reference ⌝ }
 {
-    wide(probe) * 1000000 / wide(reference)
+    wide(probe) * REFERENCE / wide(reference)
 }
 
 // The place of the last entry that is at most r, by halving.
@@ -48,8 +71,8 @@ fn interpolated(i: usize, e: u32, f: u32, r: u32) -> u32
     requires { ⌜ (i < 512) × (e ≤ r) × (r < f) ⌝ }
     ensures { λ t. ⌜ t ≡ interpolated i e f r ⌝ }
 {
-    let part = 1000 * wide(r - e) / wide(f - e);
-    (1000 * i as u64 + part) as u32
+    let part = DEGREE * wide(r - e) / wide(f - e);
+    (DEGREE * i as u64 + part) as u32
 }
 
 // Thousandths of a degree at the resistance r.
@@ -59,41 +82,41 @@ fn thousandths(table: &[u32], r: u32) -> u32
 {
     let end = table.len() - 1;
     if table[end] <= r {
-        return 1000 * end as u32;
+        return (DEGREE * end as u64) as u32;
     }
     let i = place(table, r);
     interpolated(i, table[i], table[i + 1], r)
 }
 
 // The answer over a table, or number 13.
-fn degrees_over(table: &[u32], probe: u32, reference: u32) -> Reading
+fn degrees_over(table: &[u32], probe: u32, reference: u32) -> InDegrees
     requires { ⌜ Usable (now table) ⌝ }
     ensures { λ r. ⌜ r ≡ degreesOver (now (table .entry)) probe reference ⌝ }
 {
-    if probe == 4294967295 {
-        return Reading::Refused(13);
+    if probe == FAILED {
+        return InDegrees::Refused(OFF_TABLE);
     }
-    if reference == 4294967295 {
-        return Reading::Refused(13);
+    if reference == FAILED {
+        return InDegrees::Refused(OFF_TABLE);
     }
     if reference == 0 {
-        return Reading::Refused(13);
+        return InDegrees::Refused(OFF_TABLE);
     }
     let r = resistance(probe, reference);
     let end = table.len() - 1;
     if r < wide(table[0]) {
-        return Reading::Refused(13);
+        return InDegrees::Refused(OFF_TABLE);
     }
     if wide(table[end]) < r {
-        return Reading::Refused(13);
+        return InDegrees::Refused(OFF_TABLE);
     }
-    Reading::Thousandths(thousandths(table, r as u32))
+    InDegrees::Thousandths(thousandths(table, r as u32))
 }
 
 // The temperature of a PT1000 probe, from its word and the word of its reference resistor of 1,000 ohms. Number 13: a word is
 // FFFFFFFFh, the reference is 0, or the resistance is off the table.
-pub fn degrees(probe: u32, reference: u32) -> Reading
-    ensures { λ r. ⌜ r ≡ degreesOver pt1000 probe reference ⌝ }
+pub fn degrees(probe: u32, reference: u32) -> InDegrees
+    ensures { λ r. ⌜ r ≡ degrees probe reference ⌝ }
 {
     degrees_over(&PT1000, probe, reference)
 }
@@ -101,7 +124,7 @@ pub fn degrees(probe: u32, reference: u32) -> Reading
 // Whether each entry is above the one before it.
 fn is_rising(table: &[u32]) -> bool
     requires { ⌜ 0 < length (now table) ⌝ }
-    ensures { λ r. ⌜ r ≡ rising (now (table .entry)) ⌝ }
+    ensures { λ r. ⌜ r ≡ isRising (now (table .entry)) ⌝ }
 {
     let mut i = 0;
     while i + 1 < table.len() {
@@ -115,16 +138,16 @@ fn is_rising(table: &[u32]) -> bool
 
 // Whether a table has 2 to 512 entries that rise, none above 10,000,000: where they rise, the last is the largest.
 fn is_accepted(table: &[u32]) -> bool
-    ensures { λ r. ⌜ r ≡ accepted (now (table .entry)) ⌝ }
+    ensures { λ r. ⌜ r ≡ isAccepted (now (table .entry)) ⌝ }
 {
     let n = table.len();
-    if n < 2 {
+    if n < FEWEST {
         return false;
     }
-    if 512 < n {
+    if MOST < n {
         return false;
     }
-    if 10000000 < table[n - 1] {
+    if HIGHEST < table[n - 1] {
         return false;
     }
     is_rising(table)
@@ -132,12 +155,12 @@ fn is_accepted(table: &[u32]) -> bool
 
 // The temperature of a probe with a table of its own, milliohms at each whole degree from 0. Number 14 for a table of fewer than
 // 2 or more than 512 entries, one that does not rise, and one with an entry above 10,000,000; then number 13, as above.
-pub fn degrees_by(table: &[u32], probe: u32, reference: u32) -> Reading
+pub fn degrees_by(table: &[u32], probe: u32, reference: u32) -> InDegrees
     ensures { λ r. ⌜ r ≡ degreesBy (now (table .entry)) probe reference ⌝ }
 {
     if is_accepted(table) {
         degrees_over(table, probe, reference)
     } else {
-        Reading::Refused(14)
+        InDegrees::Refused(BAD_TABLE)
     }
 }

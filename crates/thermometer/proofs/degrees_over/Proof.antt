@@ -3,7 +3,7 @@ use mathlib.Core.Path.{sym, ap, _∙_}
 use mathlib.Core.Logic.{inl, inr, ⊎-elim}
 use native.Mathlib.Omega.{arith}
 use denote.Ref.{now}
-use Rattle.thermometer.specs.declared.Reading.the-variants.{Thousandths}
+use Rattle.thermometer.specs.declared.InDegrees.the-variants.{Thousandths}
 use Rattle.thermometer.specs.Degrees.{thousandths}
 use Rattle.thermometer.proofs.Refusal.{off-refused, on-answered}
 use borrow.Author.Needs.{needs}

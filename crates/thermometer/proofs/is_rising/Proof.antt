@@ -4,13 +4,13 @@ use native.Mathlib.Omega.{arith}
 use mathlib.Core.Path.{_≡_, refl}
 use lib.ListN.{length, drop}
 use denote.Ref.{now}
-use Rattle.thermometer.specs.Table.{rising}
+use Rattle.thermometer.specs.Table.{isRising}
 use Rattle.thermometer.proofs.Rise.{pair-falls, pair-rises, all-rise}
 use Rattle.thermometer.proofs.is_rising.Statement.{statement}
 use Rattle.thermometer.proofs.is_rising.Tie as tie
 
 abbrev Inv-loop : tie.InvT-loop
-Inv-loop table i₀ i = (i < length table) × (rising table ≡ rising (drop i table))
+Inv-loop table i₀ i = (i < length table) × (isRising table ≡ isRising (drop i table))
 
 abbrev μ-loop : tie.MeasureT-loop
 μ-loop table i₀ i = length table - i

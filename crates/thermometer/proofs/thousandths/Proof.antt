@@ -17,11 +17,11 @@ mul-if1 c = search needs
 shared-slice-read-if1 : tie.Need-shared-slice-read-if1
 shared-slice-read-if1 c = search needs
 
-cast-result : tie.Need-cast-result
-cast-result c = search needs
-
 mul-result : tie.Need-mul-result
 mul-result c = search needs
+
+cast-result : tie.Need-cast-result
+cast-result c = search needs
 
 returns : tie.Need-returns
 returns c =
@@ -66,8 +66,8 @@ thousandths-spec =
     sub-end
     mul-if1
     shared-slice-read-if1
-    cast-result
     mul-result
+    cast-result
     returns
     place-requires
     mul-interpolated

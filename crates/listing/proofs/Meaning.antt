@@ -16,8 +16,9 @@ use Rattle.numeral.specs.Digit.{areDigits, valueOf, glyph, digits}
 use Rattle.numeral.specs.Print.{widthFrom, decimalWidth, decimal, tenThousandths, fourDecimals, nanoseconds}
 use Rattle.numeral.specs.DigitLaws.{length-digits, are-digits, value-digits}
 use Rattle.numeral.specs.PrintLaws.{Nearest, rounded, four-decimals-value, decimal-first, length-decimal}
-use Rattle.listing.specs.declared.Listed.the-variants.{Written, Refused}
+use Rattle.listing.specs.declared.Listed.the-variants.{Written}
 use Rattle.listing.specs.Listing.{sign, rightJustified, line, lineLength, lines, lastAbove, Outcome, refused, written, listing}
+use Rattle.listing.specs.Listing.{numberIn, countIn}
 use Rattle.listing.proofs.Time.{time-fits, length-time}
 use Rattle.listing.proofs.Sequence.{line-length}
 
@@ -148,21 +149,20 @@ above-means d first (suc n) =
 apart : {t : Bool} → t ≡ true → ¬ (t ≡ false)
 apart p q = let z : _≡_ {A = ℕ} 0 1 = cc in omega arith
 
--- a refusal of one number is none of another, and nothing written
-other-number : {a b : ℕ} {G : Type 0} → Refused a ≡ Refused b → ¬ (a ≡ b) → G
-other-number {a} {b} e n = let same : a ≡ b = cc in absurd (n same)
+-- what an answer says, of a refusal and of lines written
+refused-says : (n : ℕ) (out : List ℕ) {o : Outcome} → o ≡ refused n out → (numberIn (o .answer) ≡ n ∷ []) × (countIn (o .answer) ≡ [])
+unfolding numberIn countIn
+refused-says n out s = (ap (λ (p : Outcome). numberIn (p .answer)) s, ap (λ (p : Outcome). countIn (p .answer)) s)
 
-not-written : {a n : ℕ} {G : Type 0} → Refused a ≡ Written n → G
-not-written e = let z : _≡_ {A = ℕ} 0 1 = cc in absurd (omega arith)
+written-says : (text out : List ℕ) {o : Outcome} → o ≡ written text out → (numberIn (o .answer) ≡ []) × (countIn (o .answer) ≡ length text ∷ [])
+unfolding numberIn countIn
+written-says text out s = (ap (λ (p : Outcome). numberIn (p .answer)) s, ap (λ (p : Outcome). countIn (p .answer)) s)
 
-same-number : {a b : ℕ} → Refused a ≡ Refused b → a ≡ b
-same-number e = cc
+says-nothing : {n : ℕ} {G : Type 0} → [] ≡ n ∷ [] → G
+says-nothing e = let z : _≡_ {A = ℕ} 0 1 = ap length e in absurd (omega arith)
 
-same-count : {a b : ℕ} → Written a ≡ Written b → a ≡ b
-same-count e = cc
-
-told : {o p : Outcome} → o ≡ p → o .answer ≡ p .answer
-told s = ap (λ (o : Outcome). o .answer) s
+says-same : {a b : ℕ} → a ∷ [] ≡ b ∷ [] → a ≡ b
+says-same e = cc
 
 left : {o p : Outcome} → o ≡ p → o .bytes ≡ p .bytes
 left s = ap (λ (o : Outcome). o .bytes) s
@@ -183,42 +183,48 @@ module _ (d : ℕ) (ds : List ℤ) (first : ℕ) (out : List ℕ) where
       (λ e. let low : ¬ Above d first (length ds) = λ a. apart (means .1 a) e in
       by-ltb (length out) (length ds * lineLength d) (λ l t. g low l (rw (e, t))) (λ l t. h low l (rw (e, t))))
 
-  pub twenty-exactly : (done .answer ≡ Refused 20) ↔ Above d first (length ds)
+  pub twenty-exactly : (numberIn (done .answer) ≡ 20 ∷ []) ↔ Above d first (length ds)
   twenty-exactly = (there, back)
     where
-      there : done .answer ≡ Refused 20 → Above d first (length ds)
+      there : numberIn (done .answer) ≡ 20 ∷ [] → Above d first (length ds)
       there e =
-          by-outcome (λ a s. a) (λ a l s. other-number (sym (told s) ∙ e) (λ x. omega arith)) (λ a l s. not-written (sym e ∙ told s))
+          by-outcome (λ a s. a)
+          (λ a l s. let z : _≡_ {A = ℕ} 21 20 = says-same (sym (refused-says 21 out s .0) ∙ e) in absurd (omega arith))
+          (λ a l s. says-nothing (sym (written-says (lines d first ds) out s .0) ∙ e))
 
-      back : Above d first (length ds) → done .answer ≡ Refused 20
-      back a = by-outcome (λ b s. told s) (λ n l s. absurd (n a)) (λ n l s. absurd (n a))
+      back : Above d first (length ds) → numberIn (done .answer) ≡ 20 ∷ []
+      back a = by-outcome (λ b s. refused-says 20 out s .0) (λ n l s. absurd (n a)) (λ n l s. absurd (n a))
 
   -- "then number 21 when the output is shorter than 17 bytes a line"
-  pub twenty-one-exactly : (done .answer ≡ Refused 21) ↔ ((¬ Above d first (length ds)) × (length out < length ds * lineLength d))
+  pub twenty-one-exactly : (numberIn (done .answer) ≡ 21 ∷ []) ↔ ((¬ Above d first (length ds)) × (length out < length ds * lineLength d))
   twenty-one-exactly = (there, back)
     where
-      there : done .answer ≡ Refused 21 → (¬ Above d first (length ds)) × (length out < length ds * lineLength d)
+      there : numberIn (done .answer) ≡ 21 ∷ [] → (¬ Above d first (length ds)) × (length out < length ds * lineLength d)
       there e =
-          by-outcome (λ a s. other-number (sym (told s) ∙ e) (λ x. omega arith)) (λ n l s. (n, l)) (λ n l s. not-written (sym e ∙ told s))
+          by-outcome
+          (λ a s. let z : _≡_ {A = ℕ} 20 21 = says-same (sym (refused-says 20 out s .0) ∙ e) in absurd (omega arith))
+          (λ n l s. (n, l))
+          (λ n l s. says-nothing (sym (written-says (lines d first ds) out s .0) ∙ e))
 
-      back : (¬ Above d first (length ds)) × (length out < length ds * lineLength d) → done .answer ≡ Refused 21
-      back p = by-outcome (λ a s. absurd (p .0 a)) (λ n l s. told s) (λ n l s. absurd (omega (arith, p .1)))
+      back : (¬ Above d first (length ds)) × (length out < length ds * lineLength d) → numberIn (done .answer) ≡ 21 ∷ []
+      back p = by-outcome (λ a s. absurd (p .0 a)) (λ n l s. refused-says 21 out s .0) (λ n l s. absurd (omega (arith, p .1)))
 
-  pub only-numbers : (n : ℕ) → done .answer ≡ Refused n → (n ≡ 20) ⊎ (n ≡ 21)
+  pub only-numbers : (n : ℕ) → numberIn (done .answer) ≡ n ∷ [] → (n ≡ 20) ⊎ (n ≡ 21)
   only-numbers n e =
-      by-outcome (λ a s. inl (same-number (sym e ∙ told s))) (λ a l s. inr (same-number (sym e ∙ told s))) (λ a l s. not-written (sym e ∙ told s))
+      by-outcome (λ a s. inl (says-same (sym e ∙ refused-says 20 out s .0))) (λ a l s. inr (says-same (sym e ∙ refused-says 21 out s .0)))
+      (λ a l s. says-nothing (sym (written-says (lines d first ds) out s .0) ∙ e))
 
   -- "nothing is written then"
-  pub refused-keeps : (n : ℕ) → done .answer ≡ Refused n → done .bytes ≡ out
-  refused-keeps n e = by-outcome (λ a s. left s) (λ a l s. left s) (λ a l s. not-written (sym e ∙ told s))
+  pub refused-keeps : (n : ℕ) → numberIn (done .answer) ≡ n ∷ [] → done .bytes ≡ out
+  refused-keeps n e = by-outcome (λ a s. left s) (λ a l s. left s) (λ a l s. says-nothing (sym (written-says (lines d first ds) out s .0) ∙ e))
 
   -- the lines from the start on; "Places past the last line keep their values"
-  pub written-means : Fit ds → (n : ℕ) → done .answer ≡ Written n
+  pub written-means : Fit ds → (n : ℕ) → countIn (done .answer) ≡ n ∷ []
       → (n ≡ length ds * lineLength d) × (take n (done .bytes) ≡ lines d first ds) × (drop n (done .bytes) ≡ drop n out)
   written-means fit n e =
-      by-outcome (λ a s. not-written (sym (told s) ∙ e)) (λ a l s. not-written (sym (told s) ∙ e))
+      by-outcome (λ a s. says-nothing (sym (refused-says 20 out s .1) ∙ e)) (λ a l s. says-nothing (sym (refused-says 21 out s .1) ∙ e))
       (λ a l s. let text = lines d first ds in
-      let count : n ≡ length text = same-count (sym e ∙ told s) in
+      let count : n ≡ length text = says-same (sym e ∙ written-says (lines d first ds) out s .1) in
       (count ∙ lines-length d first ds fit, rw (left s, count) (take-append-seam text (drop (length text) out)), rw (left s, count) (drop-append-seam text (drop (length text) out))))
 
 -- "an empty list writes nothing and is accepted with any first"

@@ -71,3 +71,12 @@ listing d differences first out =
     pick (lastAbove d first (length differences)) (refused 20 out)
     (pick (ltb (length out) (length differences * lineLength d)) (refused 21 out)
     (written (lines d first differences) out))
+
+-- What an answer says: the number of a refusal; how many bytes were written.
+unfoldable pub numberIn : Listed → List ℕ
+numberIn (Refused number) = number ∷ []
+numberIn (Written count) = []
+
+unfoldable pub countIn : Listed → List ℕ
+countIn (Refused number) = []
+countIn (Written count) = count ∷ []

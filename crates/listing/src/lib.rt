@@ -6,6 +6,13 @@ ghost use Rattle.listing.specs.Listing.{captureDigits, usual, listing};
 mod line;
 mod lines;
 
+use crate::lines::REST;
+
+// Numbers of refusals: the last capture has too many digits; the output is too short.
+const LAST_CAPTURE: u32 = 20;
+
+const SHORT_OUTPUT: u32 = 21;
+
 // How many hexadecimal digits a capture number has.
 pub enum Width {
     Two,
@@ -30,10 +37,10 @@ pub fn write_listing(differences: &[i32], first: u32, out: &mut [u8]) -> Listed
 pub fn write_listing_as(width: Width, differences: &[i32], first: u32, out: &mut [u8]) -> Listed
     ensures { λ r. ⌜ record { answer = r; bytes = now (out .exit) } ≡ listing (captureDigits width) (now (differences .entry)) first (now (out .entry)) ⌝ }
 {
-    write_digits(digits_of(width), differences, first, out)
+    write_digits(capture_digits(width), differences, first, out)
 }
 
-fn digits_of(width: Width) -> usize
+fn capture_digits(width: Width) -> usize
     ensures { λ r. ⌜ (r ≡ captureDigits width) × (r ≤ 8) ⌝ }
 {
     match width {
@@ -48,11 +55,11 @@ fn write_digits(digits: usize, differences: &[i32], first: u32, out: &mut [u8]) 
 {
     let count = differences.len();
     if lines::last_above(digits, first, count) {
-        return Listed::Refused(20);
+        return Listed::Refused(LAST_CAPTURE);
     }
-    let size = count * (digits + 15);
+    let size = count * (digits + REST);
     if out.len() < size {
-        return Listed::Refused(21);
+        return Listed::Refused(SHORT_OUTPUT);
     }
     lines::put_lines(digits, differences, first, out);
     Listed::Written(size)

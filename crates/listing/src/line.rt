@@ -8,6 +8,11 @@ ghost use Rattle.numeral.specs.Place.{overwrite, Put};
 ghost use Rattle.numeral.specs.Print.{nanoseconds};
 ghost use Rattle.listing.specs.Listing.{rightJustified, sign, line, lineLength};
 
+// The places of a time, and twice as many: where it is put before it is moved to the right.
+const PLACES: usize = 12;
+
+const FIELD: usize = 24;
+
 fn magnitude(difference: i32) -> u32
     ensures { λ r. ⌜ (r ≡ natAbs difference) × (r ≤ 2147483648) ⌝ }
 {
@@ -34,9 +39,9 @@ fn put_time(out: &mut [u8], at: usize, quanta: u32) -> usize
     requires { ⌜ quanta ≤ 2147483648 ⌝ }
     ensures { λ r. ⌜ Put (now (out .entry)) at (rightJustified 12 (nanoseconds quanta)) r (now (out .exit)) ⌝ }
 {
-    let mut field = [b' '; 24];
-    let end = numeral::put_nanoseconds(&mut field, 12, quanta);
-    let start = end - 12;
+    let mut field = [b' '; FIELD];
+    let end = numeral::put_nanoseconds(&mut field, PLACES, quanta);
+    let start = end - PLACES;
     numeral::put_text(out, at, &field[start..end])
 }
 

@@ -7,6 +7,9 @@ ghost use Rattle.numeral.specs.Place.{overwrite};
 ghost use Rattle.listing.specs.Listing.{lineLength, lastAbove, lines};
 use crate::line::put_line;
 
+// The bytes of a line past its capture number: a blank, the sign, 12 places and the line feed.
+pub const REST: usize = 15;
+
 // How many numbers have at most so many hexadecimal digits.
 fn numbers_of(digits: usize) -> u64
     requires { ⌜ digits ≤ 8 ⌝ }
@@ -42,7 +45,7 @@ pub fn put_lines(digits: usize, differences: &[i32], first: u32, out: &mut [u8])
     while i < differences.len() {
         let capture = first + i as u32;
         put_line(out, at, digits, capture, differences[i]);
-        at += digits + 15;
+        at += digits + REST;
         i += 1;
     }
 }

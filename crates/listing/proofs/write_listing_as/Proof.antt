@@ -7,8 +7,8 @@ use Rattle.listing.specs.Listing.{listing}
 use Rattle.listing.proofs.write_listing_as.Statement.{statement}
 use Rattle.listing.proofs.write_listing_as.Tie as tie
 
-digits-of-requires : tie.Need-digits-of-requires
-digits-of-requires c κs = search needs
+capture-digits-requires : tie.Need-capture-digits-requires
+capture-digits-requires c κs = search needs
 
 write-digits-requires : tie.Need-write-digits-requires
 write-digits-requires c κs = search needs
@@ -17,8 +17,8 @@ same-length : tie.Need-same-length
 same-length c = search needs
 
 returns : tie.Need-returns
-returns c = c .before .before .write-digits .ensures ∙ ap (λ (d : ℕ). listing d (c .before .before .before .before .before .before .args .differences .now) (c .before .before .before .before .before .before .args .first) (c .before .before .before .before .before .before .args .out .now)) (c .before .before .before .before .digits-of .ensures .0)
+returns c = c .before .before .write-digits .ensures ∙ ap (λ (d : ℕ). listing d (c .before .before .before .before .before .before .args .differences .now) (c .before .before .before .before .before .before .args .first) (c .before .before .before .before .before .before .args .out .now)) (c .before .before .before .before .capture-digits .ensures .0)
 
 pub write-listing-as-spec : {M : Type 1} → statement M
 write-listing-as-spec =
-    tie.close (tie.spec digits-of-requires write-digits-requires same-length returns)
+    tie.close (tie.spec capture-digits-requires write-digits-requires same-length returns)

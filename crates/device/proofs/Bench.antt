@@ -4,7 +4,7 @@ use Rattle.calendar.specs.Calendar.{leap, monthLength, dateFits, timeFits, cloc
 use Rattle.calendar.specs.Calendar.{nextDate, nextHour, nextMinute, nextSecond, tickClock}
 use Rattle.calendar.specs.Words.{hundredthsOf, minuteIn, twelveIn, hourNamed, hourIn, clockFrom, timeDigits, hourFits, digitsFit, wordsValid}
 use Rattle.setup.specs.Setup.{factory, hitCount, differencePeriod, differenceCount, eventContinuous}
-use Rattle.hit.specs.Limit.{lateFrom, openFrom, anyWord, anyFrom}
+use Rattle.hit.specs.Limit.{lateFrom, openFrom, shortBelow, anyWord, anyFrom, anyBelow, anyFault}
 use Rattle.hit.specs.Words.{wordOrZero, sixWords, sixTotal, average}
 use Rattle.hit.specs.Difference.{differenceWord, differenceMean}
 use Rattle.hit.specs.Biased.{biased}
@@ -19,5 +19,5 @@ use Rattle.device.specs.Bus.{startsFlight, flightStarted, flightEvent, e
 use Rattle.device.specs.Bench.{Example, bench, awaitedFor, startTicks}
 
 pub bench-holds : All (λ (e : Example). e .given ≡ e .wanted) bench
-unfolding bench awaitedFor startTicks leap monthLength dateFits timeFits clockValid nextYear nextMonth nextWeekday nextDate nextHour nextMinute nextSecond tickClock hundredthsOf minuteIn twelveIn hourNamed hourIn clockFrom timeDigits hourFits digitsFit wordsValid factory hitCount differencePeriod differenceCount lateFrom openFrom anyWord anyFrom wordOrZero sixWords sixTotal average differenceWord biased differenceMean differenceBits noSchedule startSingle startEvent isAwaited begins fails settle tickSchedule leftAfter waitAfter startedAfter settledAfter freshModel freshWith noFlight half flightWord registerWord goodDifference goodSum goodFlight goodFlightModel startsFlight flightStarted flightEvent eventFlight startedEvent singleStarted startsLeft beginsGroup goodAfter eventContinuous
+unfolding bench awaitedFor startTicks leap monthLength dateFits timeFits clockValid nextYear nextMonth nextWeekday nextDate nextHour nextMinute nextSecond tickClock hundredthsOf minuteIn twelveIn hourNamed hourIn clockFrom timeDigits hourFits digitsFit wordsValid factory hitCount differencePeriod differenceCount lateFrom openFrom anyWord anyFrom anyBelow anyFault shortBelow wordOrZero sixWords sixTotal average differenceWord biased differenceMean differenceBits noSchedule startSingle startEvent isAwaited begins fails settle tickSchedule leftAfter waitAfter startedAfter settledAfter freshModel freshWith noFlight half flightWord registerWord goodDifference goodSum goodFlight goodFlightModel startsFlight flightStarted flightEvent eventFlight startedEvent singleStarted startsLeft beginsGroup goodAfter eventContinuous
 bench-holds = (refl, (refl, (refl, (refl, (refl, (refl, (refl, (refl, (refl, (refl, (refl, tt)))))))))))

@@ -108,7 +108,7 @@ accepted-step m (temperature w) n p =
 accepted-step m (stretch k) n p = stretching k (ltb-false 16384 k (n .row12))
 
 -- a sound model refuses no tick
-tick-accepted : (m : Model) → isSound m ≡ true → verdict m tick ≡ accepted
+pub tick-accepted : (m : Model) → isSound m ≡ true → verdict m tick ≡ accepted
 unfolding verdict firstOf table noFrame notCarried wrongLength pastRegisters shortOutput whileBusy supplyOff unreachable unerased badCalendar notInitialised badSetup notAwaited miscounted tooLong
 tick-accepted m v = rw v
 

@@ -198,7 +198,7 @@ module _ (m : Model) (w : List ℕ) (e : miscounted m (temperature w) ≡ false)
 module _ (m : Model) (w : List ℕ) where
   -- "its delivery, single or of an event, is answered failed": good exactly where all words are neither short nor open
   pub good-words : (acceptedAnswer m (temperature w) ≡ Good) ↔ Whole (m .setup) w
-  unfolding acceptedAnswer portFault
+  unfolding acceptedAnswer portFault openFrom portCycle
   good-words =
       let f = whole-means (openFrom (portCycle (m .setup))) w in
       by-test (anyFault (openFrom (portCycle (m .setup))) w)

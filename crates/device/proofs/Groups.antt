@@ -9,24 +9,26 @@ use Rattle.device.specs.Model.{freshModel}
 use Rattle.device.specs.Reply.{reply}
 use Rattle.device.specs.History.{Plan, History, differences, runs}
 use Rattle.device.specs.Claim.{KindClaim, countRegister, reached, plannedStarts}
-use Rattle.device.specs.History.{after}
+use Rattle.device.specs.History.{after, log, planOf}
+use Rattle.device.specs.SetupTold.{setupTold}
 use Rattle.device.specs.Claim.{command, toldOf, EventClaim}
 use Rattle.device.proofs.Witness.{setUp, overGroups, continuous-accepted, plan-is, groups-read, groups-held}
+use Rattle.device.proofs.SetupTold.{setup-told}
 use Rattle.device.proofs.Third.{third-demand}
 
 runs-differences : runs differences 8 ≡ true
 unfolding runs
 runs-differences = refl
 
-claim : EventClaim (after freshModel setUp) 8 [] [] overGroups
+claim : EventClaim (setupTold (log freshModel setUp)) (after freshModel setUp) 8 [] [] overGroups
 claim =
     third-demand setUp 8 [] [] overGroups (omega arith) (omega arith) continuous-accepted (groups-read .0)
 
 abbrev told : History
-told = toldOf differences (after freshModel setUp) 8 [] [] overGroups
+told = toldOf differences (setupTold (log freshModel setUp)) (after freshModel setUp) 8 [] [] overGroups
 
 abbrev kind :
-    KindClaim differences ((after freshModel setUp) .setup) told
+    KindClaim differences (setupTold (log freshModel setUp)) told
     (after (reply (after freshModel setUp) (command 8 [] []) .model) overGroups)
 kind = claim .kinds differences runs-differences
 
@@ -37,7 +39,8 @@ planned = refl
 -- The starts are those of two groups, and the good delivery of the second group alone is counted.
 pub two-groups : told .starts ≡ 0 ∷ 16384 ∷ []
 two-groups =
-    kind .starts ∙ ap (λ (p : Plan). plannedStarts p (told .ticks)) plan-is ∙
+    kind .starts ∙ ap (λ (s : List ℕ). plannedStarts (planOf differences s) (told .ticks)) (sym (setup-told setUp)) ∙
+    ap (λ (p : Plan). plannedStarts p (told .ticks)) plan-is ∙
     ap (plannedStarts (record { period = 16384; count = 1; continuous = true })) (claim .ticks differences ∙ groups-read .1) ∙
     planned
 

@@ -1,5 +1,5 @@
 -- What a kind holds after each call of an event: its schedule, and the sums of what was good so far.
-use Prim.Native.Nat.{ℕ, zero, suc, _+_, _/_, _%_, _≤_, _<_}
+use Prim.Native.Nat.{ℕ, zero, suc, _+_, _*_, _/_, _%_, _^_, _≤_, _<_, min}
 use native.Mathlib.Omega.{arith}
 use mathlib.Core.Path.{_≡_, refl, ap, sym, subst, _∙_}
 use mathlib.Core.Bool.{Bool, true, false}
@@ -8,11 +8,11 @@ use lib.ListN.{length, length-map, getD}
 use lib.Dec.{ltb, eqb}
 use borrow.Author.Tests.{ltb-true, lt-ltb, eqb-true}
 use Rattle.unit.specs.Choice.{pick, both, negate}
-use Rattle.unit.proofs.Cases.{by-test}
-use Rattle.unit.proofs.Joined.{held}
-use Rattle.setup.specs.Setup.{hitCount, portCycle, differencePeriod, differenceCount, temperaturePeriod, temperatureCount}
+use Rattle.unit.proofs.Cases.{by-test, by-ltb}
+use Rattle.unit.proofs.Joined.{neither, held}
+use Rattle.setup.specs.Setup.{wordOf, hitCount, timeout, portCycle, differencePeriod, differenceCount, temperaturePeriod, temperatureCount}
 use Rattle.setup.proofs.Laws.{hits-bounds}
-use Rattle.hit.specs.Limit.{openFrom}
+use Rattle.hit.specs.Limit.{lateFrom, openFrom, anyFrom}
 use Rattle.hit.specs.Words.{sixWords, fourWords, average, plusEach}
 use Rattle.hit.specs.Difference.{differenceMean, portMean}
 use Rattle.hit.specs.Biased.{biased, InRange, biasedTotal}
@@ -20,7 +20,7 @@ use Rattle.hit.specs.Mean.{All, sum, Averages, differenceBits, meanAverages, fl
 use Rattle.hit.proofs.Limits.{quotient-below}
 use Rattle.hit.proofs.Sum.{six-total}
 use Rattle.hit.proofs.Mean.{mean-word, port-mean-words}
-use Rattle.hit.proofs.Meaning.{whole-means}
+use Rattle.hit.proofs.Meaning.{from-means, whole-means}
 use Rattle.device.specs.declared.Schedule.{Schedule}
 use Rattle.device.specs.declared.Flight.{Flight}
 use Rattle.device.specs.declared.Temperature.{Temperature}
@@ -28,6 +28,7 @@ use Rattle.device.specs.declared.Model.{Model}
 use Rattle.device.specs.declared.Reply.{Reply}
 use Rattle.device.specs.declared.Answer.the-variants.{Refused}
 use Rattle.device.specs.Event.{begins, beginsGroup, fails, settle}
+use Rattle.device.specs.Model.{isSound}
 use Rattle.device.specs.Registers.{half, flightWord, temperatureWord, registerWord}
 use Rattle.device.specs.Tick.{sumAfter, sumsAfter, flightTicked, flightAfter, temperatureAfter, tickModel, reportOf}
 use Rattle.device.specs.Results.{failedFlight}
@@ -40,7 +41,7 @@ use Rattle.device.specs.History.{Kind, differences, temperatures, period
 use Rattle.device.specs.History.{isTick, isDelivery, isGood, isFailed, startReported, failureReported, wordsGood}
 use Rattle.device.specs.History.{isRefusal, spanOf, stretchIn, named, noteTicks}
 use Rattle.device.specs.History.{averagesOf, portWord}
-use Rattle.device.specs.Claim.{awaitedNow, deliveryOf, countRegister, Complete, KindClaim}
+use Rattle.device.specs.Claim.{countRegister, InTime, Complete, KindClaim}
 use Rattle.device.proofs.Table.{NoneHolds, negated, picked}
 use Rattle.device.proofs.Sound.{left-some, hits-counted, hits-below}
 use Rattle.device.proofs.Sound
@@ -48,6 +49,7 @@ use Rattle.device.proofs.Going.{Going, all-append, group-told, going-ti
 use Rattle.device.proofs.Stretch.{scheduleOf, schedule-ticked, setup-ticked, Apart, apart, start-named, failure-named}
 use Rattle.device.proofs.Calls.{Step, refusal, reading, ticking, flight-failed, flight-good, ports-failed, ports-good}
 use Rattle.device.proofs.Calls.{stretching}
+use Rattle.device.proofs.NumberTen.{now-means, now-any}
 
 pub record FlightHeld (s : List ℕ) (h : History) (f : Flight) : Type 0 where
   pub going : Going (planOf differences s) h (f .schedule)
@@ -94,6 +96,16 @@ below-at : (ws : List ℕ) (i : ℕ) → All Below ws → Below (getD ws i 0)
 below-at [] i b = omega arith
 below-at (w ∷ ws) zero b = b .0
 below-at (w ∷ ws) (suc i) b = below-at ws i (b .1)
+
+-- no word of a list is late
+in-time : (s ws : List ℕ) → anyFrom (lateFrom (timeout s)) ws ≡ false → InTime s ws
+unfolding lateFrom timeout
+in-time s ws e i h =
+    by-ltb (getD ws i 0) (min (512 * 2 ^ (wordOf s 0x39 % 8) * 65536) 2147483648) (λ l _. l)
+    (λ l _.
+    let t = from-means (lateFrom (timeout s)) ws .1 (i, h, l) in
+    let z : _≡_ {A = ℕ} 0 1 = cc in
+    absurd (omega arith))
 
 -- with both directions measured, both lists have H words
 same-as : (hits given : ℕ) → sameCount true hits given ≡ true → given ≡ hits
@@ -195,8 +207,9 @@ module _ (m : Model) (h : History) (i : FlightHeld (m .setup) h (m .flight)) whe
         up = i .up;
         down = i .down;
         complete =
-            all-append (Complete (m .setup)) (h .good) (flight u d) (i .complete)
-            (both-counted (m .flight) hits (length u) (length d) (i .up) (i .down) (n .row11));
+            let (cu, cd) = both-counted (m .flight) hits (length u) (length d) (i .up) (i .down) (n .row11) in
+            let (lu, ld) = neither _ _ l in
+            all-append (Complete (m .setup)) (h .good) (flight u d) (i .complete) (cu, cd, in-time (m .setup) u lu, in-time (m .setup) d ld);
       }
 
 record PortsTold (s : List ℕ) (good : List Call) (totals : List ℕ) : Type 0 where
@@ -257,7 +270,7 @@ module _ (m : Model) (h : History) (i : TemperatureHeld (m .setup) h (m .tempera
         sums = goodSums (m .temperature) (fourWords w);
         ports = fourWords w;
       })
-  unfolding goodSums plusEach portWord noteGood wordsGood notAwaited miscounted portFault
+  unfolding goodSums plusEach portWord noteGood wordsGood notAwaited miscounted portFault openFrom portCycle
   ports-add w n l =
       let k : Schedule = m .temperature .schedule in
       let p = Sound.ports-good m w (n .row11) l in
@@ -325,7 +338,7 @@ stretch-held k m h n (suc j) l u i =
     t
 
 -- a refused call tells nothing
-note-refused :
+pub note-refused :
     (k : Kind) (s : List ℕ) (c : Call) (n : ℕ) (h : History) →
     isTick c ≡ false →
     note k s (record { call = c; answer = Refused n }) h ≡ h
@@ -373,22 +386,23 @@ port-average s h t i j e =
     rw (e, j .going .counted .good, ← (length-map (h .good) (portWord i)))
     (port-mean-words (map (portWord i) (h .good)) (j .below i))
 
-pub held-claim : (k : Kind) (s : List ℕ) (h : History) (m : Model) → KindHeld k s h m → KindClaim k s h m
-unfolding periodOf countOf countRegister awaitedNow deliveryOf notAwaited registerWord flightWord temperatureWord half
-held-claim differences s h m i =
+pub held-claim : (k : Kind) (s : List ℕ) (h : History) (m : Model) → isSound m ≡ true → KindHeld k s h m → KindClaim k s h m
+unfolding periodOf countOf countRegister registerWord flightWord temperatureWord half
+held-claim differences s h m v i =
     let a = difference-average s h (m .flight) i in
     record {
       starts = all-reached _ h (m .flight .schedule) (i .going);
       group = in-group _ h (m .flight .schedule) (i .going);
-      balance = balanced _ h (m .flight .schedule) (i .going);
+      balance = rw (now-means differences m v) (balanced _ h (m .flight .schedule) (i .going));
+      awaited = now-any differences m v;
       timely = i .going .counted .timely;
-      recent = recent _ h (m .flight .schedule) (i .going);
+      recent = rw (now-means differences m v) (recent _ h (m .flight .schedule) (i .going));
       judged = i .going .counted .judged;
       complete = i .complete;
       count = i .going .counted .good;
       averages = record { high = ap (λ w. w / 65536) a; low = ap (λ w. w % 65536) a };
     }
-held-claim temperatures s h m i =
+held-claim temperatures s h m v i =
     let a = port-average s h (m .temperature) 0 i (ap (λ l. getD l 0 0) (i .sums)) in
     let b = port-average s h (m .temperature) 1 i (ap (λ l. getD l 1 0) (i .sums)) in
     let c = port-average s h (m .temperature) 2 i (ap (λ l. getD l 2 0) (i .sums)) in
@@ -396,9 +410,10 @@ held-claim temperatures s h m i =
     record {
       starts = all-reached _ h (m .temperature .schedule) (i .going);
       group = in-group _ h (m .temperature .schedule) (i .going);
-      balance = balanced _ h (m .temperature .schedule) (i .going);
+      balance = rw (now-means temperatures m v) (balanced _ h (m .temperature .schedule) (i .going));
+      awaited = now-any temperatures m v;
       timely = i .going .counted .timely;
-      recent = recent _ h (m .temperature .schedule) (i .going);
+      recent = rw (now-means temperatures m v) (recent _ h (m .temperature .schedule) (i .going));
       judged = i .going .counted .judged;
       complete = i .complete;
       count = i .going .counted .good;

@@ -25,8 +25,11 @@ pub mod Quiet
 pub mod StretchMeaning
 pub mod ClockMeaning
 pub mod Calls
+pub mod NumberTen
 pub mod Held
+pub mod Others
 pub mod Third
+pub mod SoundMeaning
 pub mod Groups
 pub mod FlashRun
 pub mod Supply

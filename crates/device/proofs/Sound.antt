@@ -11,10 +11,11 @@ use Rattle.unit.specs.Choice.{pick, either, both, negate}
 use Rattle.unit.proofs.Cases.{by-test, by-ltb, by-eqb}
 use Rattle.unit.specs.declared.Ticks.{Ticks}
 use Rattle.calendar.specs.Calendar.{clockValid}
-use Rattle.calendar.specs.Words.{clockFrom, hourFits, digitsFit, wordsValid}
+use Rattle.calendar.specs.Words.{minuteIn, twelveIn, hourNamed, hourIn, clockFrom, timeDigits, hourFits, digitsFit, wordsValid, alarmValid}
 use Rattle.unit.proofs.Joined.{both-true, neither, passed, held}
 use Rattle.calendar.proofs.Laws.{tick-valid}
 use Rattle.calendar.proofs.Facts.{start-valid}
+use Rattle.setup.specs.Setup.{factory, alarmWord}
 use Rattle.setup.specs.Setup.{hitCount, timeout, portCycle, clockStands, eventContinuous, differencePeriod, differenceCount, temperaturePeriod, temperatureCount}
 use Rattle.setup.proofs.Laws.{hits-bounds, cycle-below, difference-period-bounds, difference-count-bounds}
 use Rattle.setup.proofs.Laws.{temperature-period-bounds, temperature-count-bounds}
@@ -32,7 +33,7 @@ use Rattle.device.specs.declared.Flight.{Flight}
 use Rattle.device.specs.declared.Temperature.{Temperature}
 use Rattle.device.specs.declared.Model.{Model}
 use Rattle.device.specs.Model.{isSound, isBusy, kindBusy, flightSound, temperatureSound, sumFits, freshWith, freshModel, resetModel, noFlight, noTemperature}
-use Rattle.device.specs.Write.{clockAfter, writeInvalid, writeModel}
+use Rattle.device.specs.Write.{ofCalendar, setupAfter, clockAfter, writeInvalid, writeModel}
 use Rattle.device.specs.Tick.{sumAfter, sumsAfter, flightTicked, flightAfter, temperatureAfter, clockTicked, tickModel}
 use Rattle.device.specs.Results.{failedFlight}
 use Rattle.device.specs.Stretch.{modelTicked}
@@ -89,6 +90,7 @@ pub record TemperatureBounds (t : Temperature) : Type 0 where
 
 pub record Bounds (m : Model) : Type 0 where
   pub clock : clockValid (m .clock) ≡ true
+  pub alarm : alarmValid (alarmWord (m .setup)) ≡ true
   pub flight : FlightBounds (m .flight)
   pub temperature : TemperatureBounds (m .temperature)
 
@@ -264,13 +266,14 @@ pub bounds-of : (m : Model) → isSound m ≡ true → Bounds m
 unfolding isSound
 bounds-of m e =
     let (c, e1) = held (clockValid (m .clock)) e in
-    let (f, t) = held (flightSound (m .flight)) e1 in
-    record { clock = c; flight = flight-of (m .flight) f; temperature = temperature-of (m .temperature) t }
+    let (a, e2) = held (alarmValid (alarmWord (m .setup))) e1 in
+    let (f, t) = held (flightSound (m .flight)) e2 in
+    record { clock = c; alarm = a; flight = flight-of (m .flight) f; temperature = temperature-of (m .temperature) t }
 
 pub sound-of : (m : Model) → Bounds m → isSound m ≡ true
 unfolding isSound
 sound-of m b =
-    rw (b .clock, flight-sound (m .flight) (b .flight), temperature-sound (m .temperature) (b .temperature))
+    rw (b .clock, b .alarm, flight-sound (m .flight) (b .flight), temperature-sound (m .temperature) (b .temperature))
 
 -- The schedule of one kind.
 pub no-schedule-bounds : ScheduleBounds noSchedule
@@ -672,9 +675,13 @@ temperature-lost-bounds t p a b =
     }
 
 -- A fresh model, and each accepted call.
+factory-alarm : alarmValid (alarmWord factory) ≡ true
+unfolding factory alarmWord alarmValid timeDigits minuteIn hourFits hourNamed hourIn twelveIn
+factory-alarm = refl
+
 fresh-bounds : (s : Status) → Bounds (freshWith s)
 unfolding freshWith
-fresh-bounds s = record { clock = start-valid; flight = no-flight-bounds; temperature = no-temperature-bounds }
+fresh-bounds s = record { clock = start-valid; alarm = factory-alarm; flight = no-flight-bounds; temperature = no-temperature-bounds }
 
 tick-model-bounds : (m : Model) → Bounds m → Bounds (tickModel m)
 unfolding tickModel clockTicked
@@ -682,6 +689,7 @@ tick-model-bounds m b =
     record {
       clock =
           chosen (λ c. clockValid c ≡ true) (clockStands (m .setup)) (b .clock) (tick-valid (m .clock) (b .clock));
+      alarm = b .alarm;
       flight = flight-after-bounds (m .flight) (b .flight);
       temperature = temperature-after-bounds (m .temperature) (b .temperature);
     }
@@ -701,6 +709,8 @@ unfolding writeInvalid writeModel clockAfter
 write-bounds bytes op n m e b =
     record {
       clock = words-clock _ _ _ _ _ (both-true _ _ (negated _ e) .0);
+      alarm =
+          both-true (ofCalendar bytes op n m wordsValid) (alarmValid (alarmWord (setupAfter bytes op (m .setup) n))) (negated _ e) .1;
       flight = b .flight;
       temperature = b .temperature;
     }
@@ -714,11 +724,13 @@ single-started-bounds m op i b =
     chosen Bounds (eqb op 3)
     (record {
       clock = b .clock;
+      alarm = b .alarm;
       flight = f;
       temperature = record { schedule = single-bounds (m .temperature .schedule) k (t .schedule); sums = unfold startSingle in t .sums };
     })
     (record {
       clock = b .clock;
+      alarm = b .alarm;
       flight = record { schedule = single-bounds (m .flight .schedule) j (f .schedule); sum = unfold startSingle in f .sum };
       temperature = t;
     })
@@ -728,6 +740,7 @@ unfolding startedEvent eventFlight eventTemperature
 started-event-bounds m op b =
     record {
       clock = b .clock;
+      alarm = b .alarm;
       flight =
           chosen FlightBounds (startsFlight op) (flight-event-bounds (m .flight) (m .setup)) (b .flight);
       temperature =
@@ -742,6 +755,7 @@ halted-model-bounds m b =
     let t = b .temperature in
     record {
       clock = b .clock;
+      alarm = b .alarm;
       flight = record { schedule = halted-bounds (m .flight .schedule) (f .schedule); sum = f .sum };
       temperature = record { schedule = halted-bounds (m .temperature .schedule) (t .schedule); sums = t .sums };
     }
@@ -755,10 +769,10 @@ run-bounds : (m : Model) (op : ℕ) → commandBusy m op ≡ false → Bounds m 
 unfolding runModel resetModel initialisedModel supplied unsupplied
 run-bounds m op i b =
     picked Bounds (eqb op 4) (λ _. fresh-bounds noBits)
-    (λ e. chosen Bounds (eqb op 5) (record { clock = b .clock; flight = b .flight; temperature = b .temperature })
+    (λ e. chosen Bounds (eqb op 5) (record { clock = b .clock; alarm = b .alarm; flight = b .flight; temperature = b .temperature })
     (picked Bounds (eqb op 10) (λ _. halted-model-bounds m b)
-    (λ f. chosen Bounds (eqb op 12) (record { clock = b .clock; flight = b .flight; temperature = b .temperature })
-    (chosen Bounds (eqb op 13) (record { clock = b .clock; flight = b .flight; temperature = b .temperature })
+    (λ f. chosen Bounds (eqb op 12) (record { clock = b .clock; alarm = b .alarm; flight = b .flight; temperature = b .temperature })
+    (chosen Bounds (eqb op 13) (record { clock = b .clock; alarm = b .alarm; flight = b .flight; temperature = b .temperature })
     (chosen Bounds (isEvent op) (started-event-bounds m op b) (single-started-bounds m op (must-idle m op i e f) b))))))
 
 read-bounds : (m : Model) (a n : ℕ) → Bounds m → Bounds (readModel m a n)
@@ -766,12 +780,12 @@ unfolding readModel
 read-bounds m a n b =
     chosen Bounds (ltb 0xFE a) b
     (chosen Bounds (leb (a + n) 0xFE) b
-    (record { clock = b .clock; flight = b .flight; temperature = b .temperature }))
+    (record { clock = b .clock; alarm = b .alarm; flight = b .flight; temperature = b .temperature }))
 
 flash-bounds : (m : Model) (op : ℕ) → Bounds m → Bounds (flashModel m op)
 unfolding flashModel
 flash-bounds m op b =
-    chosen Bounds (eqb op 0x90) b (record { clock = b .clock; flight = b .flight; temperature = b .temperature })
+    chosen Bounds (eqb op 0x90) b (record { clock = b .clock; alarm = b .alarm; flight = b .flight; temperature = b .temperature })
 
 -- A delivered list that row 11 lets pass has at most H words.
 same-count : (measured : Bool) (hits given : ℕ) → sameCount measured hits given ≡ true → given ≤ hits
@@ -819,10 +833,11 @@ flight-bounds m u d w e b =
     let a = left-some (m .flight .schedule) w in
     by-test (anyLate m u d)
     (λ l. rw l
-    (record { clock = b .clock; flight = flight-lost-bounds (m .flight) a (b .flight); temperature = b .temperature }))
+    (record { clock = b .clock; alarm = b .alarm; flight = flight-lost-bounds (m .flight) a (b .flight); temperature = b .temperature }))
     (λ l. rw l
     (record {
       clock = b .clock;
+      alarm = b .alarm;
       flight =
           flight-good-bounds (m .flight) (hitCount (m .setup)) (sixWords u) (sixWords d) (hits-below m u d e l .0) a (b .flight);
       temperature = b .temperature;
@@ -852,6 +867,7 @@ temperature-bounds m w n e b =
     (λ o. rw o
     (record {
       clock = b .clock;
+      alarm = b .alarm;
       flight = b .flight;
       temperature = temperature-lost-bounds (m .temperature) _ a (b .temperature);
     }))
@@ -859,6 +875,7 @@ temperature-bounds m w n e b =
     (let g = ports-good m w e o in
     record {
       clock = b .clock;
+      alarm = b .alarm;
       flight = b .flight;
       temperature =
           temperature-good-bounds (m .temperature) (fourWords w) (fourWords w) (g .first) (g .second) (g .third) (g .fourth) a

@@ -46,15 +46,15 @@ ended-of : (k : Schedule) → ScheduleBounds k → inEvent k ≡ false → Ended
 ended-of k b e =
     let (c, l) = all-settled k e in record { once = c; started = omega (arith, b .settled); settled = l }
 
-ended-none : (k : Schedule) → Ended k → begins k ≡ false
+pub ended-none : (k : Schedule) → Ended k → begins k ≡ false
 unfolding begins startsLeft
 ended-none k e = rw (e .once, le-ltb (k .started) (k .planned) (e .started))
 
-ended-group : (k : Schedule) → Ended k → beginsGroup k ≡ false
+pub ended-group : (k : Schedule) → Ended k → beginsGroup k ≡ false
 unfolding beginsGroup
 ended-group k e = rw (ended-none k e)
 
-ended-tick : (k : Schedule) → Ended k → Ended (tickSchedule k)
+pub ended-tick : (k : Schedule) → Ended k → Ended (tickSchedule k)
 unfolding tickSchedule startedAfter settledAfter
 ended-tick k e =
     rw (ended-none k e, ended-group k e, le-ltb (k .settled) (k .planned) (e .settled))
@@ -62,7 +62,7 @@ ended-tick k e =
     (λ f. rw f (record { once = e .once; started = e .started; settled = e .settled }))
     (λ f. rw f (record { once = e .once; started = e .started; settled = e .settled })))
 
-ended-ticked : (n : ℕ) (k : Schedule) → Ended k → Ended (scheduleTicked n k)
+pub ended-ticked : (n : ℕ) (k : Schedule) → Ended k → Ended (scheduleTicked n k)
 unfolding scheduleTicked
 ended-ticked zero k e = e
 ended-ticked (suc n) k e = ended-tick (scheduleTicked n k) (ended-ticked n k e)
@@ -85,11 +85,11 @@ settled-starts-none k b c s n =
     (ended-ticked n k (record { once = c; started = omega (arith, b .settled); settled = omega arith }))
 
 -- Nothing is awaited either.
-none-left : (k : Schedule) → Ended k → k .left .0 ≡ 0 → tickSchedule k .left .0 ≡ 0
+pub none-left : (k : Schedule) → Ended k → k .left .0 ≡ 0 → tickSchedule k .left .0 ≡ 0
 unfolding tickSchedule leftAfter
 none-left k e z = rw (ended-none k e, z)
 
-none-left-ticked : (n : ℕ) (k : Schedule) → Ended k → k .left .0 ≡ 0 → scheduleTicked n k .left .0 ≡ 0
+pub none-left-ticked : (n : ℕ) (k : Schedule) → Ended k → k .left .0 ≡ 0 → scheduleTicked n k .left .0 ≡ 0
 unfolding scheduleTicked
 none-left-ticked zero k e z = z
 none-left-ticked (suc n) k e z = none-left (scheduleTicked n k) (ended-ticked n k e) (none-left-ticked n k e z)
@@ -102,11 +102,11 @@ halted-left : (k : Schedule) → haltSchedule k .left .0 ≡ 0
 unfolding haltSchedule
 halted-left k = refl
 
-not-failing : (k : Schedule) → k .left .0 ≡ 0 → fails k ≡ false
+pub not-failing : (k : Schedule) → k .left .0 ≡ 0 → fails k ≡ false
 unfolding fails
 not-failing k z = rw z
 
-not-awaiting : (k : Schedule) → k .left .0 ≡ 0 → isAwaited k ≡ false
+pub not-awaiting : (k : Schedule) → k .left .0 ≡ 0 → isAwaited k ≡ false
 unfolding isAwaited
 not-awaiting k z = rw z
 
@@ -456,15 +456,19 @@ module _ (m : Model) where
   commands-keep-setup = refl
 
 -- where a kind is neither awaited nor in an event
-idle-left : (k : Schedule) → isAwaited k ≡ false → k .left .0 ≡ 0
+pub idle-left : (k : Schedule) → isAwaited k ≡ false → k .left .0 ≡ 0
 unfolding isAwaited
 idle-left k =
     by-ltb 0 (k .left .0) (λ l e. rw e (λ f. let z : _≡_ {A = ℕ} 0 1 = cc in absurd (omega arith)))
     (λ l e. rw e (λ f. omega arith))
 
-idle-ended : (k : Schedule) → ScheduleBounds k → kindBusy k ≡ false → Ended k
+pub idle-ended : (k : Schedule) → ScheduleBounds k → kindBusy k ≡ false → Ended k
 unfolding kindBusy
 idle-ended k b i = ended-of k b (neither-picked (isAwaited k) i .1)
+
+pub idle-rests : (k : Schedule) → kindBusy k ≡ false → k .left .0 ≡ 0
+unfolding kindBusy
+idle-rests k i = idle-left k (neither-picked (isAwaited k) i .0)
 
 module _ (m : Model) (s : isSound m ≡ true) (i : isBusy m ≡ false) where
   ended-flight : Ended (m .flight .schedule)

@@ -103,6 +103,9 @@ wait-counts k j (suc i) w a b =
     let v : 1 < (scheduleTicked i k) .wait .0 = omega arith in
     rw (lt-leb ((scheduleTicked i k) .wait .0) 1 v) (omega arith))
 
+begins-some : (k : Schedule) → begins k ≡ true → startsLeft k ≡ true
+begins-some k e = by-begins k (λ l w b. l) (λ f b. let z : _≡_ {A = ℕ} 0 1 = cc in absurd (omega arith))
+
 begins-waits : (k : Schedule) → begins k ≡ true → k .wait .0 ≤ 1
 begins-waits k e = by-begins k (λ l w b. w) (λ f b. let z : _≡_ {A = ℕ} 0 1 = cc in absurd (omega arith))
 
@@ -172,14 +175,14 @@ rests-tick j i k r = by-begins k (rests-starts j i k r) (rests-on j i k r)
 
 -- What is asked of the schedule before the failure: it is apart from starts.
 pub record Apart (k : Schedule) : Type 0 where
-  pub long : 16384 ≤ k .period .0
+  pub long : startsLeft k ≡ true → 16384 ≤ k .period .0
   pub alone : k .left .0 ≡ 1 → begins k ≡ false
   pub before : k .left .0 ≡ 1 → startsLeft k ≡ true → 8193 ≤ k .wait .0
 
 pub apart : (p : Plan) (h : History) (k : Schedule) → Going p h k → Apart k
 apart p h k g =
     record {
-      long = omega (arith, g .period, g .begun .long);
+      long = λ _. omega (arith, g .period, g .begun .long);
       alone =
           λ e.
           by-begins k
@@ -241,7 +244,9 @@ pub start-named :
     eqb (lastTick begins k n) (j + 1) ≡ begins (scheduleTicked j k)
 start-named k n j l m a =
     named-once begins k n j l
-    (λ i c d e. starts-once k j i (omega (arith, a .long, ap (λ (p : Ticks). p .0) (period-ticked j k))) c (omega arith) e)
+    (λ i c d e.
+    starts-once k j i (omega (arith, a .long (begins-some (scheduleTicked j k) e), ap (λ (p : Ticks). p .0) (period-ticked j k))) c
+    (omega arith) e)
 
 pub failure-named :
     (k : Schedule) (n j : ℕ) →

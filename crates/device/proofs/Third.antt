@@ -1,5 +1,5 @@
 -- The third demand, over every list of calls.
-use Prim.Native.Nat.{ℕ, zero, suc, _+_, _/_, _%_, _≤_}
+use Prim.Native.Nat.{ℕ, zero, suc, _+_, _*_, _/_, _%_, _≤_, _<_}
 use native.Mathlib.Nat.{zero-add}
 use native.Mathlib.Omega.{arith}
 use native.Mathlib.Numerals.{add-one}
@@ -11,39 +11,48 @@ use lib.Dec.{ltb, leb, eqb}
 use borrow.Author.Tests.{leb-true, le-leb, lt-ltb, le-ltb}
 use Rattle.unit.specs.Choice.{pick, both}
 use Rattle.unit.proofs.Joined.{both-true}
-use Rattle.unit.proofs.Cases.{by-test, by-eqb}
+use Rattle.unit.proofs.Cases.{by-test, by-ltb, by-eqb}
 use Rattle.calendar.specs.declared.Clock.{Clock}
-use Rattle.calendar.specs.Calendar.{tickClock}
-use Rattle.calendar.specs.Moment.{moment}
+use Rattle.calendar.specs.Calendar.{clockValid, tickClock}
+use Rattle.calendar.specs.Moment.{century, timeTicks, moment}
 use Rattle.calendar.specs.Bounds.{afterTicks}
 use Rattle.calendar.specs.Words.{clockFrom}
-use Rattle.calendar.proofs.Laws.{after-moment, after-weekday, after-form}
+use Rattle.calendar.proofs.Laws.{bounds, after-moment, after-weekday, after-form}
 use Rattle.calendar.proofs.RoundTrip.{round-trip}
+use Rattle.calendar.proofs.Places.{seconds-shown}
 use Rattle.setup.specs.Setup.{wordOf, clockStands, eventContinuous, differencePeriod, differenceCount, temperaturePeriod, temperatureCount}
 use Rattle.setup.proofs.Laws.{difference-period-bounds, difference-count-bounds, temperature-period-bounds, temperature-count-bounds}
 use Rattle.frame.specs.Frame.{isCommand, isWrite, notWhole, pastEnd}
-use Rattle.hit.specs.Mean.{sum}
+use Rattle.hit.specs.Mean.{All, sum}
 use Rattle.hit.specs.Biased.{biasedTotal}
+use Rattle.device.specs.declared.Schedule.{Schedule}
 use Rattle.device.specs.declared.Model.{Model}
 use Rattle.device.specs.declared.Reply.{Reply}
 use Rattle.device.specs.declared.StretchReport.{StretchReport}
 use Rattle.device.specs.Event.{isAwaited, inEvent}
 use Rattle.device.specs.Model.{isSound, kindBusy, isBusy, freshModel}
 use Rattle.device.specs.Registers.{calendarWord, registerWord}
+use Rattle.device.specs.Write.{writeInvalid}
+use Rattle.device.specs.Bus.{mustBeIdle, commandBusy}
 use Rattle.device.specs.Bus.{startsFlight, startsTemperature, isEvent, eventSideUnset, commandUnset, flightEvent, temperatureEvent, eventFlight, eventTemperature, startedEvent, runModel}
 use Rattle.device.specs.Call.{Call, transaction, tick, flight, temperature, stretch, noFrame, notCarried, wrongLength, pastRegisters, shortOutput}
-use Rattle.device.specs.Call.{whileBusy, supplyOff, unreachable, unerased, badSetup, table, firstOf, accepted, verdict}
+use Rattle.device.specs.Call.{whileBusy, supplyOff, unreachable, unerased, badCalendar, notInitialised, badSetup, notAwaited, miscounted, tooLong}
+use Rattle.device.specs.Call.{table, firstOf, accepted, refused, verdict}
 use Rattle.device.specs.Reply.{acceptedAnswer, acceptedModel, replyBy, reply}
 use Rattle.device.specs.Parts.{accept}
 use Rattle.device.specs.History.{Kind, differences, temperatures, Plan, planOf, periodOf, countOf, Entry, History, note, noteTick, noteGood, noteFailed, history, after, log, onlyReads, isTick, isDelivery, isGood, isFailed}
-use Rattle.device.specs.History.{startReported, beginning, runs, isRefusal, spanOf, stretchIn, named, noteTicks}
+use Rattle.device.specs.History.{startReported, beginning, runs, isRefusal, isTransaction, spanOf, stretchIn, named, noteTicks}
 use Rattle.device.specs.Claim.{ticksIn, tickCount}
-use Rattle.device.specs.Claim.{command, toldOf, StillBusy, ThirdDemand}
+use Rattle.device.specs.Claim.{command, toldOf, settledOf, StillBusy, NotBusy, Silent, EventClaim, ThirdDemand}
 use Rattle.device.proofs.Table.{none-holds, picked}
 use Rattle.device.proofs.Sound.{neither-picked, bounds-of, fresh-sound, keeps-sound}
-use Rattle.device.proofs.Going.{going-start}
-use Rattle.device.proofs.Calls.{stepped, setup-kept, clock-step}
+use Rattle.device.proofs.Stretch.{scheduleOf}
+use Rattle.device.proofs.StartMeaning.{idle-ended, idle-rests, not-awaiting}
+use Rattle.device.proofs.Going.{Going, going-start}
+use Rattle.device.proofs.Calls.{Step, refusal, reading, ticking, flight-failed, flight-good, ports-failed, ports-good, stretching, stepped, setup-kept, clock-step}
 use Rattle.device.proofs.Held.{KindHeld, held-step, held-claim}
+use Rattle.device.proofs.Others.{OtherHeld, other-step, other-claim}
+use Rattle.device.proofs.SetupTold.{setup-told}
 
 -- The whole list.
 all-held :
@@ -86,7 +95,7 @@ all-ticks (c ∷ cs) m e v p =
     ap (afterTicks n) (clock-step m t e) ∙
     after-ticks n (ticksIn (record { call = c; answer = reply m c .answer })) (m .clock)
 
-sound-after : (cs : List Call) (m : Model) → isSound m ≡ true → isSound (after m cs) ≡ true
+pub sound-after : (cs : List Call) (m : Model) → isSound m ≡ true → isSound (after m cs) ≡ true
 unfolding after
 sound-after [] m v = v
 sound-after (c ∷ cs) m v = sound-after cs (reply m c .model) (keeps-sound m c v)
@@ -231,6 +240,7 @@ held-busy temperatures s h m c i =
     (by-test (kindBusy (m .flight .schedule)) (λ f. rw f)
     (λ f. rw f (by-test (isAwaited (m .temperature .schedule)) (λ e. rw e) (λ e. rw e))))
 
+-- all that a write of one word may meet before number 6
 write-busy : (m : Model) → isSound m ≡ true → isBusy m ≡ true → StillBusy m
 unfolding verdict firstOf table noFrame notCarried wrongLength pastRegisters shortOutput whileBusy supplyOff unreachable unerased isCommand isWrite notWhole pastEnd
 write-busy m s b a high low o x from to =
@@ -243,39 +253,237 @@ write-busy m s b a high low o x from to =
       le-ltb 0x44 (a + 1) (omega arith),
     )
 
-pub third-demand : ThirdDemand
+-- and where nothing is busy, number 7 is all that may be given for it
+not-seven : refused 7 ≡ refused 6 → ⊥
+not-seven e = let z : _≡_ {A = ℕ} 7 6 = cc in omega arith
+
+not-given : accepted ≡ refused 6 → ⊥
+not-given e = let z : _≡_ {A = ℕ} 0 1 = cc in omega arith
+
+pub write-idle : (m : Model) → isSound m ≡ true → isBusy m ≡ false → NotBusy m
+unfolding verdict firstOf table noFrame notCarried wrongLength pastRegisters shortOutput whileBusy supplyOff unreachable unerased badCalendar notInitialised badSetup notAwaited miscounted tooLong isCommand isWrite notWhole pastEnd
+write-idle m s b a high low o x from to =
+    rw (
+      s,
+      b,
+      lt-ltb 0x0D a (omega arith),
+      le-leb 0x30 a from,
+      le-leb a 0x43 to,
+      le-ltb 0x44 (a + 1) (omega arith),
+    )
+    (by-test (writeInvalid (high ∷ low ∷ []) a 1 m) (λ e. rw e not-seven) (λ e. rw e not-given))
+
+-- an event runs while fewer than N are settled, and no longer
+held-running :
+    (k : Kind) (s : List ℕ) (h : History) (m : Model) → settledOf h < countOf k s → KindHeld k s h m → isBusy m ≡ true
+unfolding isBusy kindBusy inEvent countOf
+held-running differences s h m l i =
+    let k : Schedule = m .flight .schedule in
+    let r : k .settled < k .planned = omega (arith, i .going .counted .all, i .going .planned) in
+    rw (lt-ltb (k .settled) (k .planned) r)
+    (by-test (isAwaited k) (λ e. rw e) (λ e. rw e (by-test (k .continuous) (λ c. rw c) (λ c. rw c))))
+held-running temperatures s h m l i =
+    let k : Schedule = m .temperature .schedule in
+    let r : k .settled < k .planned = omega (arith, i .going .counted .all, i .going .planned) in
+    rw (lt-ltb (k .settled) (k .planned) r)
+    (by-test (kindBusy (m .flight .schedule)) (λ f. rw f)
+    (λ f. rw f (by-test (isAwaited k) (λ e. rw e) (λ e. rw e (by-test (k .continuous) (λ c. rw c) (λ c. rw c))))))
+
+going-ended :
+    (p : Plan) (h : History) (k : Schedule) → p .continuous ≡ false → settledOf h ≡ p .count → Going p h k → kindBusy k ≡ false
+unfolding kindBusy inEvent isAwaited
+going-ended p h k c l g =
+    let s : k .planned ≤ k .settled = omega (arith, g .counted .all, g .planned) in
+    rw (g .continuous, c, le-ltb (k .settled) (k .planned) s)
+    (by-ltb 0 (k .left .0) (λ a e. absurd (omega (arith, g .busy a, g .placed .most, g .planned))) (λ a e. rw e))
+
+held-ended :
+    (k : Kind) (s : List ℕ) (h : History) (m : Model) →
+    eventContinuous s ≡ false →
+    settledOf h ≡ countOf k s →
+    KindHeld k s h m →
+    kindBusy (scheduleOf k m) ≡ false
+held-ended differences s h m c l i = going-ended (planOf differences s) h (m .flight .schedule) c l (i .going)
+held-ended temperatures s h m c l i = going-ended (planOf temperatures s) h (m .temperature .schedule) c l (i .going)
+
+other-ended : (k : Kind) (m : Model) (h : History) (n : Model) → OtherHeld k m h n → kindBusy (scheduleOf k n) ≡ false
+unfolding kindBusy inEvent
+other-ended k m h n i =
+    let t : Schedule = scheduleOf k n in
+    rw (not-awaiting t (i .left), i .ended .once, le-ltb (t .settled) (t .planned) (i .ended .settled))
+
+neither-busy :
+    (m : Model) → kindBusy (m .flight .schedule) ≡ false → kindBusy (m .temperature .schedule) ≡ false → isBusy m ≡ false
+unfolding isBusy
+neither-busy m f t = rw (f, t)
+
+-- A kind that is not run, at acceptance and over the list.
+not-busy :
+    (m : Model) (op : ℕ) (o x : List ℕ) → isEvent op ≡ true → verdict m (command op o x) ≡ accepted → isBusy m ≡ false
+unfolding whileBusy commandBusy mustBeIdle isCommand
+not-busy m op o x e v =
+    by-event (λ op. whileBusy m (command op o x) ≡ false → isBusy m ≡ false) op e (λ r. r) (λ r. r) (λ r. r)
+    (none-holds m (command op o x) v .row6)
+
+rests-flight : (op : ℕ) → isEvent op ≡ true → runs differences op ≡ false → startsFlight op ≡ false
+unfolding runs startsFlight
+rests-flight op e = by-event (λ op. runs differences op ≡ false → startsFlight op ≡ false) op e (λ r. r) (λ r. r) (λ r. refl)
+
+rests-temperature : (op : ℕ) → isEvent op ≡ true → runs temperatures op ≡ false → startsTemperature op ≡ false
+unfolding runs startsTemperature
+rests-temperature op e =
+    by-event (λ op. runs temperatures op ≡ false → startsTemperature op ≡ false) op e (λ r. r) (λ r. refl) (λ r. r)
+
+other-start :
+    (k : Kind) (m : Model) (op : ℕ) →
+    isEvent op ≡ true →
+    isSound m ≡ true →
+    isBusy m ≡ false →
+    runs k op ≡ false →
+    OtherHeld k m (beginning k (accept (startsFlight op) (startsTemperature op) (startedEvent m op) .answer)) (startedEvent m op)
+unfolding beginning startReported startedEvent eventFlight eventTemperature isBusy
+other-start differences m op e s b r =
+    let k : Schedule = m .flight .schedule in
+    let i = neither-picked (kindBusy k) b .0 in
+    rw (rests-flight op e r)
+    (record {
+      ended = idle-ended k (bounds-of m s .flight .schedule) i;
+      left = idle-rests k i;
+      starts = refl;
+      expiries = refl;
+      good = refl;
+      failed = refl;
+      same = (refl, refl, refl, refl, refl);
+    })
+other-start temperatures m op e s b r =
+    let k : Schedule = m .temperature .schedule in
+    let i = neither-picked (kindBusy (m .flight .schedule)) b .1 in
+    rw (rests-temperature op e r)
+    (record {
+      ended = idle-ended k (bounds-of m s .temperature .schedule) i;
+      left = idle-rests k i;
+      starts = refl;
+      expiries = refl;
+      good = refl;
+      failed = refl;
+      same = (refl, refl, refl);
+    })
+
+all-others :
+    (k : Kind) (m : Model) (s : List ℕ) (cs : List Call) (n : Model) (h : History) →
+    isSound n ≡ true →
+    onlyReads (log n cs) ≡ true →
+    OtherHeld k m h n →
+    OtherHeld k m (history k s (log n cs) h) (after n cs)
+unfolding log onlyReads history after
+all-others k m s [] n h v p i = i
+all-others k m s (c ∷ cs) n h v p i =
+    let (now, rest) = both-true _ _ p in
+    all-others k m s cs (reply n c .model) (note k s (record { call = c; answer = reply n c .answer }) h) (keeps-sound n c v) rest
+    (other-step k m s h n (stepped n c v now) i)
+
+-- No transaction of the list reports a start.
+step-silent : (m : Model) {c : Call} {r : Reply} → Step m c r → Silent (record { call = c; answer = r .answer })
+unfolding isTransaction startReported
+step-silent m (refusal c n t) k e = refl
+step-silent m (reading f o x s) differences e = refl
+step-silent m (reading f o x s) temperatures e = refl
+step-silent m ticking k e = cc
+step-silent m (flight-failed u d n l) k e = refl
+step-silent m (flight-good u d n l) k e = refl
+step-silent m (ports-failed w n l) k e = refl
+step-silent m (ports-good w n l) k e = refl
+step-silent m (stretching n l) k e = refl
+
+all-silent : (cs : List Call) (m : Model) → isSound m ≡ true → onlyReads (log m cs) ≡ true → All Silent (log m cs)
+unfolding log onlyReads
+all-silent [] m v p = tt
+all-silent (c ∷ cs) m v p =
+    let (now, rest) = both-true _ _ p in
+    (step-silent m (stepped m c v now), all-silent cs (reply m c .model) (keeps-sound m c v) rest)
+
+-- Tenths and hundredths: a second's ticks are those of the moment.
+ticks-of : (c : Clock) (x : ℕ) → clockValid c ≡ true → moment c ≡ x % century → c .ticks .0 ≡ x % 32768
+unfolding moment timeTicks
+ticks-of c x v e = let b = bounds c v in omega (arith, b .ticks)
+
+hundredths-shown :
+    (m : Model) (x : ℕ) →
+    clockValid (m .clock) ≡ true →
+    moment (m .clock) ≡ x % century →
+    let h : ℕ = x % 32768 * 100 / 32768 in
+    registerWord m 0xB0 / 256 ≡ h / 10 * 16 + h % 10
+unfolding registerWord calendarWord
+hundredths-shown m x v e =
+    let h : ℕ = x % 32768 * 100 / 32768 in
+    let w : registerWord m 0xB0 ≡ h / 10 * 4096 + h % 10 * 256 + m .clock .second / 10 * 16 + m .clock .second % 10 =
+    rw (← ticks-of (m .clock) x v e) (seconds-shown (m .clock) v) in
+    omega (arith, w, bounds (m .clock) v .second)
+
+-- The claim by the set-up that the model has.
+event-claim :
+    (m : Model) (op : ℕ) (o x : List ℕ) (later : List Call) →
+    isEvent op ≡ true →
+    isSound m ≡ true →
+    verdict m (command op o x) ≡ accepted →
+    onlyReads (log (reply m (command op o x) .model) later) ≡ true →
+    EventClaim (m .setup) m op o x later
 unfolding startedEvent beginning
-third-demand before op o x later from to v p =
-    let e : isEvent op ≡ true = event-codes op from to in
-    let m : Model = after freshModel before in
+event-claim m op o x later e s v p =
     let n : Model = reply m (command op o x) .model in
-    let s : isSound m ≡ true = sound-after before freshModel fresh-sound in
     let k : isSound n ≡ true = keeps-sound m (command op o x) s in
+    let z : isSound (after n later) ≡ true = sound-after later n k in
     let q = accepted-event m op o x e v in
     let t : ℕ = tickCount (log n later) in
     let c : (after n later) .clock ≡ afterTicks t (m .clock) =
     all-ticks later n (ap (λ (r : Reply). clockStands (r .model .setup)) q ∙ clock-runs m op o x e v) k p ∙
     ap (λ (r : Reply). afterTicks (t) (r .model .clock)) q in
-    let h : (j : Kind) → runs j op ≡ true → KindHeld j (m .setup) (toldOf j m op o x later) (after n later) =
+    let h : (j : Kind) → runs j op ≡ true → KindHeld j (m .setup) (toldOf j (m .setup) m op o x later) (after n later) =
     λ j r.
     all-held j (m .setup) later n (beginning j (reply m (command op o x) .answer))
     (ap (λ (r : Reply). r .model .setup) q) k p
     (subst (λ (r : Reply). KindHeld j (m .setup) (beginning j (r .answer)) (r .model)) (sym q) (held-start j m op r)) in
+    let g : (j : Kind) → runs j op ≡ false → OtherHeld j m (toldOf j (m .setup) m op o x later) (after n later) =
+    λ j r.
+    all-others j m (m .setup) later n (beginning j (reply m (command op o x) .answer)) k p
+    (subst (λ (r : Reply). OtherHeld j m (beginning j (r .answer)) (r .model)) (sym q)
+    (other-start j m op e s (not-busy m op o x e v) r)) in
+    let shown : moment ((after n later) .clock) ≡ (moment (m .clock) + t) % century =
+    ap moment c ∙ after-moment (t) (m .clock) (bounds-of m s .clock) in
+    let over : (j : Kind) → eventContinuous (m .setup) ≡ false → ((i : Kind) → runs i op ≡ true → settledOf (toldOf i (m .setup) m op o x later) ≡ countOf i (m .setup)) → kindBusy (scheduleOf j (after n later)) ≡ false =
+    λ j d f.
+    by-test (runs j op)
+    (λ r. held-ended j (m .setup) (toldOf j (m .setup) m op o x later) (after n later) d (f j r) (h j r))
+    (λ r. other-ended j m (toldOf j (m .setup) m op o x later) (after n later) (g j r)) in
     record {
-      kinds = λ j r. held-claim j _ _ _ (h j r);
+      kinds = λ j r. held-claim j _ _ _ z (h j r);
+      others = λ j r. other-claim j m _ _ z (g j r);
       ticks =
           λ j. all-counted j (m .setup) later n (beginning j (reply m (command op o x) .answer)) ∙ zero-add (t);
+      silent = all-silent later n k p;
       clock =
           record {
-            valid = bounds-of (after n later) (sound-after later n k) .clock;
-            shown = ap moment c ∙ after-moment (t) (m .clock) (bounds-of m s .clock);
+            valid = bounds-of (after n later) z .clock;
+            shown = shown;
             weekday = ap (λ (c : Clock). c .weekday) c ∙ after-weekday (t) (m .clock) (bounds-of m s .clock);
             form = ap (λ (c : Clock). c .twelve) c ∙ after-form (t) (m .clock) (bounds-of m s .clock);
-            read = reads-clock (after n later) (sound-after later n k);
+            read = reads-clock (after n later) z;
+            hundredths = hundredths-shown (after n later) (moment (m .clock) + t) (bounds-of (after n later) z .clock) shown;
           };
+      running = λ j r l. write-busy (after n later) z (held-running j (m .setup) _ (after n later) l (h j r));
+      ended =
+          λ d f.
+          write-idle (after n later) z (neither-busy (after n later) (over differences d f) (over temperatures d f));
       unended =
           λ d.
-          write-busy (after n later) (sound-after later n k)
-          (⊎-elim (λ r. held-busy differences _ _ _ d (h differences r)) (λ r. held-busy temperatures _ _ _ d (h temperatures r))
+          write-busy (after n later) z
+          (⊎-elim (λ r. held-busy differences _ _ (after n later) d (h differences r))
+          (λ r. held-busy temperatures _ _ (after n later) d (h temperatures r))
           (some-kind op e));
     }
+
+pub third-demand : ThirdDemand
+third-demand before op o x later from to v p =
+    let m : Model = after freshModel before in
+    subst (λ (s : List ℕ). EventClaim s m op o x later) (setup-told before)
+    (event-claim m op o x later (event-codes op from to) (sound-after before freshModel fresh-sound) v p)

@@ -23,7 +23,7 @@ use Rattle.device.specs.Registers.{calendarWord, registerWord}
 use Rattle.device.specs.Write.{covers, written, setupAfter, ticksAfter, clockAfter, writeInvalid, writeModel}
 use Rattle.device.specs.Terms.{LeftOut, After, CalendarAfter}
 use Rattle.device.proofs.Sound.{bounds-of}
-use Rattle.device.proofs.RegisterMeaning.{setup-means}
+use Rattle.device.proofs.RegisterMeaning.{setup-kept, setup-means}
 
 not-both : {G : Type 0} (op n a : ℕ) → LeftOut op n a → op ≤ a → a < op + n → G
 not-both op n a o h k = absurd (⊎-elim (λ x. omega arith) (λ x. omega arith) o)
@@ -164,6 +164,17 @@ module _
       let (v, _) = both-hold (wordsValid w30 w31 w32 w33 (ticksAfter bytes op n m)) a .0 e in
       let b = words-back w30 w31 w32 w33 (ticksAfter bytes op n m) v hundredths-after in
       (b .seconds, b .time, b .date, b .year))
+
+-- A write past 35h leaves a sound model's alarm valid.
+pub alarm-kept :
+    (m : Model) (bytes : List ℕ) (op n : ℕ) →
+    isSound m ≡ true →
+    0x36 ≤ op →
+    negate (alarmValid (alarmWord (setupAfter bytes op (m .setup) n))) ≡ false
+alarm-kept m bytes op n s h = rw (kept-word, bounds-of m s .alarm)
+  where
+    kept-word : alarmWord (setupAfter bytes op (m .setup) n) ≡ alarmWord (m .setup)
+    kept-word = unfold alarmWord in setup-kept bytes op (m .setup) n 0x35 (omega arith) (inl (omega arith))
 
 -- A register that an accepted write leaves out reads as before.
 module _ (bytes : List ℕ) (op n : ℕ) (m : Model) (s : isSound m ≡ true) (e : writeInvalid bytes op n m ≡ false) where

@@ -8,7 +8,7 @@ use Rattle.calendar.specs.declared.Clock.{Clock}
 use Rattle.calendar.specs.Calendar.{tickClock}
 use Rattle.calendar.specs.Words.{hundredthsOf, wordsValid}
 use Rattle.setup.specs.Setup.{factory, hitCount}
-use Rattle.hit.specs.Limit.{lateFrom, openFrom, anyFrom}
+use Rattle.hit.specs.Limit.{lateFrom, openFrom, anyFrom, anyFault}
 use Rattle.hit.specs.Words.{sixWords}
 use Rattle.device.specs.declared.Schedule.{Schedule}
 use Rattle.device.specs.declared.Model.{Model}
@@ -95,10 +95,10 @@ bench =
           [];
       wanted = 0 ∷ 1 ∷ 0 ∷ 0 ∷ [];
     } ∷
-    -- "PORTCYC 0: 33,030,143 good, 33,030,144 open."
+    -- "PORTCYC 0: 33,030,143 good, 33,030,144 open."; good is neither open nor short (Note 3)
     record {
       number = 4;
-      given = flag (anyFrom (openFrom 0) (33030143 ∷ [])) ∷ flag (anyFrom (openFrom 0) (33030144 ∷ [])) ∷ [];
+      given = flag (anyFault (openFrom 0) (33030143 ∷ [])) ∷ flag (anyFrom (openFrom 0) (33030144 ∷ [])) ∷ [];
       wanted = 0 ∷ 1 ∷ [];
     } ∷
     -- "STOP 101b, 110b, 111b: six hits."

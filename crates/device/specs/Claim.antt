@@ -1,24 +1,26 @@
 -- The third demand. Quotations are from 01, but for those beside the claims, which are the demand's own words. What differs for a
 -- continuous event: `plannedStarts` has "every j in place of j below N" (Note 5), and `unended` at the end is about it alone.
-use Prim.Native.Nat.{ℕ, zero, suc, _+_, _*_, _/_, _%_, _-_, _<_, _≤_}
-use mathlib.Core.Bool.{true}
+use Prim.Native.Nat.{ℕ, zero, suc, _+_, _*_, _/_, _%_, _-_, _^_, _<_, _≤_, min}
+use mathlib.Core.Bool.{Bool, true, false}
 use mathlib.Core.List.{List, [], _∷_, _++_, map}
+use mathlib.Core.Logic.{_↔_}
 use mathlib.Core.Path.{_≡_}
 use lib.ListN.{length, getD}
-use lib.Dec.{leb}
+use lib.Dec.{leb, eqb}
 use Rattle.unit.specs.Choice.{pick}
 use Rattle.calendar.specs.Calendar.{clockValid}
 use Rattle.calendar.specs.Moment.{moment, century, midnights}
 use Rattle.calendar.specs.Words.{clockFrom}
-use Rattle.setup.specs.Setup.{hitCount, portCycle, eventContinuous}
-use Rattle.hit.specs.Limit.{openFrom}
+use Rattle.setup.specs.Setup.{wordOf, hitCount, eventContinuous}
 use Rattle.hit.specs.Mean.{All, differenceBits, meanAverages, floorMeanWords}
 use Rattle.device.specs.declared.Model.{Model}
-use Rattle.device.specs.Registers.{registerWord}
+use Rattle.device.specs.Registers.{registerWord, upwards}
 use Rattle.device.specs.Model.{freshModel}
-use Rattle.device.specs.Call.{Call, transaction, tick, flight, temperature, stretch, verdict, accepted, refused, notAwaited}
+use Rattle.device.specs.Call.{Call, transaction, tick, flight, temperature, stretch, Verdict, verdict, accepted, refused}
 use Rattle.device.specs.Reply.{reply}
-use Rattle.device.specs.History.{after, Entry, log, onlyReads, Kind, countOf, Plan, planOf, runs, isTick, averagesOf, portWord, Expiry, History, beginning, stretchIn, history, differences, temperatures}
+use Rattle.device.specs.History.{after, Entry, log, onlyReads, Kind, countOf, Plan, planOf, runs, isTick, isTransaction, isDelivery, startReported}
+use Rattle.device.specs.History.{averagesOf, portWord, Expiry, History, beginning, stretchIn, history, differences, temperatures}
+use Rattle.device.specs.SetupTold.{setupTold}
 
 -- "those elapsed ticks j × P, j below N, .. that the list reaches": "The list reaches an elapsed tick that is not above its
 -- number of ticks."
@@ -30,13 +32,17 @@ reached P (suc n) t = reached P n t ++ pick (leb (n * P) t) (n * P ∷ []) []
 unfoldable pub plannedStarts : Plan → ℕ → List ℕ
 plannedStarts p t = reached (p .period) (pick (p .continuous) (t + 1) (p .count)) t
 
--- "Awaited is then 1, exactly when number 10 would not be given for it, else 0."
+-- "Awaited is then 1, exactly when number 10 would not be given for it, else 0.": by the number that a delivery would get
+unfoldable pub isTen : Verdict → Bool
+isTen accepted = false
+isTen (refused n) = eqb n 10
+
 unfoldable pub deliveryOf : Kind → Call
 deliveryOf differences = flight [] []
 deliveryOf temperatures = temperature []
 
 unfoldable pub awaitedNow : Kind → Model → ℕ
-awaitedNow k m = pick (notAwaited m (deliveryOf k)) 0 1
+awaitedNow k m = pick (isTen (verdict m (deliveryOf k))) 0 1
 
 -- The registers of a pair hold a word.
 pub record Holds (m : Model) (int : ℕ) (w : ℕ) : Type 0 where
@@ -54,16 +60,22 @@ AveragesHeld temperatures s good m =
     Holds m 0xF4 (floorMeanWords (map (portWord 2) good)) ×
     Holds m 0xF6 (floorMeanWords (map (portWord 3) good))
 
--- "all four words are neither short nor open" (Note 3), by the set-up s
+-- "all four words are neither short nor open" (Note 3): "A word below 32 × 65,536"; "open when it is at least (512 × (PORTCYC + 1) − 8)
+-- × 65,536", "PORTCYC is 1:0 of 40h"; by the set-up s
 abbrev pub Whole : List ℕ → List ℕ → Type 0
-Whole s w = (i : ℕ) → i < length w → (32 * 65536 ≤ getD w i 0) × (getD w i 0 < openFrom (portCycle s) .0)
+Whole s w =
+    (i : ℕ) → i < length w → (32 * 65536 ≤ getD w i 0) × (getD w i 0 < (512 * (wordOf s 0x40 % 4 + 1) - 8) * 65536)
 
--- A good delivery had all its words: "an up list and a down list, each of H words"; "four words, T1 to T4". "For users the mean
+-- no word is late: "at least 512 × 2^k × 65,536, k = TIMOUT (2:0 of 39h), or no hit"; "2^31 or more means no hit"
+abbrev pub InTime : List ℕ → List ℕ → Type 0
+InTime s w = (i : ℕ) → i < length w → getD w i 0 < min (512 * 2 ^ (wordOf s 0x39 % 8) * 65536) 2147483648
+
+-- A good delivery had all its words, and none at fault: "an up list and a down list, each of H words"; "four words, T1 to T4". "For users the mean
 -- of a port runs from then on over cycles where all four words are neither short nor open." (Note 3)
 abbrev pub Complete : List ℕ → Call → Type 0
 Complete s (transaction f o x) = ⊥
 Complete s tick = ⊥
-Complete s (flight u d) = (length u ≡ hitCount s) × (length d ≡ hitCount s)
+Complete s (flight u d) = (length u ≡ hitCount s) × (length d ≡ hitCount s) × InTime s u × InTime s d
 Complete s (temperature w) = (length w ≡ 4) × Whole s w
 Complete s (stretch n) = ⊥
 
@@ -81,6 +93,8 @@ pub record KindClaim (k : Kind) (s : List ℕ) (h : History) (m : Model) : Type 
   -- "Since acceptance, started = good + failed + awaited, counted from the answers", or "the current group in place of since
   -- acceptance" (Note 5)
   pub balance : h .started ≡ length (h .good) + h .failed + awaitedNow k m
+  -- whatever words a delivery of the kind brings
+  pub awaited : (c : Call) → isDelivery k c ≡ true → (verdict m c ≡ refused 10) ↔ (awaitedNow k m ≡ 0)
   -- "the failures that ticks report, each in the 8,192nd tick after its start"
   pub timely : All (λ (e : Expiry). e .at ≡ e .start + 8192) (h .expiries)
   -- "A kind is awaited only while its last start lies fewer than 8,192 ticks back."
@@ -91,6 +105,20 @@ pub record KindClaim (k : Kind) (s : List ℕ) (h : History) (m : Model) : Type 
   -- "A good measurement of an event adds one to its count"
   pub count : registerWord m (countRegister k) ≡ length (h .good)
   pub averages : AveragesHeld k s (h .good) m
+
+-- The registers of a kind: results, count and averages.
+unfoldable pub registersOf : Kind → List ℕ
+registersOf differences = upwards 0xC4 35
+registersOf temperatures = upwards 0xE7 17
+
+-- The claim for a kind that the command does not run: none of it starts, fails or is delivered, and its registers stay.
+pub record OtherClaim (k : Kind) (h : History) (m end : Model) : Type 0 where
+  pub starts : h .starts ≡ []
+  pub expiries : h .expiries ≡ []
+  pub good : h .good ≡ []
+  pub failed : h .failed ≡ 0
+  pub awaited : awaitedNow k end ≡ 0
+  pub kept : map (registerWord end) (registersOf k) ≡ map (registerWord m) (registersOf k)
 
 -- "And the clock shows the moment that lies as many ticks after acceptance as the list holds, 2000 following 2099." "Its
 -- weekday has stepped once for each midnight passed." "The clock claim is about the moment, in either form." (Note 2): the
@@ -111,39 +139,74 @@ pub record ClockClaim (m : Model) (n : ℕ) (end : Model) : Type 0 where
       clockFrom (registerWord end 0xB0) (registerWord end 0xB1) (registerWord end 0xB2) (registerWord end 0xB3)
       (end .clock .ticks)
       ≡ end .clock
+  -- tenths and hundredths of B0h: "hundredths read as s × 100 ÷ 32,768 rounded down", s being the moment's ticks within its second
+  pub hundredths :
+      let h : ℕ = (moment (m .clock) + n) % 32768 * 100 / 32768 in
+      registerWord end 0xB0 / 256 ≡ h / 10 * 16 + h % 10
 
--- A continuous event "ends only by HALT or Reset" (Note 5): a write of one word to any register is number 6, busy.
+-- While an event runs, a write of one word to any register is number 6, busy; once it has ended, it is not.
+abbrev pub write : ℕ → ℕ → ℕ → List ℕ → List ℕ → Call
+write a high low o x = transaction (a ∷ high ∷ low ∷ []) o x
+
 abbrev pub StillBusy : Model → Type 0
 StillBusy m =
-    (a high low : ℕ) (o x : List ℕ) →
-    0x30 ≤ a →
-    a ≤ 0x43 →
-    verdict m (transaction (a ∷ high ∷ low ∷ []) o x) ≡ refused 6
+    (a high low : ℕ) (o x : List ℕ) → 0x30 ≤ a → a ≤ 0x43 → verdict m (write a high low o x) ≡ refused 6
 
--- The whole claim: `m` accepted event command `op` (with output buffer `o` and memory `x`), and then the calls `later` were made.
+abbrev pub NotBusy : Model → Type 0
+NotBusy m =
+    (a high low : ℕ) (o x : List ℕ) → 0x30 ≤ a → a ≤ 0x43 → ¬ (verdict m (write a high low o x) ≡ refused 6)
+
+-- A transaction of the list reports no start: of those that may follow, none is a command.
+abbrev pub Silent : Entry → Type 0
+Silent e = (k : Kind) → isTransaction (e .call) ≡ true → startReported k (e .answer) ≡ false
+
+-- The whole claim: `m` accepted event command `op` (with output buffer `o` and memory `x`), and then the calls `later` were made. `s` is
+-- the set-up at acceptance.
 abbrev pub command : ℕ → List ℕ → List ℕ → Call
 command op o x = transaction (op ∷ []) o x
 
-abbrev pub toldOf : Kind → Model → ℕ → List ℕ → List ℕ → List Call → History
-toldOf k m op o x later =
-    history k (m .setup) (log (reply m (command op o x) .model) later) (beginning k (reply m (command op o x) .answer))
+abbrev pub toldOf : Kind → List ℕ → Model → ℕ → List ℕ → List ℕ → List Call → History
+toldOf k s m op o x later =
+    history k s (log (reply m (command op o x) .model) later) (beginning k (reply m (command op o x) .answer))
 
-pub record EventClaim (m : Model) (op : ℕ) (o x : List ℕ) (later : List Call) : Type 0 where
+-- good and failed, those of the current group
+abbrev pub settledOf : History → ℕ
+settledOf h = length (h .good) + h .failed
+
+pub record EventClaim (s : List ℕ) (m : Model) (op : ℕ) (o x : List ℕ) (later : List Call) : Type 0 where
   pub kinds :
       (k : Kind) →
       runs k op ≡ true →
-      KindClaim k (m .setup) (toldOf k m op o x later) (after (reply m (command op o x) .model) later)
+      KindClaim k s (toldOf k s m op o x later) (after (reply m (command op o x) .model) later)
+  pub others :
+      (k : Kind) →
+      runs k op ≡ false →
+      OtherClaim k (toldOf k s m op o x later) m (after (reply m (command op o x) .model) later)
   -- The histories of both kinds count the same ticks.
   pub ticks :
-      (k : Kind) → (toldOf k m op o x later) .ticks ≡ tickCount (log (reply m (command op o x) .model) later)
+      (k : Kind) → (toldOf k s m op o x later) .ticks ≡ tickCount (log (reply m (command op o x) .model) later)
+  -- "The start at 0 is reported by the command's answer, later ones by their tick."
+  pub silent : All Silent (log (reply m (command op o x) .model) later)
   pub clock :
       ClockClaim m (tickCount (log (reply m (command op o x) .model) later))
       (after (reply m (command op o x) .model) later)
-  pub unended : eventContinuous (m .setup) ≡ true → StillBusy (after (reply m (command op o x) .model) later)
+  -- "The event ends when all are settled.", not before
+  pub running :
+      (k : Kind) →
+      runs k op ≡ true →
+      settledOf (toldOf k s m op o x later) < countOf k s →
+      StillBusy (after (reply m (command op o x) .model) later)
+  pub ended :
+      eventContinuous s ≡ false →
+      ((k : Kind) → runs k op ≡ true → settledOf (toldOf k s m op o x later) ≡ countOf k s) →
+      NotBusy (after (reply m (command op o x) .model) later)
+  -- A continuous event "ends only by HALT or Reset" (Note 5).
+  pub unended : eventContinuous s ≡ true → StillBusy (after (reply m (command op o x) .model) later)
 
 -- The third demand: "Let a model grow from a fresh one by any list of transactions, ticks and deliveries, refused ones among
 -- them, and then accept an event command. For every list of ticks, deliveries, register reads and refused calls that
--- follows, whatever hit words are delivered, this holds at its end for each kind that the command runs."
+-- follows, whatever hit words are delivered, this holds at its end for each kind that the command runs." The set-up at acceptance is
+-- what the calls before it last wrote.
 abbrev pub ThirdDemand : Type 0
 ThirdDemand =
     (before : List Call) (op : ℕ) (o x : List ℕ) (later : List Call) →
@@ -151,4 +214,4 @@ ThirdDemand =
     op ≤ 0x09 →
     verdict (after freshModel before) (command op o x) ≡ accepted →
     onlyReads (log (reply (after freshModel before) (command op o x) .model) later) ≡ true →
-    EventClaim (after freshModel before) op o x later
+    EventClaim (setupTold (log freshModel before)) (after freshModel before) op o x later

@@ -10,8 +10,8 @@ abbrev pub ticks : ℕ → Ticks
 ticks n = record { 0 = n }
 
 -- A schedule by its parts: left, wait, period, planned, started, settled, continuous, good.
-abbrev pub scheduleOf : Ticks → Ticks → Ticks → ℕ → ℕ → ℕ → Bool → ℕ → Schedule
-scheduleOf left wait period planned started settled continuous good =
+abbrev pub scheduleBy : Ticks → Ticks → Ticks → ℕ → ℕ → ℕ → Bool → ℕ → Schedule
+scheduleBy left wait period planned started settled continuous good =
     record {
       left = left;
       wait = wait;
@@ -26,14 +26,14 @@ scheduleOf left wait period planned started settled continuous good =
 -- Setters: a schedule with other ticks left, or with other counts of settled and good ones.
 abbrev pub withLeft : Schedule → ℕ → Schedule
 withLeft k n =
-    scheduleOf (ticks n) (k .wait) (k .period) (k .planned) (k .started) (k .settled) (k .continuous) (k .good)
+    scheduleBy (ticks n) (k .wait) (k .period) (k .planned) (k .started) (k .settled) (k .continuous) (k .good)
 
 abbrev pub withSettled : Schedule → ℕ → ℕ → Schedule
 withSettled k settled good =
-    scheduleOf (k .left) (k .wait) (k .period) (k .planned) (k .started) settled (k .continuous) good
+    scheduleBy (k .left) (k .wait) (k .period) (k .planned) (k .started) settled (k .continuous) good
 
 unfoldable pub noSchedule : Schedule
-noSchedule = scheduleOf (ticks 0) (ticks 0) (ticks 0) 0 0 0 false 0
+noSchedule = scheduleBy (ticks 0) (ticks 0) (ticks 0) 0 0 0 false 0
 
 -- "A kind is awaited from its start until an accepted delivery, the tick that fails it, HALT or Reset."
 unfoldable pub isAwaited : Schedule → Bool
@@ -78,7 +78,7 @@ startSingle k = withLeft k 8192
 
 -- "Elapsed ticks count from acceptance at 0." "The start at 0 is reported by the command's answer"
 unfoldable pub startEvent : Ticks → ℕ → Bool → Schedule
-startEvent period planned continuous = scheduleOf (ticks 8192) period period planned 1 0 continuous 0
+startEvent period planned continuous = scheduleBy (ticks 8192) period period planned 1 0 continuous 0
 
 unfoldable pub leftAfter : Schedule → ℕ
 leftAfter k = pick (begins k) 8192 (pick (ltb 0 (k .left .0)) (k .left .0 - 1) 0)
@@ -103,7 +103,7 @@ goodAfter k = pick (beginsGroup k) 0 (k .good)
 
 unfoldable pub tickSchedule : Schedule → Schedule
 tickSchedule k =
-    scheduleOf (ticks (leftAfter k)) (ticks (waitAfter k)) (k .period) (k .planned) (startedAfter k) (settledAfter k)
+    scheduleBy (ticks (leftAfter k)) (ticks (waitAfter k)) (k .period) (k .planned) (startedAfter k) (settledAfter k)
     (k .continuous)
     (goodAfter k)
 
@@ -118,7 +118,7 @@ settle k good =
 -- "HALT drops awaited measurements, ends the event": what was to start or to settle no longer is.
 unfoldable pub haltSchedule : Schedule → Schedule
 haltSchedule k =
-    scheduleOf (ticks 0) (k .wait) (k .period) (k .settled) (k .settled) (k .settled) false (k .good)
+    scheduleBy (ticks 0) (k .wait) (k .period) (k .settled) (k .settled) (k .settled) false (k .good)
 
 -- Part of soundness: what the schedules are that the calls make. The counts are in order, and at most 32, the largest N.
 unfoldable pub countsSound : Schedule → Bool

@@ -125,6 +125,13 @@ isFailed (Stretched f t) = false
 isFailed Good = false
 isFailed Failed = true
 
+unfoldable pub isTransaction : Call → Bool
+isTransaction (transaction f o x) = true
+isTransaction tick = false
+isTransaction (flight u d) = false
+isTransaction (temperature w) = false
+isTransaction (stretch n) = false
+
 unfoldable pub isTick : Call → Bool
 isTick (transaction f o x) = false
 isTick tick = true

@@ -7,7 +7,8 @@ use lib.Dec.{leb}
 use Rattle.unit.specs.Choice.{pick}
 use Rattle.calendar.specs.declared.Clock.{Clock}
 use Rattle.calendar.specs.Calendar.{clockValid, start}
-use Rattle.setup.specs.Setup.{factory}
+use Rattle.calendar.specs.Words.{alarmValid}
+use Rattle.setup.specs.Setup.{factory, alarmWord}
 use Rattle.device.specs.declared.Schedule.{Schedule}
 use Rattle.device.specs.declared.Status.{Status}
 use Rattle.device.specs.declared.Flight.{Flight}
@@ -102,7 +103,7 @@ freshModel = freshWith porBit
 unfoldable pub resetModel : Model
 resetModel = freshWith noBits
 
--- Sound: the clock is valid, the schedule of each kind is one that the calls make, and each sum is at most the count times the
+-- Sound: the clock and the alarm are valid, the schedule of each kind is one that the calls make, and each sum is at most the count times the
 -- largest value. The calls need it so that no field leaves its range.
 unfoldable pub sumFits : ℕ → ℕ → ℕ → Bool
 sumFits sum good most = leb sum (good * most)
@@ -125,7 +126,9 @@ temperatureSound t =
 
 unfoldable pub isSound : Model → Bool
 isSound m =
-    pick (clockValid (m .clock)) (pick (flightSound (m .flight)) (temperatureSound (m .temperature)) false) false
+    pick (clockValid (m .clock))
+    (pick (alarmValid (alarmWord (m .setup))) (pick (flightSound (m .flight)) (temperatureSound (m .temperature)) false) false)
+    false
 
 -- "while a measurement is awaited or an event runs"
 unfoldable pub kindBusy : Schedule → Bool

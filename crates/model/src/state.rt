@@ -104,9 +104,13 @@ pub fn is_sound(m: Model) -> bool
     let clock = m.clock;
     let flight = m.flight;
     let temperature = m.temperature;
+    let setup = m.setup;
     if calendar::date::clock_valid(clock) {
-        if flight_sound(flight) {
-            return temperature_sound(temperature);
+        if calendar::words::alarm_valid(setup::alarm_word(setup)) {
+            if flight_sound(flight) {
+                return temperature_sound(temperature);
+            }
+            return false;
         }
         return false;
     }

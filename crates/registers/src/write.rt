@@ -93,9 +93,13 @@ pub fn write_invalid(m: Model, words: &[u8], op: u32, n: usize) -> bool
 }
 
 fn alarm_invalid(m: Model, words: &[u8], op: u32, n: usize) -> bool
-    requires { ⌜ (48 ≤ op) × (op + n ≤ 68) × (2 * n ≤ length (now words)) ⌝ }
+    requires { ⌜ (isSound m ≡ true) × (48 ≤ op) × (op + n ≤ 68) × (2 * n ≤ length (now words)) ⌝ }
     ensures { λ r. ⌜ r ≡ negate (alarmValid (alarmWord (setupAfter (now (words .entry)) op (m .setup) n))) ⌝ }
 {
+    // a write past 35h leaves the alarm valid
+    if 0x35 < op {
+        return false;
+    }
     let old = m.setup;
     let setup = setup_after(old, words, op, n);
     if calendar::words::alarm_valid(setup::alarm_word(setup)) {

@@ -11,13 +11,10 @@ stopTable = 1 ∷ 2 ∷ 3 ∷ 4 ∷ 5 ∷ 6 ∷ 6 ∷ 6 ∷ []
 unfoldable pub timeoutTable : List ℕ
 timeoutTable = 128 ∷ 256 ∷ 512 ∷ 1024 ∷ 2048 ∷ 4096 ∷ 8192 ∷ 16384 ∷ []
 
-<<<<<<< HEAD:crates/setup/specs/Table11.antt
--- The row of a value. Three bits hold none past the last row; any other number is given that row.
+-- The hits of a value of STOP, and the microseconds of one of TIMOUT, by its row. Three bits hold none past the last row; any other
+-- number is given that row.
 unfoldable pub stopRow : ℕ → ℕ
 stopRow stop = getD stopTable stop 6
 
-=======
--- The microseconds of a value of TIMOUT, by its row. Three bits hold none past the last row; any other number is given that row.
->>>>>>> f84ffc1 (Comments that stand by themselves):crates/hit/specs/Timeout.antt
 unfoldable pub timeoutRow : ℕ → ℕ
 timeoutRow k = getD timeoutTable k 16384

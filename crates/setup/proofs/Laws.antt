@@ -5,7 +5,7 @@ use mathlib.Core.Bool.{true, false}
 use mathlib.Core.Logic.{_↔_, _⊎_, inl, inr, ⊎-elim}
 use mathlib.Core.Path.{_≡_, refl}
 use mathlib.Core.List.{List}
-use Rattle.unit.proofs.Cases.{by-ltb, by-eqb, holds, fails}
+use Rattle.unit.proofs.Cases.{by-eqb, holds, fails}
 use Rattle.setup.specs.Setup.{wordOf, alarmWord, hitCount, timeout, portCycle, differencePeriod, differenceCount}
 use Rattle.setup.specs.Setup.{temperaturePeriod, temperatureCount, flightUnset, temperatureUnset, eventContinuous}
 use Rattle.setup.specs.Setup.{clockStands, interruptEnabled, eachInterrupt, alarmMode}
@@ -13,7 +13,7 @@ use Rattle.setup.specs.Setup.{clockStands, interruptEnabled, eachInterru
 -- "H = STOP + 1 and at most 6 (STOP is 15:13 of 39h)"
 pub hits-are : (s : List ℕ) → hitCount s ≡ min (wordOf s 0x39 / 8192 % 8 + 1) 6
 unfolding hitCount
-hits-are s = by-ltb 6 (wordOf s 0x39 / 8192 % 8 + 1) (λ h t. rw t (omega arith)) (λ h t. rw t (omega arith))
+hits-are s = refl
 
 pub hits-bounds : (s : List ℕ) → (1 ≤ hitCount s) × (hitCount s ≤ 6)
 hits-bounds s = omega (arith, hits-are s)

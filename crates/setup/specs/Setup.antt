@@ -1,10 +1,10 @@
 -- The set-up registers 34h to 43h as a list of sixteen words, and their bit fields as data sheet 000 places them.
-use Prim.Native.Nat.{ℕ, _+_, _-_, _*_}
+use Prim.Native.Nat.{ℕ, _+_, _-_, _*_, min}
 use mathlib.Core.Bool.{Bool}
 use mathlib.Core.List.{List, [], _∷_}
 use lib.ListN.{getD}
-use lib.Dec.{ltb, eqb}
-use Rattle.unit.specs.Choice.{pick, either, negate}
+use lib.Dec.{eqb}
+use Rattle.unit.specs.Choice.{either, negate}
 use Rattle.unit.specs.Bits.{bits, isSet}
 use Rattle.unit.specs.declared.Ticks.{Ticks}
 
@@ -22,7 +22,7 @@ alarmWord s = wordOf s 0x35
 
 -- "H = STOP + 1 and at most 6 (STOP is 15:13 of 39h)"
 unfoldable pub hitCount : List ℕ → ℕ
-hitCount s = pick (ltb 6 (bits 15 13 (wordOf s 0x39) + 1)) 6 (bits 15 13 (wordOf s 0x39) + 1)
+hitCount s = min (bits 15 13 (wordOf s 0x39) + 1) 6
 
 -- "k = TIMOUT (2:0 of 39h)"
 unfoldable pub timeout : List ℕ → ℕ

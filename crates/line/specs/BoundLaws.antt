@@ -12,12 +12,14 @@ use Rattle.numeral.specs.Read.{readHex, readDecimal}
 use Rattle.numeral.specs.DigitLaws.{decimal-at-most}
 use Rattle.line.specs.declared.Call.{Call}
 use Rattle.line.specs.declared.Call.the-variants.{Bus, BusOut}
+use Rattle.line.specs.declared.Counted.{Counted}
 use Rattle.line.specs.declared.Keyword.{Keyword}
+use Rattle.line.specs.Mark.{takesMark, callWords}
 use Rattle.line.specs.declared.Tally.{Tally}
 use Rattle.line.specs.declared.Tally.the-variants.{Wrong, All}
-use Rattle.line.specs.Words.{words}
+use Rattle.line.specs.Words.{words, sameBytes}
 use Rattle.line.specs.Numbers.{tallied}
-use Rattle.line.specs.Line.{Answer, answer, Bounded, bytesCall, bytesAnswer, byteForm, isOut, outAnswer, busAnswer, itemCall, alone, tickWith, tickCall, flightCall, flightAnswer, temperatureCall, temperatureAnswer, expectCall, expectWords, expectFrom, expectAnswer, keywordOf, keywordAnswer, wordsAnswer, contentLength, lineAnswer}
+use Rattle.line.specs.Line.{Answer, answer, Bounded, bytesCall, bytesAnswer, byteForm, isOut, outAnswer, busAnswer, itemCall, alone, numbered, decimalWith, decimalCall, flightCall, flightAnswer, temperatureCall, temperatureAnswer, expectCall, expectWords, expectFrom, expectAnswer, setCall, setWords, setFrom, setAnswer, probeCall, probeAnswer, degreesCall, degreesAnswer, recordCall, recordAnswer, hexWith, hexCall, listingCall, laterAnswer, keywordOf, keywordAnswer, wordsAnswer, contentLength, lineAnswer}
 
 cond-cases : {A : Type 0} (P : A → Type 0) (t : Bool) {x y : A} → (t ≡ true → P x) → (t ≡ false → P y) → P (cond t x y)
 cond-cases P true one other = one refl
@@ -85,21 +87,101 @@ unfolding itemCall
 item-bounded [] = tt
 item-bounded (w ∷ ws) = tt
 
-tick-with-bounded : (r : Number) (ws : List (List ℕ)) → Bounded (tickWith r ws)
-unfolding tickWith
-tick-with-bounded Bad ws = tt
-tick-with-bounded (Value n) ws = alone-bounded (Call.Tick n) tt ws
+numbered-bounded : (k : Counted) (n : ℕ) → Bounded (numbered k n)
+unfolding numbered
+numbered-bounded Counted.Tick n = tt
+numbered-bounded Counted.At n = tt
+numbered-bounded Counted.Stretch n = tt
+numbered-bounded Counted.Quietest n = tt
 
-tick-bounded : (ws : List (List ℕ)) → Bounded (tickCall ws)
-unfolding tickCall
-tick-bounded [] = tt
-tick-bounded (w ∷ ws) = tick-with-bounded _ ws
+decimal-with-bounded : (k : Counted) (r : Number) (ws : List (List ℕ)) → Bounded (decimalWith k r ws)
+unfolding decimalWith
+decimal-with-bounded k Bad ws = tt
+decimal-with-bounded k (Value n) ws = alone-bounded (numbered k n) (numbered-bounded k n) ws
+
+decimal-bounded : (k : Counted) (ws : List (List ℕ)) → Bounded (decimalCall k ws)
+unfolding decimalCall
+decimal-bounded k [] = tt
+decimal-bounded k (w ∷ ws) = decimal-with-bounded k _ ws
+
+set-bounded : (a : ℕ) → 48 ≤ a → a ≤ 67 → (t : Tally) → Bounded (setCall a t)
+unfolding setCall
+set-bounded a low high Wrong = tt
+set-bounded a low high (All n k u) =
+    cond-cases Bounded (ltb n 1) (λ _. tt)
+    (λ e. cond-cases Bounded (ltb 99 n) (λ _. tt) (λ e′. (low, high, ltb-false n 1 e, ltb-false 99 n e′)))
+
+set-from-bounded : (r : Number) (l : List ℕ) (ws : List (List ℕ)) → Within (setFrom r l ws)
+unfolding setFrom setWords
+set-from-bounded Bad l ws = tt
+set-from-bounded (Value a) l ws =
+    cond-cases Within (ltb a 48) (λ _. tt)
+    (λ e. cond-cases Within (ltb 67 a) (λ _. tt) (λ e′. set-bounded a (ltb-false a 48 e) (ltb-false 67 a e′) _))
+
+set-answer-bounded : (l : List ℕ) (ws : List (List ℕ)) → Within (setAnswer l ws)
+unfolding setAnswer
+set-answer-bounded l [] = tt
+set-answer-bounded l (w ∷ ws) = set-from-bounded (readHex 2 2 w) l ws
+
+probe-bounded : (t : Tally) → Bounded (probeCall t)
+unfolding probeCall
+probe-bounded Wrong = tt
+probe-bounded (All n k u) = cond-cases Bounded (ltb n 1) (λ _. tt) (λ e. ltb-false n 1 e)
+
+degrees-bounded : (t : Tally) → Bounded (degreesCall t)
+unfolding degreesCall
+degrees-bounded Wrong = tt
+degrees-bounded (All n k u) = cond-cases Bounded (eqb n 2) (λ _. tt) (λ _. tt)
+
+record-bounded : (t : Tally) → Bounded (recordCall t)
+unfolding recordCall
+record-bounded Wrong = tt
+record-bounded (All n k u) = tt
+
+hex-with-bounded : (old : Bool) (r : Number) (ws : List (List ℕ)) → Bounded (hexWith old r ws)
+unfolding hexWith
+hex-with-bounded old Bad ws = tt
+hex-with-bounded old (Value n) ws = alone-bounded (Call.Listing old n) tt ws
+
+hex-bounded : (old : Bool) (ws : List (List ℕ)) → Bounded (hexCall old ws)
+unfolding hexCall
+hex-bounded old [] = tt
+hex-bounded old (w ∷ ws) = hex-with-bounded old _ ws
+
+listing-bounded : (ws : List (List ℕ)) → Bounded (listingCall ws)
+unfolding listingCall
+listing-bounded [] = tt
+listing-bounded (w ∷ ws) =
+    cond-cases Bounded (sameBytes w (111 ∷ 108 ∷ 100 ∷ [])) (λ _. hex-bounded true ws) (λ _. hex-bounded false (w ∷ ws))
+
+later-bounded : (k : Keyword) (l : List ℕ) (ws : List (List ℕ)) → Within (laterAnswer k l ws)
+unfolding laterAnswer probeAnswer degreesAnswer recordAnswer
+later-bounded Keyword.Set l ws = set-answer-bounded l ws
+later-bounded Keyword.At l ws = decimal-bounded Counted.At ws
+later-bounded Keyword.Stretch l ws = decimal-bounded Counted.Stretch ws
+later-bounded Keyword.Frames l ws = alone-bounded Call.Frames tt ws
+later-bounded Keyword.Probe l ws = probe-bounded _
+later-bounded Keyword.Degrees l ws = degrees-bounded _
+later-bounded Keyword.Record l ws = record-bounded _
+later-bounded Keyword.Listing l ws = listing-bounded ws
+later-bounded Keyword.Quietest l ws = decimal-bounded Counted.Quietest ws
+later-bounded Keyword.Item l ws = tt
+later-bounded Keyword.Bus l ws = tt
+later-bounded Keyword.Tick l ws = tt
+later-bounded Keyword.Flight l ws = tt
+later-bounded Keyword.Temperature l ws = tt
+later-bounded Keyword.Int l ws = tt
+later-bounded Keyword.Awaited l ws = tt
+later-bounded Keyword.Regs l ws = tt
+later-bounded Keyword.Expect l ws = tt
+later-bounded Keyword.Show l ws = tt
+later-bounded Keyword.Unknown l ws = tt
 
 keyword-bounded : (k : Keyword) (l : List ℕ) (ws : List (List ℕ)) → Within (keywordAnswer k l ws)
 unfolding keywordAnswer flightAnswer temperatureAnswer
 keyword-bounded Keyword.Item l ws = item-bounded ws
 keyword-bounded Keyword.Bus l ws = bus-bounded l ws
-keyword-bounded Keyword.Tick l ws = tick-bounded ws
+keyword-bounded Keyword.Tick l ws = decimal-bounded Counted.Tick ws
 keyword-bounded Keyword.Flight l ws = flight-bounded _
 keyword-bounded Keyword.Temperature l ws = temperature-bounded _
 keyword-bounded Keyword.Int l ws = alone-bounded Call.Int tt ws
@@ -107,16 +189,25 @@ keyword-bounded Keyword.Awaited l ws = alone-bounded Call.Awaited tt ws
 keyword-bounded Keyword.Regs l ws = alone-bounded Call.Regs tt ws
 keyword-bounded Keyword.Expect l ws = expect-answer-bounded l ws
 keyword-bounded Keyword.Show l ws = alone-bounded Call.Show tt ws
-keyword-bounded Keyword.Unknown l ws = tt
+keyword-bounded Keyword.Set l ws = later-bounded Keyword.Set l ws
+keyword-bounded Keyword.At l ws = later-bounded Keyword.At l ws
+keyword-bounded Keyword.Stretch l ws = later-bounded Keyword.Stretch l ws
+keyword-bounded Keyword.Frames l ws = later-bounded Keyword.Frames l ws
+keyword-bounded Keyword.Probe l ws = later-bounded Keyword.Probe l ws
+keyword-bounded Keyword.Degrees l ws = later-bounded Keyword.Degrees l ws
+keyword-bounded Keyword.Record l ws = later-bounded Keyword.Record l ws
+keyword-bounded Keyword.Listing l ws = later-bounded Keyword.Listing l ws
+keyword-bounded Keyword.Quietest l ws = later-bounded Keyword.Quietest l ws
+keyword-bounded Keyword.Unknown l ws = later-bounded Keyword.Unknown l ws
 
 words-bounded : (l : List ℕ) (ws : List (List ℕ)) → Within (wordsAnswer l ws)
 unfolding wordsAnswer
 words-bounded l [] = tt
-words-bounded l (w ∷ ws) = cond-cases Within (eqb (getD w 0 0) 35) (λ _. tt) (λ _. keyword-bounded (keywordOf w) l ws)
+words-bounded l (w ∷ ws) = cond-cases Within (eqb (getD w 0 0) 35) (λ _. tt) (λ _. keyword-bounded (keywordOf w) l (callWords (takesMark (keywordOf w)) ws))
 
 pub line-bounded : (l cs : List ℕ) → Within (lineAnswer l cs)
 unfolding lineAnswer
 line-bounded l cs = cond-cases Within (ltb 1000 (contentLength cs)) (λ _. tt) (λ _. words-bounded l (words (take (contentLength cs) cs)))
 
-pub with-bounds : {r : Call} {l′ : List ℕ} (l cs : List ℕ) → answer r l′ ≡ lineAnswer l cs → (answer r l′ ≡ lineAnswer l cs) × Bounded r
-with-bounds l cs e = (e, (rw (ap (λ (a : Answer). a .call) e) (line-bounded l cs)))
+pub with-bounds : {r : Call} {l′ : List ℕ} {X : Type 0} (l cs : List ℕ) → answer r l′ ≡ lineAnswer l cs → X → (answer r l′ ≡ lineAnswer l cs) × (X × Bounded r)
+with-bounds l cs e x = (e, (x, (rw (ap (λ (a : Answer). a .call) e) (line-bounded l cs))))

@@ -1,18 +1,21 @@
 -- Lines and what they say. Assumes nothing.
 use Prim.Native.Nat.{ℕ}
 use mathlib.Core.Path.{_≡_, refl}
+use mathlib.Core.Bool.{true}
 use mathlib.Core.List.{List, [], _∷_}
 use Rattle.numeral.specs.Digit.{digitOf, areDigits, valueOf}
-use Rattle.numeral.specs.Read.{valueIn, readHex, readDecimal}
+use Rattle.numeral.specs.Read.{valueIn, readHex, readDecimal, readSigned, negated}
 use Rattle.line.specs.declared.Call.{Call}
-use Rattle.line.specs.declared.Call.the-variants.{Nothing, UnknownWord, BadNumber, WrongCount, BusOut, Tick, Flight}
+use Rattle.line.specs.declared.Call.the-variants.{Nothing, UnknownWord, BadNumber, WrongCount, BusOut, Tick, Flight, Set, At, Probe, Degrees, Record, Listing, Quietest}
 use Rattle.line.specs.Words.{words, wordsAfter, ended, isBlank, sameBytes}
 use Rattle.line.specs.Numbers.{isSlash, kindOf, tallied}
-use Rattle.line.specs.Line.{lineAnswer, contentLength, wordsAnswer, keywordOf, keywordAnswer, itemCall, busAnswer, isOut, outAnswer, bytesAnswer, bytesCall, tickCall, tickWith, alone, flightAnswer, flightCall, temperatureAnswer, temperatureCall, expectAnswer, expectFrom, expectWords, expectCall}
+use Rattle.line.specs.Decimals.{decimalOf, listed}
+use Rattle.line.specs.Mark.{takesMark, isMark, beforeMark}
+use Rattle.line.specs.Line.{lineAnswer, contentLength, wordsAnswer, keywordOf, keywordAnswer, itemCall, busAnswer, isOut, outAnswer, bytesAnswer, bytesCall, numbered, decimalWith, decimalCall, alone, flightAnswer, flightCall, temperatureAnswer, temperatureCall, expectAnswer, expectFrom, expectWords, expectCall, setAnswer, setFrom, setWords, setCall, probeAnswer, probeCall, degreesAnswer, degreesCall, recordAnswer, recordCall, hexWith, hexCall, listingCall, laterAnswer}
 
 -- What is said by a line whose numbers find no place.
 said : List ℕ → Call
-unfolding lineAnswer contentLength wordsAnswer words wordsAfter ended isBlank sameBytes keywordOf keywordAnswer itemCall busAnswer isOut outAnswer bytesAnswer bytesCall tickCall tickWith alone flightAnswer flightCall temperatureAnswer temperatureCall expectAnswer expectFrom expectWords expectCall isSlash kindOf tallied readHex readDecimal valueIn valueOf areDigits digitOf
+unfolding lineAnswer contentLength wordsAnswer words wordsAfter ended isBlank sameBytes keywordOf keywordAnswer itemCall busAnswer isOut outAnswer bytesAnswer bytesCall numbered decimalWith decimalCall alone flightAnswer flightCall temperatureAnswer temperatureCall expectAnswer expectFrom expectWords expectCall setAnswer setFrom setWords setCall probeAnswer probeCall degreesAnswer degreesCall recordAnswer recordCall hexWith hexCall listingCall laterAnswer takesMark isMark beforeMark listed decimalOf readSigned negated isSlash kindOf tallied readHex readDecimal valueIn valueOf areDigits digitOf
 said cs = lineAnswer [] cs .call
 
 -- `int x`
@@ -79,3 +82,73 @@ passed-over = refl
 return-dropped : said (116 ∷ 105 ∷ 99 ∷ 107 ∷ 32 ∷ 50 ∷ 13 ∷ []) ≡ Tick 2
 unfolding said
 return-dropped = refl
+
+-- `tick 5 => x 6`
+tick-marked : said (116 ∷ 105 ∷ 99 ∷ 107 ∷ 32 ∷ 53 ∷ 32 ∷ 61 ∷ 62 ∷ 32 ∷ 120 ∷ 32 ∷ 54 ∷ []) ≡ Tick 5
+unfolding said
+tick-marked = refl
+
+-- `=> 5`
+mark-first : said (61 ∷ 62 ∷ 32 ∷ 53 ∷ []) ≡ UnknownWord
+unfolding said
+mark-first = refl
+
+-- `show =>`
+show-unmarked : said (115 ∷ 104 ∷ 111 ∷ 119 ∷ 32 ∷ 61 ∷ 62 ∷ []) ≡ WrongCount
+unfolding said
+show-unmarked = refl
+
+-- `set 38 1 FFFF`
+set-of-two : said (115 ∷ 101 ∷ 116 ∷ 32 ∷ 51 ∷ 56 ∷ 32 ∷ 49 ∷ 32 ∷ 70 ∷ 70 ∷ 70 ∷ 70 ∷ []) ≡ Set 56 2
+unfolding said
+set-of-two = refl
+
+-- `set 2F 0`
+set-below : said (115 ∷ 101 ∷ 116 ∷ 32 ∷ 50 ∷ 70 ∷ 32 ∷ 48 ∷ []) ≡ BadNumber
+unfolding said
+set-below = refl
+
+-- `at 100`
+at-moment : said (97 ∷ 116 ∷ 32 ∷ 49 ∷ 48 ∷ 48 ∷ []) ≡ At 100
+unfolding said
+at-moment = refl
+
+-- `degrees 1 2 x`
+three-for-degrees : said (100 ∷ 101 ∷ 103 ∷ 114 ∷ 101 ∷ 101 ∷ 115 ∷ 32 ∷ 49 ∷ 32 ∷ 50 ∷ 32 ∷ 120 ∷ []) ≡ WrongCount
+unfolding said
+three-for-degrees = refl
+
+-- `degrees 1 F`
+two-for-degrees : said (100 ∷ 101 ∷ 103 ∷ 114 ∷ 101 ∷ 101 ∷ 115 ∷ 32 ∷ 49 ∷ 32 ∷ 70 ∷ []) ≡ Degrees
+unfolding said
+two-for-degrees = refl
+
+-- `record`
+record-none : said (114 ∷ 101 ∷ 99 ∷ 111 ∷ 114 ∷ 100 ∷ []) ≡ Record 0
+unfolding said
+record-none = refl
+
+-- `record -1 2`
+record-two : said (114 ∷ 101 ∷ 99 ∷ 111 ∷ 114 ∷ 100 ∷ 32 ∷ 45 ∷ 49 ∷ 32 ∷ 50 ∷ []) ≡ Record 2
+unfolding said
+record-two = refl
+
+-- `record +1`
+record-plus : said (114 ∷ 101 ∷ 99 ∷ 111 ∷ 114 ∷ 100 ∷ 32 ∷ 43 ∷ 49 ∷ []) ≡ BadNumber
+unfolding said
+record-plus = refl
+
+-- `listing old F4`
+listing-old : said (108 ∷ 105 ∷ 115 ∷ 116 ∷ 105 ∷ 110 ∷ 103 ∷ 32 ∷ 111 ∷ 108 ∷ 100 ∷ 32 ∷ 70 ∷ 52 ∷ []) ≡ Listing true 244
+unfolding said
+listing-old = refl
+
+-- `listing old`
+listing-old-alone : said (108 ∷ 105 ∷ 115 ∷ 116 ∷ 105 ∷ 110 ∷ 103 ∷ 32 ∷ 111 ∷ 108 ∷ 100 ∷ []) ≡ WrongCount
+unfolding said
+listing-old-alone = refl
+
+-- `quietest 3`
+quietest-three : said (113 ∷ 117 ∷ 105 ∷ 101 ∷ 116 ∷ 101 ∷ 115 ∷ 116 ∷ 32 ∷ 51 ∷ []) ≡ Quietest 3
+unfolding said
+quietest-three = refl

@@ -2,6 +2,9 @@ pub mod Words
 pub mod WordLaws
 pub mod Numbers
 pub mod NumberLaws
+pub mod Mark
+pub mod MarkLaws
+pub mod Decimals
 pub mod Clean
 pub mod CleanLaws
 pub mod Line

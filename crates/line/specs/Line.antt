@@ -10,11 +10,14 @@ use Rattle.numeral.specs.Read.{readHex, readDecimal}
 use Rattle.line.specs.declared.Call.{Call}
 use Rattle.line.specs.declared.Call.the-variants.{Nothing, TooLong, UnknownWord, BadNumber, WrongCount, Bus, BusOut}
 use Rattle.line.specs.declared.Keyword.{Keyword}
+use Rattle.line.specs.declared.Counted.{Counted}
 use Rattle.line.specs.declared.Form.{Form}
 use Rattle.line.specs.declared.Tally.{Tally}
 use Rattle.line.specs.declared.Tally.the-variants.{Wrong, All}
 use Rattle.line.specs.Words.{words, sameBytes}
 use Rattle.line.specs.Numbers.{Outcome, tallied}
+use Rattle.line.specs.Decimals.{listed}
+use Rattle.line.specs.Mark.{takesMark, callWords, expectedWords}
 
 -- What is said, and the buffer that the line's numbers were stored in.
 pub record Answer : Type 0 where
@@ -65,14 +68,21 @@ unfoldable pub alone : Call → List (List ℕ) → Call
 alone c [] = c
 alone c (w ∷ ws) = WrongCount
 
--- `tick N`: N decimal, 0 to 4,294,967,295. Words past those that a line can have are not looked into.
-unfoldable pub tickWith : Number → List (List ℕ) → Call
-tickWith Bad ws = BadNumber
-tickWith (Value n) ws = alone (Call.Tick n) ws
+-- `tick N`, `at T`, `stretch N` and `quietest W`: one decimal, 0 to 4,294,967,295. Words past those that a line can have are not looked
+-- into.
+unfoldable pub numbered : Counted → ℕ → Call
+numbered Counted.Tick n = Call.Tick n
+numbered Counted.At n = Call.At n
+numbered Counted.Stretch n = Call.Stretch n
+numbered Counted.Quietest n = Call.Quietest n
 
-unfoldable pub tickCall : List (List ℕ) → Call
-tickCall [] = WrongCount
-tickCall (w ∷ ws) = tickWith (readDecimal 4294967295 w) ws
+unfoldable pub decimalWith : Counted → Number → List (List ℕ) → Call
+decimalWith k Bad ws = BadNumber
+decimalWith k (Value n) ws = alone (numbered k n) ws
+
+unfoldable pub decimalCall : Counted → List (List ℕ) → Call
+decimalCall k [] = WrongCount
+decimalCall k (w ∷ ws) = decimalWith k (readDecimal 4294967295 w) ws
 
 -- `flight U .. / D ..`: the up words, one `/`, the down words; 0 to 16 in each list, 1 to 8 hexadecimal digits each, every word judged
 -- before their number is.
@@ -115,14 +125,89 @@ unfoldable pub expectAnswer : List ℕ → List (List ℕ) → Answer
 expectAnswer l [] = answer WrongCount l
 expectAnswer l (w ∷ ws) = expectFrom (readHex 2 2 w) l ws
 
+-- `set A W ..`: A two hexadecimal digits 30 to 43, and 1 to 99 words of 1 to 4 hexadecimal digits, every word judged before their number
+-- is.
+abbrev pub setForm : Form
+setForm = record { least = 1; most = 4; looked = every; slash = false }
+
+unfoldable pub setCall : ℕ → Tally → Call
+setCall a Wrong = BadNumber
+setCall a (All n k u) = cond (ltb n 1) WrongCount (cond (ltb 99 n) WrongCount (Call.Set a n))
+
+unfoldable pub setWords : ℕ → List ℕ → List (List ℕ) → Answer
+setWords a l ws = answered (setCall a) (tallied setForm 0 0 0 l ws)
+
+unfoldable pub setFrom : Number → List ℕ → List (List ℕ) → Answer
+setFrom Bad l ws = answer BadNumber l
+setFrom (Value a) l ws = cond (ltb a 48) (answer BadNumber l) (cond (ltb 67 a) (answer BadNumber l) (setWords a l ws))
+
+unfoldable pub setAnswer : List ℕ → List (List ℕ) → Answer
+setAnswer l [] = answer WrongCount l
+setAnswer l (w ∷ ws) = setFrom (readHex 2 2 w) l ws
+
+-- `probe R ..`: one or more decimals, every word judged before their number is.
+unfoldable pub probeCall : Tally → Call
+probeCall Wrong = BadNumber
+probeCall (All n k u) = cond (ltb n 1) WrongCount (Call.Probe n)
+
+unfoldable pub probeAnswer : List ℕ → List (List ℕ) → Answer
+probeAnswer l ws = answered probeCall (listed false 0 l ws)
+
+-- `degrees A B`: two words of 1 to 8 hexadecimal digits.
+abbrev pub pairForm : Form
+pairForm = record { least = 1; most = 8; looked = 2; slash = false }
+
+unfoldable pub degreesCall : Tally → Call
+degreesCall Wrong = BadNumber
+degreesCall (All n k u) = cond (eqb n 2) Call.Degrees WrongCount
+
+unfoldable pub degreesAnswer : List ℕ → List (List ℕ) → Answer
+degreesAnswer l ws = answered degreesCall (tallied pairForm 0 0 0 l ws)
+
+-- `record D ..`: decimals with a sign, or none.
+unfoldable pub recordCall : Tally → Call
+recordCall Wrong = BadNumber
+recordCall (All n k u) = Call.Record n
+
+unfoldable pub recordAnswer : List ℕ → List (List ℕ) → Answer
+recordAnswer l ws = answered recordCall (listed true 0 l ws)
+
+-- `listing C`, `listing old C`: 1 to 8 hexadecimal digits.
+unfoldable pub hexWith : Bool → Number → List (List ℕ) → Call
+hexWith old Bad ws = BadNumber
+hexWith old (Value n) ws = alone (Call.Listing old n) ws
+
+unfoldable pub hexCall : Bool → List (List ℕ) → Call
+hexCall old [] = WrongCount
+hexCall old (w ∷ ws) = hexWith old (readHex 1 8 w) ws
+
+unfoldable pub listingCall : List (List ℕ) → Call
+listingCall [] = WrongCount
+listingCall (w ∷ ws) = cond (sameBytes w (111 ∷ 108 ∷ 100 ∷ [])) (hexCall true ws) (hexCall false (w ∷ ws))
+
 -- The first word, in small letters.
+abbrev pub lastKeyword : List ℕ → Keyword
+lastKeyword w =
+    cond (sameBytes w (100 ∷ 101 ∷ 103 ∷ 114 ∷ 101 ∷ 101 ∷ 115 ∷ [])) Keyword.Degrees
+    (cond (sameBytes w (114 ∷ 101 ∷ 99 ∷ 111 ∷ 114 ∷ 100 ∷ [])) Keyword.Record
+    (cond (sameBytes w (108 ∷ 105 ∷ 115 ∷ 116 ∷ 105 ∷ 110 ∷ 103 ∷ [])) Keyword.Listing
+    (cond (sameBytes w (113 ∷ 117 ∷ 105 ∷ 101 ∷ 116 ∷ 101 ∷ 115 ∷ 116 ∷ [])) Keyword.Quietest Keyword.Unknown)))
+
+abbrev pub laterKeyword : List ℕ → Keyword
+laterKeyword w =
+    cond (sameBytes w (115 ∷ 101 ∷ 116 ∷ [])) Keyword.Set
+    (cond (sameBytes w (97 ∷ 116 ∷ [])) Keyword.At
+    (cond (sameBytes w (115 ∷ 116 ∷ 114 ∷ 101 ∷ 116 ∷ 99 ∷ 104 ∷ [])) Keyword.Stretch
+    (cond (sameBytes w (102 ∷ 114 ∷ 97 ∷ 109 ∷ 101 ∷ 115 ∷ [])) Keyword.Frames
+    (cond (sameBytes w (112 ∷ 114 ∷ 111 ∷ 98 ∷ 101 ∷ [])) Keyword.Probe (lastKeyword w)))))
+
 abbrev pub otherKeyword : List ℕ → Keyword
 otherKeyword w =
     cond (sameBytes w (105 ∷ 110 ∷ 116 ∷ [])) Keyword.Int
     (cond (sameBytes w (97 ∷ 119 ∷ 97 ∷ 105 ∷ 116 ∷ 101 ∷ 100 ∷ [])) Keyword.Awaited
     (cond (sameBytes w (114 ∷ 101 ∷ 103 ∷ 115 ∷ [])) Keyword.Regs
     (cond (sameBytes w (101 ∷ 120 ∷ 112 ∷ 101 ∷ 99 ∷ 116 ∷ [])) Keyword.Expect
-    (cond (sameBytes w (115 ∷ 104 ∷ 111 ∷ 119 ∷ [])) Keyword.Show Keyword.Unknown))))
+    (cond (sameBytes w (115 ∷ 104 ∷ 111 ∷ 119 ∷ [])) Keyword.Show (laterKeyword w)))))
 
 unfoldable pub keywordOf : List ℕ → Keyword
 keywordOf w =
@@ -132,10 +217,32 @@ keywordOf w =
     (cond (sameBytes w (102 ∷ 108 ∷ 105 ∷ 103 ∷ 104 ∷ 116 ∷ [])) Keyword.Flight
     (cond (sameBytes w (116 ∷ 101 ∷ 109 ∷ 112 ∷ 101 ∷ 114 ∷ 97 ∷ 116 ∷ 117 ∷ 114 ∷ 101 ∷ [])) Keyword.Temperature (otherKeyword w)))))
 
+unfoldable pub laterAnswer : Keyword → List ℕ → List (List ℕ) → Answer
+laterAnswer Keyword.Set l ws = setAnswer l ws
+laterAnswer Keyword.At l ws = answer (decimalCall Counted.At ws) l
+laterAnswer Keyword.Stretch l ws = answer (decimalCall Counted.Stretch ws) l
+laterAnswer Keyword.Frames l ws = answer (alone Call.Frames ws) l
+laterAnswer Keyword.Probe l ws = probeAnswer l ws
+laterAnswer Keyword.Degrees l ws = degreesAnswer l ws
+laterAnswer Keyword.Record l ws = recordAnswer l ws
+laterAnswer Keyword.Listing l ws = answer (listingCall ws) l
+laterAnswer Keyword.Quietest l ws = answer (decimalCall Counted.Quietest ws) l
+laterAnswer Keyword.Item l ws = answer UnknownWord l
+laterAnswer Keyword.Bus l ws = answer UnknownWord l
+laterAnswer Keyword.Tick l ws = answer UnknownWord l
+laterAnswer Keyword.Flight l ws = answer UnknownWord l
+laterAnswer Keyword.Temperature l ws = answer UnknownWord l
+laterAnswer Keyword.Int l ws = answer UnknownWord l
+laterAnswer Keyword.Awaited l ws = answer UnknownWord l
+laterAnswer Keyword.Regs l ws = answer UnknownWord l
+laterAnswer Keyword.Expect l ws = answer UnknownWord l
+laterAnswer Keyword.Show l ws = answer UnknownWord l
+laterAnswer Keyword.Unknown l ws = answer UnknownWord l
+
 unfoldable pub keywordAnswer : Keyword → List ℕ → List (List ℕ) → Answer
 keywordAnswer Keyword.Item l ws = answer (itemCall ws) l
 keywordAnswer Keyword.Bus l ws = busAnswer l ws
-keywordAnswer Keyword.Tick l ws = answer (tickCall ws) l
+keywordAnswer Keyword.Tick l ws = answer (decimalCall Counted.Tick ws) l
 keywordAnswer Keyword.Flight l ws = flightAnswer l ws
 keywordAnswer Keyword.Temperature l ws = temperatureAnswer l ws
 keywordAnswer Keyword.Int l ws = answer (alone Call.Int ws) l
@@ -143,12 +250,27 @@ keywordAnswer Keyword.Awaited l ws = answer (alone Call.Awaited ws) l
 keywordAnswer Keyword.Regs l ws = answer (alone Call.Regs ws) l
 keywordAnswer Keyword.Expect l ws = expectAnswer l ws
 keywordAnswer Keyword.Show l ws = answer (alone Call.Show ws) l
-keywordAnswer Keyword.Unknown l ws = answer UnknownWord l
+keywordAnswer Keyword.Set l ws = laterAnswer Keyword.Set l ws
+keywordAnswer Keyword.At l ws = laterAnswer Keyword.At l ws
+keywordAnswer Keyword.Stretch l ws = laterAnswer Keyword.Stretch l ws
+keywordAnswer Keyword.Frames l ws = laterAnswer Keyword.Frames l ws
+keywordAnswer Keyword.Probe l ws = laterAnswer Keyword.Probe l ws
+keywordAnswer Keyword.Degrees l ws = laterAnswer Keyword.Degrees l ws
+keywordAnswer Keyword.Record l ws = laterAnswer Keyword.Record l ws
+keywordAnswer Keyword.Listing l ws = laterAnswer Keyword.Listing l ws
+keywordAnswer Keyword.Quietest l ws = laterAnswer Keyword.Quietest l ws
+keywordAnswer Keyword.Unknown l ws = laterAnswer Keyword.Unknown l ws
 
--- A line with no word, and one whose first word starts with `#`, is passed over.
+-- A line with no word, and one whose first word starts with `#`, is passed over. The call's words are those before `=>`.
 unfoldable pub wordsAnswer : List ℕ → List (List ℕ) → Answer
 wordsAnswer l [] = answer Nothing l
-wordsAnswer l (w ∷ ws) = cond (eqb (getD w 0 0) 35) (answer Nothing l) (keywordAnswer (keywordOf w) l ws)
+wordsAnswer l (w ∷ ws) =
+    cond (eqb (getD w 0 0) 35) (answer Nothing l) (keywordAnswer (keywordOf w) l (callWords (takesMark (keywordOf w)) ws))
+
+-- The words that a line expects of its answer, in a list of one, or none.
+unfoldable pub wordsExpected : List (List ℕ) → List (List (List ℕ))
+wordsExpected [] = []
+wordsExpected (w ∷ ws) = cond (eqb (getD w 0 0) 35) [] (expectedWords (takesMark (keywordOf w)) ws)
 
 -- One carriage return at a line's end is dropped, and not counted.
 unfoldable pub contentLength : List ℕ → ℕ
@@ -157,6 +279,9 @@ contentLength cs = cond (eqb (getD cs (length cs - 1) 0) 13) (length cs - 1) (le
 -- A line, without its line feed, has at most 1,000 bytes.
 unfoldable pub lineAnswer : List ℕ → List ℕ → Answer
 lineAnswer l cs = cond (ltb 1000 (contentLength cs)) (answer TooLong l) (wordsAnswer l (words (take (contentLength cs) cs)))
+
+unfoldable pub lineExpected : List ℕ → List (List (List ℕ))
+lineExpected cs = cond (ltb 1000 (contentLength cs)) [] (wordsExpected (words (take (contentLength cs) cs)))
 
 -- What the numbers of a call keep to.
 abbrev pub Bounded : Call → Type 0
@@ -176,3 +301,12 @@ Bounded Call.Awaited = Unit
 Bounded Call.Regs = Unit
 Bounded (Call.Expect a n) = (176 ≤ a) × (a ≤ 255) × (1 ≤ n) × (n ≤ 256 - a)
 Bounded Call.Show = Unit
+Bounded (Call.Set a n) = (48 ≤ a) × (a ≤ 67) × (1 ≤ n) × (n ≤ 99)
+Bounded (Call.At n) = Unit
+Bounded (Call.Stretch n) = Unit
+Bounded Call.Frames = Unit
+Bounded (Call.Probe n) = 1 ≤ n
+Bounded Call.Degrees = Unit
+Bounded (Call.Record n) = Unit
+Bounded (Call.Listing old n) = Unit
+Bounded (Call.Quietest n) = Unit

@@ -47,6 +47,7 @@ pub record Ended (s : List ℕ) (at i : ℕ) : Type 0 where
   pub low : at < i
   pub high : i ≤ length s
   pub first : words (drop at s) ≡ part at i s ∷ words (drop i s)
+  pub stops : i < length s → isBlank (getD s i 0) ≡ true
 
 -- From a place on, the first word is from i to before j, or there is none and i ≡ j.
 pub record Next (s : List ℕ) (at i j : ℕ) : Type 0 where
@@ -55,3 +56,4 @@ pub record Next (s : List ℕ) (at i j : ℕ) : Type 0 where
   pub high : j ≤ length s
   pub some : i < j → words (drop at s) ≡ part i j s ∷ words (drop j s)
   pub none : j ≤ i → words (drop at s) ≡ []
+  pub stops : i < j → j < length s → isBlank (getD s j 0) ≡ true

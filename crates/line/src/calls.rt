@@ -1,9 +1,15 @@
 // A line's call.
 use crate::Call;
+use crate::Counted;
 use crate::Form;
 use crate::Keyword;
+use crate::Said;
 use crate::Tally;
 use crate::keywords::keyword;
+use crate::later;
+use crate::mark::behind_mark;
+use crate::mark::call_part;
+use crate::mark::takes_mark;
 use crate::numbers::tally;
 use crate::words::next_word;
 use crate::words::same;
@@ -11,24 +17,29 @@ use numeral::Number;
 ghost use mathlib.Core.Path.{_≡_};
 ghost use mathlib.Core.Bool.{true, false};
 ghost use Prim.Native.Nat.{_≤_, _-_};
-ghost use lib.ListN.{length, drop};
+ghost use lib.ListN.{length, take, drop};
 ghost use Rattle.numeral.specs.Read.{readDecimal};
 ghost use Rattle.line.specs.declared.Call.the-variants.{Bus};
 ghost use Rattle.line.specs.declared.Tally.the-variants.{All};
 ghost use Rattle.line.specs.Words.{words};
-ghost use Rattle.line.specs.Line.{answer, itemCall, byteForm, wordForm, flightCall, bytesAnswer, isOut, outAnswer, busAnswer, alone as Line·alone, tickCall, flightAnswer, temperatureAnswer, expectWords, expectFrom, expectAnswer, keywordAnswer, wordsAnswer, contentLength, lineAnswer, Bounded};
+ghost use Rattle.line.specs.Mark.{Expects};
+ghost use Rattle.line.specs.Line.{answer, itemCall, byteForm, wordForm, flightCall, bytesAnswer, isOut, outAnswer, busAnswer, alone as Line·alone, flightAnswer, temperatureAnswer, expectWords, expectFrom, expectAnswer, keywordAnswer, laterAnswer, wordsAnswer, wordsExpected, contentLength, lineAnswer, lineExpected, Bounded};
 
 // The count of numbers that no list reaches.
 const EVERY: usize = 18446744073709551615;
 
 // Reads a line, without its line feed.
-pub fn read_line(line: &[u8], numbers: &mut [u32]) -> Call
-    ensures { λ r. ⌜ answer r (now (numbers .exit)) ≡ lineAnswer (now (numbers .entry)) (now (line .entry)) ⌝ }
-    ensures bounded { λ r. ⌜ Bounded r ⌝ }
+pub fn read_line(line: &[u8], numbers: &mut [u32]) -> Said
+    ensures { λ r. ⌜ answer (r .call) (now (numbers .exit)) ≡ lineAnswer (now (numbers .entry)) (now (line .entry)) ⌝ }
+    ensures expected { λ r. ⌜ Expects (lineExpected (now (line .entry))) (take (contentLength (now (line .entry))) (now (line .entry))) (r .expected) ⌝ }
+    ensures bounded { λ r. ⌜ Bounded (r .call) ⌝ }
 {
     let n = content_length(line);
     if 1000 < n {
-        Call::TooLong
+        Said {
+            call: Call::TooLong,
+            expected: 0,
+        }
     } else {
         words_call(&line[..n], numbers)
     }
@@ -45,19 +56,31 @@ pub(crate) fn content_length(line: &[u8]) -> usize
     if line[n - 1] == 13 { n - 1 } else { n }
 }
 
-fn words_call(s: &[u8], numbers: &mut [u32]) -> Call
-    ensures { λ r. ⌜ answer r (now (numbers .exit)) ≡ wordsAnswer (now (numbers .entry)) (words (now (s .entry))) ⌝ }
+fn words_call(s: &[u8], numbers: &mut [u32]) -> Said
+    ensures { λ r. ⌜ (answer (r .call) (now (numbers .exit)) ≡ wordsAnswer (now (numbers .entry)) (words (now (s .entry)))) × Expects (wordsExpected (words (now (s .entry)))) (now (s .entry)) (r .expected) ⌝ }
 {
     let word = next_word(s, 0);
     let start = word.start;
     let end = word.end;
     if end <= start {
-        return Call::Nothing;
+        return Said {
+            call: Call::Nothing,
+            expected: 0,
+        };
     }
     if s[start] == 35 {
-        return Call::Nothing;
+        return Said {
+            call: Call::Nothing,
+            expected: 0,
+        };
     }
-    keyword_call(keyword(&s[start..end]), s, end, numbers)
+    let k = keyword(&s[start..end]);
+    let part = call_part(takes_mark(k), s, end);
+    let stop = part.start;
+    Said {
+        call: keyword_call(k, &s[..stop], end, numbers),
+        expected: behind_mark(part),
+    }
 }
 
 // The call of a keyword, with the words from the place `at` on.
@@ -68,7 +91,7 @@ fn keyword_call(k: Keyword, s: &[u8], at: usize, numbers: &mut [u32]) -> Call
     match k {
         Keyword::Item => item_call(s, at),
         Keyword::Bus => bus_call(s, at, numbers),
-        Keyword::Tick => tick_call(s, at),
+        Keyword::Tick => later::decimal_call(Counted::Tick, s, at),
         Keyword::Flight => flight_call(s, at, numbers),
         Keyword::Temperature => temperature_call(s, at, numbers),
         Keyword::Int => alone(Call::Int, s, at),
@@ -76,7 +99,25 @@ fn keyword_call(k: Keyword, s: &[u8], at: usize, numbers: &mut [u32]) -> Call
         Keyword::Regs => alone(Call::Regs, s, at),
         Keyword::Expect => expect_call(s, at, numbers),
         Keyword::Show => alone(Call::Show, s, at),
-        Keyword::Unknown => Call::UnknownWord,
+        _ => later_call(k, s, at, numbers),
+    }
+}
+
+fn later_call(k: Keyword, s: &[u8], at: usize, numbers: &mut [u32]) -> Call
+    requires { ⌜ at ≤ length (now s) ⌝ }
+    ensures { λ r. ⌜ answer r (now (numbers .exit)) ≡ laterAnswer k (now (numbers .entry)) (words (drop at (now (s .entry)))) ⌝ }
+{
+    match k {
+        Keyword::Set => later::set_call(s, at, numbers),
+        Keyword::At => later::decimal_call(Counted::At, s, at),
+        Keyword::Stretch => later::decimal_call(Counted::Stretch, s, at),
+        Keyword::Frames => alone(Call::Frames, s, at),
+        Keyword::Probe => later::probe_call(s, at, numbers),
+        Keyword::Degrees => later::degrees_call(s, at, numbers),
+        Keyword::Record => later::record_call(s, at, numbers),
+        Keyword::Listing => later::listing_call(s, at),
+        Keyword::Quietest => later::decimal_call(Counted::Quietest, s, at),
+        _ => Call::UnknownWord,
     }
 }
 
@@ -93,7 +134,7 @@ fn item_call(s: &[u8], at: usize) -> Call
 }
 
 // A call that has no further word.
-fn alone(call: Call, s: &[u8], at: usize) -> Call
+pub(crate) fn alone(call: Call, s: &[u8], at: usize) -> Call
     requires { ⌜ at ≤ length (now s) ⌝ }
     ensures { λ r. ⌜ r ≡ Line·alone call (words (drop at (now (s .entry)))) ⌝ }
 {
@@ -102,22 +143,6 @@ fn alone(call: Call, s: &[u8], at: usize) -> Call
         call
     } else {
         Call::WrongCount
-    }
-}
-
-fn tick_call(s: &[u8], at: usize) -> Call
-    requires { ⌜ at ≤ length (now s) ⌝ }
-    ensures { λ r. ⌜ r ≡ tickCall (words (drop at (now (s .entry)))) ⌝ }
-{
-    let word = next_word(s, at);
-    let start = word.start;
-    let end = word.end;
-    if end <= start {
-        return Call::WrongCount;
-    }
-    match numeral::read_decimal(&s[start..end], 4294967295) {
-        Number::Value(n) => alone(Call::Tick(n), s, end),
-        Number::Bad => Call::BadNumber,
     }
 }
 

@@ -2,7 +2,7 @@
 use crate::Keyword;
 use crate::words::same;
 ghost use mathlib.Core.Path.{_≡_};
-ghost use Rattle.line.specs.Line.{keywordOf, otherKeyword};
+ghost use Rattle.line.specs.Line.{keywordOf, otherKeyword, laterKeyword, lastKeyword};
 
 pub(crate) fn keyword(word: &[u8]) -> Keyword
     ensures { λ r. ⌜ r ≡ keywordOf (now (word .entry)) ⌝ }
@@ -42,6 +42,45 @@ fn other_keyword(word: &[u8]) -> Keyword
     }
     if same(word, b"show") {
         return Keyword::Show;
+    }
+    later_keyword(word)
+}
+
+fn later_keyword(word: &[u8]) -> Keyword
+    ensures { λ r. ⌜ r ≡ laterKeyword (now (word .entry)) ⌝ }
+{
+    if same(word, b"set") {
+        return Keyword::Set;
+    }
+    if same(word, b"at") {
+        return Keyword::At;
+    }
+    if same(word, b"stretch") {
+        return Keyword::Stretch;
+    }
+    if same(word, b"frames") {
+        return Keyword::Frames;
+    }
+    if same(word, b"probe") {
+        return Keyword::Probe;
+    }
+    last_keyword(word)
+}
+
+fn last_keyword(word: &[u8]) -> Keyword
+    ensures { λ r. ⌜ r ≡ lastKeyword (now (word .entry)) ⌝ }
+{
+    if same(word, b"degrees") {
+        return Keyword::Degrees;
+    }
+    if same(word, b"record") {
+        return Keyword::Record;
+    }
+    if same(word, b"listing") {
+        return Keyword::Listing;
+    }
+    if same(word, b"quietest") {
+        return Keyword::Quietest;
     }
     Keyword::Unknown
 }

@@ -3,8 +3,11 @@
 // No public function has a `requires`. The numbers of a line go into a buffer that the caller
 // lends: those that it has no place for are counted and dropped.
 mod calls;
+mod decimals;
 mod held;
 mod keywords;
+mod later;
+mod mark;
 mod numbers;
 mod text;
 mod words;
@@ -36,6 +39,25 @@ pub enum Call {
     Regs,
     Expect { address: u32, words: usize },
     Show,
+    // A write of words from an address on.
+    Set { address: u32, words: usize },
+    At(u32),
+    Stretch(u32),
+    Frames,
+    Probe(usize),
+    // The probe's word and its reference's, the two numbers that the line left.
+    Degrees,
+    // Differences as two's complement words.
+    Record(usize),
+    Listing { old: bool, first: u32 },
+    Quietest(u32),
+}
+
+// What a line says, and the place from which the words stand that it expects of the answer, behind
+// its `=>`; 0 where it has none.
+pub struct Said {
+    pub call: Call,
+    pub expected: usize,
 }
 
 // The first word of a line.
@@ -50,7 +72,24 @@ pub enum Keyword {
     Regs,
     Expect,
     Show,
+    Set,
+    At,
+    Stretch,
+    Frames,
+    Probe,
+    Degrees,
+    Record,
+    Listing,
+    Quietest,
     Unknown,
+}
+
+// What the one decimal of a line counts.
+pub enum Counted {
+    Tick,
+    At,
+    Stretch,
+    Quietest,
 }
 
 // How the words of a list are read: hexadecimal numbers of `least` to `most` digits. From the

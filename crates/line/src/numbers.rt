@@ -223,7 +223,7 @@ fn first_slash(slashes: usize, count: usize, up: usize) -> usize
 }
 
 // A number in its place, where there is one.
-fn store(numbers: &mut [u32], i: usize, v: u32)
+pub(crate) fn store(numbers: &mut [u32], i: usize, v: u32)
     ensures { λ _. ⌜ now (numbers .exit) ≡ set (now (numbers .entry)) i v ⌝ }
 {
     if i < numbers.len() {

@@ -32,9 +32,13 @@ decimal v = digits 10 (decimalWidth v) v
 unfoldable pub tenThousandths : ℕ → ℕ
 tenThousandths q = (q * 2500000 + 32768) / 65536
 
+-- A number, a point, and the last k digits of another.
+abbrev pub pointed : ℕ → ℕ → ℕ → List ℕ
+pointed whole k rest = decimal whole ++ (46 ∷ digits 10 k rest)
+
 -- A number of ten-thousandths with four decimals after the point.
 unfoldable pub fourDecimals : ℕ → List ℕ
-fourDecimals n = decimal (n / 10000) ++ (46 ∷ digits 10 4 (n % 10000))
+fourDecimals n = pointed (n / 10000) 4 (n % 10000)
 
 -- An unsigned word of quanta in nanoseconds.
 unfoldable pub nanoseconds : ℕ → List ℕ
@@ -43,3 +47,11 @@ nanoseconds q = fourDecimals (tenThousandths q)
 -- A two's complement word of 32 bits of quanta in nanoseconds, a minus before the first digit where it is negative.
 unfoldable pub signedNanoseconds : ℕ → List ℕ
 signedNanoseconds w = cond (ltb w 2147483648) (nanoseconds w) (45 ∷ nanoseconds (4294967296 - w))
+
+-- A two's complement word of 32 bits in decimal, a minus before the first digit where it is negative.
+unfoldable pub signedDecimal : ℕ → List ℕ
+signedDecimal w = cond (ltb w 2147483648) (decimal w) (45 ∷ decimal (4294967296 - w))
+
+-- A number of thousandths with three decimals after the point.
+unfoldable pub thousandths : ℕ → List ℕ
+thousandths n = pointed (n / 1000) 3 (n % 1000)

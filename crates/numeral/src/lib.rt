@@ -13,11 +13,14 @@ pub use print::put_hex;
 pub use print::put_hex_bytes;
 pub use print::put_low_bytes;
 pub use print::put_nanoseconds;
+pub use print::put_signed;
 pub use print::put_signed_nanoseconds;
 pub use print::put_text;
+pub use print::put_thousandths;
 pub use read::hex_digit;
 pub use read::read_decimal;
 pub use read::read_hex;
+pub use read::read_signed;
 
 // What is read from a word.
 pub enum Number {

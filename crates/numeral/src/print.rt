@@ -5,7 +5,7 @@ ghost use lib.Dec.{leb};
 ghost use lib.ListN.{length};
 ghost use Rattle.numeral.specs.Digit.{glyph as Digit·glyph, digits};
 ghost use Rattle.numeral.specs.Place.{overwrite, Put};
-ghost use Rattle.numeral.specs.Print.{lowBytes, hexBytes, decimalWidth, decimal, fourDecimals, nanoseconds, signedNanoseconds};
+ghost use Rattle.numeral.specs.Print.{lowBytes, hexBytes, decimalWidth, decimal, fourDecimals, nanoseconds, signedNanoseconds, signedDecimal, pointed, thousandths};
 
 // The answer where there is no room.
 pub const NO_ROOM: usize = 18446744073709551615;
@@ -75,6 +75,23 @@ pub fn put_decimal(buf: &mut [u8], at: usize, v: u64) -> usize
     put_digits(buf, at, 10, decimal_width(v), v)
 }
 
+// A two's complement word in decimal.
+pub fn put_signed(buf: &mut [u8], at: usize, word: u32) -> usize
+    ensures { λ r. ⌜ Put (now (buf .entry)) at (signedDecimal word) r (now (buf .exit)) ⌝ }
+{
+    if word < 2147483648 {
+        return put_decimal(buf, at, word as u64);
+    }
+    if buf.len() <= at {
+        return NO_ROOM;
+    }
+    let next = put_decimal(buf, at + 1, 4294967296 - word as u64);
+    if next != NO_ROOM {
+        buf[at] = 45;
+    }
+    next
+}
+
 // An unsigned word of quanta, in nanoseconds.
 pub fn put_nanoseconds(buf: &mut [u8], at: usize, word: u32) -> usize
     ensures { λ r. ⌜ Put (now (buf .entry)) at (nanoseconds word) r (now (buf .exit)) ⌝ }
@@ -107,14 +124,28 @@ pub fn put_signed_nanoseconds(buf: &mut [u8], at: usize, word: u32) -> usize
 fn put_four_decimals(buf: &mut [u8], at: usize, n: u64) -> usize
     ensures { λ r. ⌜ Put (now (buf .entry)) at (fourDecimals n) r (now (buf .exit)) ⌝ }
 {
-    let whole = n / 10000;
+    put_pointed(buf, at, n / 10000, 4, n % 10000)
+}
+
+// A number of thousandths, with three decimals.
+pub fn put_thousandths(buf: &mut [u8], at: usize, n: u32) -> usize
+    ensures { λ r. ⌜ Put (now (buf .entry)) at (thousandths n) r (now (buf .exit)) ⌝ }
+{
+    put_pointed(buf, at, n as u64 / 1000, 3, n as u64 % 1000)
+}
+
+// A decimal, a point and the last `places` digits of another.
+fn put_pointed(buf: &mut [u8], at: usize, whole: u64, places: usize, rest: u64) -> usize
+    requires { ⌜ places ≤ 4 ⌝ }
+    ensures { λ r. ⌜ Put (now (buf .entry)) at (pointed whole places rest) r (now (buf .exit)) ⌝ }
+{
     let width = decimal_width(whole);
-    let count = width + 5;
+    let count = width + 1 + places;
     if has_room(buf.len(), at, count) {
         let point = at + width;
         fill_digits(buf, at, 10, width, whole);
         buf[point] = 46;
-        fill_digits(buf, point + 1, 10, 4, n % 10000);
+        fill_digits(buf, point + 1, 10, places, rest);
         at + count
     } else {
         NO_ROOM

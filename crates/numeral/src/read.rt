@@ -4,7 +4,7 @@ ghost use mathlib.Core.Path.{_≡_};
 ghost use Prim.Native.Nat.{_≤_};
 ghost use lib.ListN.{length};
 ghost use Rattle.numeral.specs.Digit.{digitOf};
-ghost use Rattle.numeral.specs.Read.{valueIn, readHex, readDecimal};
+ghost use Rattle.numeral.specs.Read.{valueIn, readHex, readDecimal, negated as Read·negated, readSigned};
 
 // A hexadecimal number of `least` to `most` digits, at least one and at most eight.
 pub fn read_hex(s: &[u8], least: usize, most: usize) -> Number
@@ -36,6 +36,36 @@ pub fn read_decimal(s: &[u8], limit: u32) -> Number
         return Number::Bad;
     }
     value_in(s, 10, limit as u64)
+}
+
+// A decimal of one to ten digits, with or without a minus before them, from -2,147,483,648 to
+// 2,147,483,647, as a two's complement word.
+pub fn read_signed(s: &[u8]) -> Number
+    ensures { λ r. ⌜ r ≡ readSigned (now (s .entry)) ⌝ }
+{
+    if s.len() < 1 {
+        return Number::Bad;
+    }
+    if s[0] == 45 {
+        negated(read_decimal(&s[1..], 2147483648))
+    } else {
+        read_decimal(s, 2147483647)
+    }
+}
+
+fn negated(n: Number) -> Number
+    ensures { λ r. ⌜ r ≡ Read·negated n ⌝ }
+{
+    match n {
+        Number::Value(v) => {
+            if v == 0 {
+                Number::Value(0)
+            } else {
+                Number::Value(4294967295 - v + 1)
+            }
+        }
+        Number::Bad => Number::Bad,
+    }
 }
 
 fn value_in(s: &[u8], base: u64, limit: u64) -> Number

@@ -1,16 +1,29 @@
 // The input, line by line.
 ghost use Prim.Native.Nat.{_≤_, _+_};
 ghost use lib.ListN.{length};
-use crate::counts::BAD;
-use crate::counts::CALLS;
-use crate::counts::DIFFER;
-use crate::counts::HELD;
-use crate::counts::REFUSED;
-use crate::counts::USED;
 use crate::lines::answer;
-use crate::output::first_bytes;
-use crate::output::write_first;
 use device::Model;
+use ledger::counts::BAD;
+use ledger::counts::CALLS;
+use ledger::counts::CHECK;
+use ledger::counts::DIFFER;
+use ledger::counts::EXPECTED;
+use ledger::counts::HELD;
+use ledger::counts::PATH;
+use ledger::counts::REFUSED;
+use ledger::counts::UNANNOUNCED;
+use ledger::counts::USED;
+use ledger::output::first_bytes;
+use ledger::output::write_answers;
+
+// How a replay ended: whether all of the file was read, and what its last line counts.
+pub struct Outcome {
+    pub whole: bool,
+    pub unannounced: usize,
+    pub bad: usize,
+    pub expected: usize,
+    pub differ: usize,
+}
 
 // How reading ended, or that it did not.
 const MORE: u8 = 0;
@@ -19,24 +32,29 @@ const ENDED: u8 = 1;
 
 const UNREADABLE: u8 = 2;
 
-// Replays what a file has, to its end.
+// Replays what a file has, to its end. With `check`, only what needs a look is written, by the file's
+// name and the line.
 //
 // Nothing says that the input ends, so the loop counts its turns down, from a number that no run
 // uses up.
-pub fn replay(fd: i32) {
+pub fn replay(fd: i32, path: &[u8], check: bool) -> Outcome {
     let mut held = [0u8; 1002];
-    let mut numbers = [0u32; 200];
-    let mut counts = [0usize; 7];
+    let mut numbers = [0u32; 512];
+    let mut counts = [0usize; 21];
     let mut mem = [255u8; 8192];
-    let mut answers = io::large_buffer();
+    let mut kept = [0i32; 4096];
+    let mut probes = [0u32; 1024];
+    let mut names = [0u8; 5120];
+    let mut answers = [0u8; 163840];
     let mut part = io::large_buffer();
     let mut m = converter::fresh();
     let mut turns = u64::MAX;
     let mut state = MORE;
+    begin(path, check, &mut counts, &mut names);
     while turns > 0 && state == MORE {
         turns -= 1;
         let got = libc::read(fd, &mut part);
-        state = state_of(got);
+        state = state_of(got, path);
         if state == MORE {
             let n = io::count(got, &part);
             m = feed(
@@ -46,19 +64,51 @@ pub fn replay(fd: i32) {
                 &mut numbers,
                 &mut counts,
                 &mut mem,
+                &mut kept,
+                &mut probes,
+                &mut names,
                 &mut answers,
             );
-            written(&mut counts, &answers);
+            write_answers(&answers, &mut counts);
         }
     }
     if state != UNREADABLE {
-        finish(m, &held, &mut numbers, &mut counts, &mut mem, &mut answers);
+        last_line(
+            m,
+            &held,
+            &mut numbers,
+            &mut counts,
+            &mut mem,
+            &mut kept,
+            &mut probes,
+            &mut names,
+            &mut answers,
+        );
+        finish(&mut counts, &mut answers);
+    }
+    told(state, &counts)
+}
+
+fn begin(path: &[u8], check: bool, counts: &mut [usize; 21], names: &mut [u8]) {
+    counts[PATH] = numeral::put_text(names, 0, path);
+    if check {
+        counts[CHECK] = 1;
     }
 }
 
-fn state_of(got: isize) -> u8 {
+fn told(state: u8, counts: &[usize; 21]) -> Outcome {
+    Outcome {
+        whole: state != UNREADABLE,
+        unannounced: counts[UNANNOUNCED],
+        bad: counts[BAD],
+        expected: counts[EXPECTED],
+        differ: counts[DIFFER],
+    }
+}
+
+fn state_of(got: isize, path: &[u8]) -> u8 {
     if got < 0 {
-        os::fail(b"read");
+        os::fail(path);
         return UNREADABLE;
     }
     if got == 0 { ENDED } else { MORE }
@@ -69,8 +119,11 @@ fn feed(
     part: &[u8],
     held: &mut [u8],
     numbers: &mut [u32],
-    counts: &mut [usize; 7],
+    counts: &mut [usize; 21],
     mem: &mut [u8],
+    kept: &mut [i32],
+    probes: &mut [u32],
+    names: &mut [u8],
     answers: &mut [u8],
 ) -> Model {
     let mut model = m;
@@ -78,7 +131,18 @@ fn feed(
     while i < part.len() {
         let end = line_end(part, i);
         if end < part.len() {
-            model = whole_line(model, &part[i..end], held, numbers, counts, mem, answers);
+            model = whole_line(
+                model,
+                &part[i..end],
+                held,
+                numbers,
+                counts,
+                mem,
+                kept,
+                probes,
+                names,
+                answers,
+            );
             i = end + 1;
         } else {
             hold(&part[i..], held, counts);
@@ -155,32 +219,52 @@ fn whole_line(
     rest: &[u8],
     held: &mut [u8],
     numbers: &mut [u32],
-    counts: &mut [usize; 7],
+    counts: &mut [usize; 21],
     mem: &mut [u8],
+    kept: &mut [i32],
+    probes: &mut [u32],
+    names: &mut [u8],
     answers: &mut [u8],
 ) -> Model {
     if counts[HELD] == 0 {
-        return answer(m, rest, numbers, counts, mem, answers);
+        return answer(m, rest, numbers, counts, mem, kept, probes, names, answers);
     }
     hold(rest, held, counts);
-    held_line(m, held, numbers, counts, mem, answers)
+    last_line(m, held, numbers, counts, mem, kept, probes, names, answers)
 }
 
-fn held_line(
+// Answers the line that is held, if one is.
+fn last_line(
     m: Model,
     held: &[u8],
     numbers: &mut [u32],
-    counts: &mut [usize; 7],
+    counts: &mut [usize; 21],
     mem: &mut [u8],
+    kept: &mut [i32],
+    probes: &mut [u32],
+    names: &mut [u8],
     answers: &mut [u8],
 ) -> Model {
     let n = counts[HELD];
+    if n == 0 {
+        return m;
+    }
     counts[HELD] = 0;
-    answer(m, first_bytes(held, n), numbers, counts, mem, answers)
+    answer(
+        m,
+        first_bytes(held, n),
+        numbers,
+        counts,
+        mem,
+        kept,
+        probes,
+        names,
+        answers,
+    )
 }
 
 // Holds more of a line.
-fn hold(bytes: &[u8], held: &mut [u8], counts: &mut [usize; 7]) {
+fn hold(bytes: &[u8], held: &mut [u8], counts: &mut [usize; 21]) {
     let mut n = counts[HELD];
     let mut i = 0;
     while i < bytes.len() {
@@ -190,51 +274,29 @@ fn hold(bytes: &[u8], held: &mut [u8], counts: &mut [usize; 7]) {
     counts[HELD] = n;
 }
 
-// Writes the answers.
-fn written(counts: &mut [usize; 7], answers: &[u8]) {
-    write_first(answers, counts[USED]);
-    counts[USED] = 0;
-}
-
-// The last line, which may lack its line feed, and the counts.
-fn finish(
-    m: Model,
-    held: &[u8],
-    numbers: &mut [u32],
-    counts: &mut [usize; 7],
-    mem: &mut [u8],
-    answers: &mut [u8],
-) {
-    last_line(m, held, numbers, counts, mem, answers);
-    let used = add_end(counts, answers);
-    write_first(answers, used);
-}
-
-fn last_line(
-    m: Model,
-    held: &[u8],
-    numbers: &mut [u32],
-    counts: &mut [usize; 7],
-    mem: &mut [u8],
-    answers: &mut [u8],
-) {
-    if counts[HELD] != 0 {
-        held_line(m, held, numbers, counts, mem, answers);
+// Adds the last line, which a check leaves out, and writes the answers.
+fn finish(counts: &mut [usize; 21], answers: &mut [u8]) {
+    if counts[CHECK] != 0 {
+        write_answers(answers, counts);
+        return;
     }
+    add_end(counts, answers);
+    write_answers(answers, counts);
 }
 
-fn add_end(counts: &[usize; 7], answers: &mut [u8]) -> usize {
-    let a = numeral::put_text(answers, counts[USED], b"end ");
-    let b = numeral::put_decimal(answers, a, counts[CALLS] as u64);
-    let c = numeral::put_text(answers, b, b" calls, ");
-    let d = numeral::put_decimal(answers, c, counts[REFUSED] as u64);
-    let e = numeral::put_text(answers, d, b" refused, ");
-    add_faults(counts, answers, e)
-}
-
-fn add_faults(counts: &[usize; 7], answers: &mut [u8], at: usize) -> usize {
-    let a = numeral::put_decimal(answers, at, counts[BAD] as u64);
-    let b = numeral::put_text(answers, a, b" bad lines, ");
-    let c = numeral::put_decimal(answers, b, counts[DIFFER] as u64);
-    numeral::put_text(answers, c, b" expectations differ\n")
+fn add_end(counts: &mut [usize; 21], answers: &mut [u8]) {
+    let a = wording::end::put_calls(
+        answers,
+        counts[USED],
+        counts[CALLS] as u64,
+        counts[REFUSED] as u64,
+        counts[UNANNOUNCED] as u64,
+    );
+    counts[USED] = wording::end::put_faults(
+        answers,
+        a,
+        counts[BAD] as u64,
+        counts[EXPECTED] as u64,
+        counts[DIFFER] as u64,
+    );
 }

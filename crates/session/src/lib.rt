@@ -2,16 +2,13 @@
 //
 // The model goes into each function and comes back by value. The rest that is kept from line to line
 // stands in buffers that the caller lends: the counts, the numbers of a line, the bytes of the line
-// that is not whole yet, and the answers that are not written yet. Answers are written when what was
-// read is answered, or when the buffer may not hold another one.
-mod counts;
-mod delivery;
-mod expectation;
+// that is not whole yet, the user flash, the record, the probe table, the names of the file and the
+// item, and the answers that are not written yet. Answers are written when what was read is answered,
+// or when the buffer may not hold another one.
+mod close;
 mod feed;
+mod group;
 mod lines;
-mod output;
-mod registers;
-mod ticks;
-mod transaction;
 
+pub use feed::Outcome;
 pub use feed::replay;

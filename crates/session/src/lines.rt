@@ -1,126 +1,151 @@
 // One line, answered.
-use crate::counts::BAD;
-use crate::counts::LINES;
-use crate::counts::USED;
-use crate::counts::more;
-use crate::output::first_words;
-use crate::output::make_room;
-use crate::output::words_from;
-use crate::registers;
+use crate::close::close;
+use crate::close::open;
+use crate::group::DRIVE;
+use crate::group::FAULT;
+use crate::group::ITEM;
+use crate::group::KEEP;
+use crate::group::TELL;
+use crate::group::group_of;
 use device::Model;
+use ledger::counts::MOMENT;
+use ledger::counts::NAME;
+use ledger::counts::PROBES;
+use ledger::counts::RECORD;
+use ledger::counts::USED;
 use line::Call;
+
+// The item's name stands behind the longest path.
+pub const NAME_PLACE: usize = 4096;
 
 pub fn answer(
     m: Model,
     text: &[u8],
     numbers: &mut [u32],
-    counts: &mut [usize; 7],
+    counts: &mut [usize; 21],
     mem: &mut [u8],
+    kept: &mut [i32],
+    probes: &mut [u32],
+    names: &mut [u8],
     answers: &mut [u8],
 ) -> Model {
-    let call = line::read_line(text, numbers);
-    counts[LINES] = more(counts[LINES], 1);
-    counts[USED] = make_room(answers, counts[USED]);
-    match call {
-        Call::Nothing => m,
-        Call::Item => item(text, counts, mem, answers),
-        Call::Bus { bytes } => bus(m, first_words(numbers, bytes), counts, mem, answers),
-        Call::BusOut { out, bytes } => crate::transaction::bus(
-            m,
-            first_words(numbers, bytes),
-            out as usize,
-            counts,
-            mem,
-            answers,
-        ),
-        Call::Tick(n) => crate::ticks::tick(m, n, counts, answers),
-        _ => deliver(m, call, numbers, counts, answers),
-    }
-}
-
-// The calls that deliver words, or else.
-fn deliver(
-    m: Model,
-    call: Call,
-    numbers: &[u32],
-    counts: &mut [usize; 7],
-    answers: &mut [u8],
-) -> Model {
-    match call {
-        Call::Flight { up, down } => flight(
-            m,
-            first_words(numbers, up),
-            words_from(numbers, up),
-            down,
-            counts,
-            answers,
-        ),
-        Call::Temperature(n) => {
-            crate::delivery::temperature(m, first_words(numbers, n), counts, answers)
-        }
-        Call::Expect { address, words } => {
-            crate::expectation::expect(m, address, first_words(numbers, words), counts, answers);
-            m
-        }
-        _ => {
-            tell(m, call, counts, answers);
-            m
-        }
-    }
-}
-
-// The questions, or else a line that is no call.
-fn tell(m: Model, call: Call, counts: &mut [usize; 7], answers: &mut [u8]) {
-    let used = counts[USED];
-    match call {
-        Call::Int => counts[USED] = registers::add_interrupt(answers, used, m),
-        Call::Awaited => counts[USED] = registers::add_awaited(answers, used, m),
-        Call::Regs => counts[USED] = registers::add_registers(answers, used, m),
-        Call::Show => counts[USED] = show::put_page(answers, used, m),
-        _ => bad(call, counts, answers),
-    }
-}
-
-fn bus(
-    m: Model,
-    words: &[u32],
-    counts: &mut [usize; 7],
-    mem: &mut [u8],
-    answers: &mut [u8],
-) -> Model {
-    crate::transaction::bus(
+    let said = line::read_line(text, numbers);
+    let call = said.call;
+    respond(
         m,
-        words,
-        crate::transaction::buffer_size(words),
+        call,
+        said.expected,
+        text,
+        numbers,
         counts,
         mem,
+        kept,
+        probes,
+        names,
         answers,
     )
 }
 
-fn flight(
+fn respond(
     m: Model,
-    up: &[u32],
-    rest: &[u32],
-    down: usize,
-    counts: &mut [usize; 7],
+    call: Call,
+    expected: usize,
+    text: &[u8],
+    numbers: &[u32],
+    counts: &mut [usize; 21],
+    mem: &mut [u8],
+    kept: &mut [i32],
+    probes: &mut [u32],
+    names: &mut [u8],
     answers: &mut [u8],
 ) -> Model {
-    crate::delivery::flight(m, up, first_words(rest, down), counts, answers)
+    open(counts, names, answers);
+    let model = reply(
+        m,
+        call,
+        text,
+        numbers,
+        counts,
+        mem,
+        kept,
+        probes,
+        names,
+        answers,
+    );
+    close(text, expected, counts, names, answers);
+    model
 }
 
-// A line that is no call.
-fn bad(call: Call, counts: &mut [usize; 7], answers: &mut [u8]) {
-    counts[BAD] = more(counts[BAD], 1);
-    counts[USED] = wording::fault::put_fault(answers, counts[USED], counts[LINES] as u64, call);
+fn reply(
+    m: Model,
+    call: Call,
+    text: &[u8],
+    numbers: &[u32],
+    counts: &mut [usize; 21],
+    mem: &mut [u8],
+    kept: &mut [i32],
+    probes: &mut [u32],
+    names: &mut [u8],
+    answers: &mut [u8],
+) -> Model {
+    let group = group_of(call, counts);
+    if group == DRIVE {
+        return drive::drive(m, call, numbers, counts, mem, answers);
+    }
+    if group == ITEM {
+        return item(text, counts, mem, names, answers);
+    }
+    if group == KEEP {
+        keep::keep(m, call, numbers, counts, kept, probes, answers);
+        return m;
+    }
+    tell_or_fault(m, call, group, numbers, counts, answers);
+    m
 }
 
-// An item starts on a fresh model and an erased user flash.
-fn item(text: &[u8], counts: &mut [usize; 7], mem: &mut [u8], answers: &mut [u8]) -> Model {
+fn tell_or_fault(
+    m: Model,
+    call: Call,
+    group: u8,
+    numbers: &[u32],
+    counts: &mut [usize; 21],
+    answers: &mut [u8],
+) {
+    if group == TELL {
+        tell::tell(m, call, numbers, counts, answers);
+        return;
+    }
+    if group == FAULT {
+        tell::bad(call, counts, answers);
+        return;
+    }
+}
+
+// An item starts on a fresh model, an erased user flash, an empty record and an empty probe table.
+fn item(
+    text: &[u8],
+    counts: &mut [usize; 21],
+    mem: &mut [u8],
+    names: &mut [u8],
+    answers: &mut [u8],
+) -> Model {
     erase_all(mem);
+    name(text, counts, names);
+    put_item(text, counts, answers);
+    converter::fresh()
+}
+
+// Keeps the item's name.
+fn name(text: &[u8], counts: &mut [usize; 21], names: &mut [u8]) {
+    counts[NAME] = line::put_words(names, NAME_PLACE, text);
+}
+
+fn put_item(text: &[u8], counts: &mut [usize; 21], answers: &mut [u8]) {
+    counts[MOMENT] = 0;
+    counts[RECORD] = 0;
+    counts[PROBES] = 0;
     let end = line::put_words(answers, counts[USED], text);
     counts[USED] = numeral::put_text(answers, end, b"\n");
-    converter::fresh()
 }
 
 fn erase_all(mem: &mut [u8]) {

@@ -10,6 +10,13 @@ pub fn put_bus(out: &mut [u8], at: usize, answer: Answer, buffer: &[u8]) -> usiz
     numeral::put_text(out, c, b"\n")
 }
 
+// `set` and the answer.
+pub fn put_set(out: &mut [u8], at: usize, answer: Answer) -> usize {
+    let a = numeral::put_text(out, at, b"set");
+    let b = put_answer(out, a, answer);
+    numeral::put_text(out, b, b"\n")
+}
+
 fn put_answer(out: &mut [u8], at: usize, answer: Answer) -> usize {
     match answer {
         Answer::Refused(number) => put_refusal(out, at, number),

@@ -2,7 +2,9 @@
 // public function has a `requires`.
 pub mod bus;
 pub mod delivery;
+pub mod end;
 pub mod expectation;
 pub mod fault;
+pub mod kept;
 pub mod refusal;
 pub mod ticks;

@@ -38,8 +38,22 @@ fn put_late_refusal(out: &mut [u8], at: usize, number: u32) -> usize {
 fn put_later_refusal(out: &mut [u8], at: usize, number: u32) -> usize {
     match number {
         12 => numeral::put_text(out, at, b"span"),
+        13 => numeral::put_text(out, at, b"off the table"),
+        14 => numeral::put_text(out, at, b"bad table"),
         15 => numeral::put_text(out, at, b"supply off"),
         16 => numeral::put_text(out, at, b"flash address"),
-        _ => numeral::put_text(out, at, b"not erased"),
+        17 => numeral::put_text(out, at, b"not erased"),
+        _ => put_last_refusal(out, at, number),
+    }
+}
+
+// 02 has no words for 20 and 21: the format names the first.
+fn put_last_refusal(out: &mut [u8], at: usize, number: u32) -> usize {
+    match number {
+        18 => numeral::put_text(out, at, b"width"),
+        19 => numeral::put_text(out, at, b"short buffer"),
+        20 => numeral::put_text(out, at, b"capture number"),
+        21 => numeral::put_text(out, at, b"short output"),
+        _ => numeral::put_text(out, at, b"unknown"),
     }
 }

@@ -53,6 +53,19 @@ fn put_where(out: &mut [u8], at: usize, holds: bool, what: &[u8]) -> usize {
     at
 }
 
+// What one stretch of n ticks reports, or its refusal.
+pub fn put_stretched(out: &mut [u8], at: usize, answer: Answer, n: u32) -> usize {
+    match answer {
+        Answer::Refused(number) => crate::refusal::put_refusal(out, at, number),
+        Answer::Stretched(flight, temperature) => {
+            let a = numeral::put_text(out, at, b" ");
+            let b = numeral::put_decimal(out, a, n as u64);
+            put_named(out, b, flight, temperature, 0)
+        }
+        _ => at,
+    }
+}
+
 // Whether a stretch names no tick.
 pub fn none_named(flight: StretchReport, temperature: StretchReport) -> bool {
     next_named(flight, temperature, 0) == NONE

@@ -1,9 +1,39 @@
 -- `line::calls::keyword_call` meets its contract.
 -- Assumes nothing.
 use borrow.Author.Needs.{needs}
-use Rattle.line.specs.Line.{keywordAnswer}
+use Prim.Native.Nat.{ℕ}
+use mathlib.Core.List.{List, [], _∷_}
+use mathlib.Core.Path.{_≡_, refl, sym, _∙_}
+use types.Run.{OneOf, miss}
+use denote.Enum.Declared.{tagOf}
+use Rattle.line.specs.declared.Keyword.{Keyword}
+use Rattle.line.proofs.Keyword.{the-type}
+use Rattle.line.specs.Line.{answer, laterAnswer, keywordAnswer}
 use Rattle.line.proofs.calls.keyword_call.Statement.{statement}
 use Rattle.line.proofs.calls.keyword_call.Tie as tie
+
+others : (k : Keyword) (l : List ℕ) (ws : List (List ℕ)) → OneOf (10 ∷ 11 ∷ 12 ∷ 13 ∷ 14 ∷ 15 ∷ 16 ∷ 17 ∷ 18 ∷ 19 ∷ []) (tagOf the-type k) → laterAnswer k l ws ≡ keywordAnswer k l ws
+unfolding keywordAnswer
+others Keyword.Item l ws h = absurd (miss (10 ∷ 11 ∷ 12 ∷ 13 ∷ 14 ∷ 15 ∷ 16 ∷ 17 ∷ 18 ∷ 19 ∷ []) 0 tt h)
+others Keyword.Bus l ws h = absurd (miss (10 ∷ 11 ∷ 12 ∷ 13 ∷ 14 ∷ 15 ∷ 16 ∷ 17 ∷ 18 ∷ 19 ∷ []) 1 tt h)
+others Keyword.Tick l ws h = absurd (miss (10 ∷ 11 ∷ 12 ∷ 13 ∷ 14 ∷ 15 ∷ 16 ∷ 17 ∷ 18 ∷ 19 ∷ []) 2 tt h)
+others Keyword.Flight l ws h = absurd (miss (10 ∷ 11 ∷ 12 ∷ 13 ∷ 14 ∷ 15 ∷ 16 ∷ 17 ∷ 18 ∷ 19 ∷ []) 3 tt h)
+others Keyword.Temperature l ws h = absurd (miss (10 ∷ 11 ∷ 12 ∷ 13 ∷ 14 ∷ 15 ∷ 16 ∷ 17 ∷ 18 ∷ 19 ∷ []) 4 tt h)
+others Keyword.Int l ws h = absurd (miss (10 ∷ 11 ∷ 12 ∷ 13 ∷ 14 ∷ 15 ∷ 16 ∷ 17 ∷ 18 ∷ 19 ∷ []) 5 tt h)
+others Keyword.Awaited l ws h = absurd (miss (10 ∷ 11 ∷ 12 ∷ 13 ∷ 14 ∷ 15 ∷ 16 ∷ 17 ∷ 18 ∷ 19 ∷ []) 6 tt h)
+others Keyword.Regs l ws h = absurd (miss (10 ∷ 11 ∷ 12 ∷ 13 ∷ 14 ∷ 15 ∷ 16 ∷ 17 ∷ 18 ∷ 19 ∷ []) 7 tt h)
+others Keyword.Expect l ws h = absurd (miss (10 ∷ 11 ∷ 12 ∷ 13 ∷ 14 ∷ 15 ∷ 16 ∷ 17 ∷ 18 ∷ 19 ∷ []) 8 tt h)
+others Keyword.Show l ws h = absurd (miss (10 ∷ 11 ∷ 12 ∷ 13 ∷ 14 ∷ 15 ∷ 16 ∷ 17 ∷ 18 ∷ 19 ∷ []) 9 tt h)
+others Keyword.Set l ws h = refl
+others Keyword.At l ws h = refl
+others Keyword.Stretch l ws h = refl
+others Keyword.Frames l ws h = refl
+others Keyword.Probe l ws h = refl
+others Keyword.Degrees l ws h = refl
+others Keyword.Record l ws h = refl
+others Keyword.Listing l ws h = refl
+others Keyword.Quietest l ws h = refl
+others Keyword.Unknown l ws h = refl
 
 enum-told : tie.Need-enum-told
 enum-told c = search needs
@@ -20,8 +50,8 @@ bus-call-requires c κs = search needs
 enum-told-3 : tie.Need-enum-told-3
 enum-told-3 c = search needs
 
-tick-call-requires : tie.Need-tick-call-requires
-tick-call-requires c κs = search needs
+decimal-call-requires : tie.Need-decimal-call-requires
+decimal-call-requires c κs = search needs
 
 enum-told-4 : tie.Need-enum-told-4
 enum-told-4 c = search needs
@@ -65,8 +95,8 @@ enum-told-10 c = search needs
 alone-requires-4 : tie.Need-alone-requires-4
 alone-requires-4 c κs = search needs
 
-enum-told-11 : tie.Need-enum-told-11
-enum-told-11 c = search needs
+later-call-requires : tie.Need-later-call-requires
+later-call-requires c κs = search needs
 
 returns : tie.Need-returns
 unfolding keywordAnswer
@@ -81,7 +111,7 @@ returns-2 c = rw (c .before .before .before .before .enum-told2 .given .1) (c .b
 
 returns-3 : tie.Need-returns-3
 unfolding keywordAnswer
-returns-3 c = rw (c .before .enum-told3 .given .1, ← c .tick-call .ensures)
+returns-3 c = rw (c .before .enum-told3 .given .1, ← c .decimal-call .ensures)
 
 same-length-2 : tie.Need-same-length-2
 same-length-2 c = search needs
@@ -120,9 +150,12 @@ returns-10 : tie.Need-returns-10
 unfolding keywordAnswer
 returns-10 c = rw (c .before .enum-told10 .given .1, ← c .alone4 .ensures)
 
+same-length-5 : tie.Need-same-length-5
+same-length-5 c = search needs
+
 returns-11 : tie.Need-returns-11
 unfolding keywordAnswer
-returns-11 c = rw (c .enum-told11 .given .1)
+returns-11 c = c .before .before .later-call .ensures ∙ others (c .before .before .before .before .before .before .before .args .k) _ _ (c .before .before .before .before .match .keys11)
 
 pub keyword-call-spec : {M : Type 1} → statement M
 keyword-call-spec =
@@ -133,7 +166,7 @@ keyword-call-spec =
     enum-told-2
     bus-call-requires
     enum-told-3
-    tick-call-requires
+    decimal-call-requires
     enum-told-4
     flight-call-requires
     enum-told-5
@@ -148,7 +181,7 @@ keyword-call-spec =
     expect-call-requires
     enum-told-10
     alone-requires-4
-    enum-told-11
+    later-call-requires
     returns
     same-length
     returns-2
@@ -163,4 +196,5 @@ keyword-call-spec =
     same-length-4
     returns-9
     returns-10
+    same-length-5
     returns-11)

@@ -1,11 +1,12 @@
 -- `line::calls::read_line` meets its contract.
 -- Assumes nothing.
+use borrow.Author.Needs.{needs}
 use mathlib.Core.Path.{sym}
 use lib.Seq.{length-take-le}
 use borrow.Author.Tests.{lt-ltb, le-ltb}
-use borrow.Author.Needs.{needs}
 use Rattle.line.specs.BoundLaws.{with-bounds}
-use Rattle.line.specs.Line.{lineAnswer}
+use Rattle.line.specs.Line.{lineAnswer, lineExpected}
+use Rattle.line.specs.MarkLaws.{expects-none}
 use Rattle.line.proofs.calls.read_line.Statement.{statement}
 use Rattle.line.proofs.calls.read_line.Tie as tie
 
@@ -19,18 +20,23 @@ words-call-requires : tie.Need-words-call-requires
 words-call-requires c κs = search needs
 
 returns : tie.Need-returns
-unfolding lineAnswer
-returns c = (rw (← c .before .content-length .ensures .0, lt-ltb _ _ (c .if1 .taken)), tt)
+unfolding lineAnswer lineExpected
+returns c =
+    let long = lt-ltb _ _ (c .if1 .taken) in
+    let n = c .before .content-length .ensures .0 in
+    (rw (← n, long), (rw (← n, long) (expects-none _), tt))
 
 same-length : tie.Need-same-length
 same-length c = search needs
 
 returns-2 : tie.Need-returns-2
-unfolding lineAnswer
+unfolding lineAnswer lineExpected
 returns-2 c =
     let a = c .before .before .before .before .before .before .before .before .before .args in
-    with-bounds (a .numbers .now) (a .line .now)
-    (rw (← c .before .before .before .before .before .before .content-length .ensures .0, le-ltb _ _ (c .before .before .before .before .before .if1 .left)) (c .before .before .words-call .ensures))
+    let short = le-ltb _ _ (c .before .before .before .before .before .if1 .left) in
+    let n = c .before .before .before .before .before .before .content-length .ensures .0 in
+    let w = c .before .before .words-call .ensures in
+    with-bounds (a .numbers .now) (a .line .now) (rw (← n, short) (w .0)) (rw (← n, short) (w .1))
 
 pub read-line-spec : {M : Type 1} → statement M
 read-line-spec =

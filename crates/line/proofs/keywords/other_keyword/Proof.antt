@@ -1,6 +1,5 @@
 -- `line::keywords::other_keyword` meets its contract.
 -- Assumes nothing.
-use mathlib.Core.Path.{refl}
 use borrow.Author.Needs.{needs}
 use Rattle.line.specs.LineLaws.{here, below}
 use Rattle.line.proofs.keywords.other_keyword.Statement.{statement}
@@ -66,14 +65,17 @@ returns-5 c =
     (below _ (c .before .before .before .before .same4 .ensures) (c .before .before .before .if4 .left)
     (here _ (c .before .same5 .ensures) (c .if5 .taken)))))
 
+later-keyword-requires : tie.Need-later-keyword-requires
+later-keyword-requires c κs = search needs
+
 returns-6 : tie.Need-returns-6
 returns-6 c =
-    below _ (c .before .before .before .before .before .before .before .before .before .before .before .before .before .same .ensures) (c .before .before .before .before .before .before .before .before .before .before .before .before .if1 .left)
-    (below _ (c .before .before .before .before .before .before .before .before .before .before .same2 .ensures) (c .before .before .before .before .before .before .before .before .before .if2 .left)
-    (below _ (c .before .before .before .before .before .before .before .same3 .ensures) (c .before .before .before .before .before .before .if3 .left)
-    (below _ (c .before .before .before .before .same4 .ensures) (c .before .before .before .if4 .left)
-    (below _ (c .before .same5 .ensures) (c .if5 .left)
-    refl))))
+    below _ (c .before .before .before .before .before .before .before .before .before .before .before .before .before .before .same .ensures) (c .before .before .before .before .before .before .before .before .before .before .before .before .before .if1 .left)
+    (below _ (c .before .before .before .before .before .before .before .before .before .before .before .same2 .ensures) (c .before .before .before .before .before .before .before .before .before .before .if2 .left)
+    (below _ (c .before .before .before .before .before .before .before .before .same3 .ensures) (c .before .before .before .before .before .before .before .if3 .left)
+    (below _ (c .before .before .before .before .before .same4 .ensures) (c .before .before .before .before .if4 .left)
+    (below _ (c .before .before .same5 .ensures) (c .before .if5 .left)
+    (c .later-keyword .ensures)))))
 
 pub other-keyword-spec : {M : Type 1} → statement M
 other-keyword-spec =
@@ -94,4 +96,5 @@ other-keyword-spec =
     slice-aggregate-same-5
     same-requires-5
     returns-5
+    later-keyword-requires
     returns-6)

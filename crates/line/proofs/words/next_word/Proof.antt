@@ -23,6 +23,7 @@ returns c =
       high = e .high;
       some = λ _. sym (k .alike) ∙ e .first;
       none = λ h. absurd (omega arith);
+      stops = λ _. e .stops;
     }
 
 returns-2 : tie.Need-returns-2
@@ -34,6 +35,7 @@ returns-2 c =
       high = k .high;
       some = λ h. absurd (omega arith);
       none = λ _. sym (k .alike) ∙ words-end _ _ (c .if1 .left);
+      stops = λ h. absurd (omega arith);
     }
 
 pub next-word-spec : {M : Type 1} → statement M

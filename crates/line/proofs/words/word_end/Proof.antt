@@ -34,6 +34,7 @@ returns c =
       low = k .inv .0;
       high = k .inv .1;
       first = k .inv .2 ∙ word-stops _ _ (c .before .before .before .loop-test .taken) _ (k .inv .0) (sym (c .before .is-blank .ensures) ∙ c .if1 .taken);
+      stops = λ _. sym (c .before .is-blank .ensures) ∙ c .if1 .taken;
     }
 
 add-i-2 : tie.Need-add-i-2 Inv-loop μ-loop
@@ -53,7 +54,7 @@ loop-again c =
 returns-2 : tie.Need-returns-2 Inv-loop μ-loop
 returns-2 c =
     let k = c .before .loop in
-    record { low = k .inv .0; high = k .inv .1; first = k .inv .2 ∙ word-ends _ _ _ (k .inv .0) (k .inv .1) (c .loop-test .left) }
+    record { low = k .inv .0; high = k .inv .1; first = k .inv .2 ∙ word-ends _ _ _ (k .inv .0) (k .inv .1) (c .loop-test .left); stops = λ h. absurd (omega arith) }
 
 pub word-end-spec : {M : Type 1} → statement M
 word-end-spec =

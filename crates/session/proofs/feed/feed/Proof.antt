@@ -1,22 +1,26 @@
--- `session::feed::feed` is safe.
-use native.Mathlib.Omega.{arith}
-use Prim.Native.Nat.{_≤_, _-_}
-use lib.ListN.{length}
-use mathlib.Core.Path.{_≡_, _∙_}
+-- `session::feed::feed` is safe and ends.
+-- Assumes nothing.
 use borrow.Author.Needs.{needs}
+use Prim.Native.Nat.{_-_, _≤_}
+use mathlib.Core.Path.{_≡_, _∙_}
+use native.Mathlib.Omega.{arith}
+use lib.ListN.{length}
 use Rattle.session.proofs.feed.feed.Statement.{statement}
 use Rattle.session.proofs.feed.feed.Tie as tie
 
 abbrev Inv-loop : tie.InvT-loop
-Inv-loop part held₀ numbers₀ counts₀ mem₀ answers₀ model₀ i₀ held numbers counts mem answers model i =
+Inv-loop part held₀ numbers₀ counts₀ mem₀ kept₀ probes₀ names₀ answers₀ model₀ i₀ held numbers counts mem kept probes names answers model i =
     (i ≤ length part) ×
     (length held ≡ length held₀) ×
     (length numbers ≡ length numbers₀) ×
     (length mem ≡ length mem₀) ×
+    (length kept ≡ length kept₀) ×
+    (length probes ≡ length probes₀) ×
+    (length names ≡ length names₀) ×
     (length answers ≡ length answers₀)
 
 abbrev μ-loop : tie.MeasureT-loop
-μ-loop part held₀ numbers₀ counts₀ mem₀ answers₀ model₀ i₀ held numbers counts mem answers model i = length part - i
+μ-loop part held₀ numbers₀ counts₀ mem₀ kept₀ probes₀ names₀ answers₀ model₀ i₀ held numbers counts mem kept probes names answers model i = length part - i
 
 loop-holds : tie.Need-loop-holds Inv-loop μ-loop
 loop-holds c = search needs
@@ -37,20 +41,23 @@ whole-line-requires : tie.Need-whole-line-requires Inv-loop μ-loop
 whole-line-requires c κs = search needs
 
 add-i : tie.Need-add-i Inv-loop μ-loop
-add-i c = omega (arith, c .before .before .before .before .before .before .before .before .before .before .before .before .before .before .before .if1 .taken, c .before .before .before .before .before .before .before .before .before .before .before .before .before .before .before .before .before .before .before .before .before .before .before .before .good .1)
+add-i c = omega (arith, c .before .before .before .before .before .before .before .before .before .before .before .before .before .before .before .before .before .before .before .before .before .before .before .if1 .taken, c .before .before .before .before .before .before .before .before .before .before .before .before .before .before .before .before .before .before .before .before .before .before .before .before .before .before .before .before .before .before .before .before .before .before .good .1)
 
 loop-less : tie.Need-loop-less Inv-loop μ-loop
-loop-less c = search needs
+loop-less c = omega (arith, c .before .before .before .before .before .before .before .before .before .before .before .before .before .before .before .before .before .before .before .before .before .before .before .if1 .taken, c .before .before .before .before .before .before .before .before .before .before .before .before .before .before .before .before .before .before .before .before .before .before .before .before .line-end .ensures .0, c .before .before .before .before .before .before .before .before .before .before .before .before .before .before .before .before .before .before .before .before .before .before .before .before .line-end .ensures .1)
 
 loop-again : tie.Need-loop-again Inv-loop μ-loop
 loop-again c =
-    let kept = c .before .before .before .before .before .before .before .before .whole-line .kept in
-    let inv = c .before .before .before .before .before .before .before .before .before .before .before .before .before .before .before .before .before .before .loop .inv in (
-      omega (arith, c .before .before .before .before .before .before .before .before .before .before .before .before .before .before .before .if1 .taken),
+    let kept = c .before .before .before .before .before .before .before .before .before .before .before .before .before .whole-line .kept in
+    let inv = c .before .before .before .before .before .before .before .before .before .before .before .before .before .before .before .before .before .before .before .before .before .before .before .before .before .before .loop .inv in (
+      omega (arith, c .before .before .before .before .before .before .before .before .before .before .before .before .before .before .before .before .before .before .before .before .before .before .before .if1 .taken, c .before .before .before .before .before .before .before .before .before .before .before .before .before .before .before .before .before .before .before .before .before .before .before .before .line-end .ensures .1),
       kept .1 .1 .0 ∙ inv .1,
       kept .1 .1 .1 .0 ∙ inv .2,
       kept .1 .1 .1 .1 .1 .0 ∙ inv .3,
       kept .1 .1 .1 .1 .1 .1 .0 ∙ inv .4,
+      kept .1 .1 .1 .1 .1 .1 .1 .0 ∙ inv .5,
+      kept .1 .1 .1 .1 .1 .1 .1 .1 .0 ∙ inv .6,
+      kept .1 .1 .1 .1 .1 .1 .1 .1 .1 .0 ∙ inv .7,
     )
 
 sub-hold : tie.Need-sub-hold Inv-loop μ-loop
@@ -77,9 +84,6 @@ same-length-3 c = search needs
 same-length-4 : tie.Need-same-length-4 Inv-loop μ-loop
 same-length-4 c = search needs
 
-returns : tie.Need-returns Inv-loop μ-loop
-returns c = search needs
-
 same-length-5 : tie.Need-same-length-5 Inv-loop μ-loop
 same-length-5 c = search needs
 
@@ -89,8 +93,29 @@ same-length-6 c = search needs
 same-length-7 : tie.Need-same-length-7 Inv-loop μ-loop
 same-length-7 c = search needs
 
+returns : tie.Need-returns Inv-loop μ-loop
+returns c = search needs
+
 same-length-8 : tie.Need-same-length-8 Inv-loop μ-loop
 same-length-8 c = search needs
+
+same-length-9 : tie.Need-same-length-9 Inv-loop μ-loop
+same-length-9 c = search needs
+
+same-length-10 : tie.Need-same-length-10 Inv-loop μ-loop
+same-length-10 c = search needs
+
+same-length-11 : tie.Need-same-length-11 Inv-loop μ-loop
+same-length-11 c = search needs
+
+same-length-12 : tie.Need-same-length-12 Inv-loop μ-loop
+same-length-12 c = search needs
+
+same-length-13 : tie.Need-same-length-13 Inv-loop μ-loop
+same-length-13 c = search needs
+
+same-length-14 : tie.Need-same-length-14 Inv-loop μ-loop
+same-length-14 c = search needs
 
 returns-2 : tie.Need-returns-2 Inv-loop μ-loop
 returns-2 c = search needs
@@ -118,9 +143,15 @@ feed-spec =
     same-length-2
     same-length-3
     same-length-4
-    returns
     same-length-5
     same-length-6
     same-length-7
+    returns
     same-length-8
+    same-length-9
+    same-length-10
+    same-length-11
+    same-length-12
+    same-length-13
+    same-length-14
     returns-2)

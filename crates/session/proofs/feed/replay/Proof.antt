@@ -1,30 +1,30 @@
--- `session::feed::replay` is safe.
+-- `session::feed::replay` is safe and ends.
+-- Assumes nothing.
+use borrow.Author.Needs.{needs}
+use Prim.Native.Nat.{_-_, _≤_}
+use mathlib.Core.Path.{_≡_, _∙_}
 use native.Mathlib.Omega.{arith}
 use lib.ListN.{length}
-use mathlib.Core.Path.{_≡_, _∙_}
-use borrow.Author.Needs.{needs}
 use Rattle.session.proofs.feed.replay.Statement.{statement}
 use Rattle.session.proofs.feed.replay.Tie as tie
 
 abbrev Inv-loop : tie.InvT-loop
-Inv-loop fd held₀ numbers₀ counts₀ mem₀ answers₀ part₀ m₀ turns₀ state₀ held numbers counts mem answers part m turns state =
-    (length held ≡ 1002) ×
-    (length numbers ≡ 200) ×
-    (length mem ≡ 8192) ×
-    (length answers ≡ 65536) ×
-    (length part ≡ 65536)
+Inv-loop fd path check held₀ numbers₀ counts₀ mem₀ kept₀ probes₀ names₀ answers₀ part₀ m₀ turns₀ state₀ held numbers counts mem kept probes names answers part m turns state = (length held ≡ 1002) × (length numbers ≡ 512) × (length mem ≡ 8192) × (length kept ≡ 4096) × (length probes ≡ 1024) × (length names ≡ 5120) × (length answers ≡ 163840) × (length part ≡ 65536)
 
 abbrev μ-loop : tie.MeasureT-loop
-μ-loop fd held₀ numbers₀ counts₀ mem₀ answers₀ part₀ m₀ turns₀ state₀ held numbers counts mem answers part m turns state = turns
+μ-loop fd path check held₀ numbers₀ counts₀ mem₀ kept₀ probes₀ names₀ answers₀ part₀ m₀ turns₀ state₀ held numbers counts mem kept probes names answers part m turns state = turns
 
 large-buffer-requires : tie.Need-large-buffer-requires Inv-loop μ-loop
 large-buffer-requires c κs = search needs
 
-large-buffer-requires-2 : tie.Need-large-buffer-requires-2 Inv-loop μ-loop
-large-buffer-requires-2 c κs = search needs
-
 fresh-requires : tie.Need-fresh-requires Inv-loop μ-loop
 fresh-requires c κs = search needs
+
+slice-aggregate-begin : tie.Need-slice-aggregate-begin Inv-loop μ-loop
+slice-aggregate-begin c = search needs
+
+begin-requires : tie.Need-begin-requires Inv-loop μ-loop
+begin-requires c κs = search needs
 
 loop-holds : tie.Need-loop-holds Inv-loop μ-loop
 loop-holds c = search needs
@@ -65,28 +65,40 @@ slice-aggregate-feed-4 c = search needs
 slice-aggregate-feed-5 : tie.Need-slice-aggregate-feed-5 Inv-loop μ-loop
 slice-aggregate-feed-5 c = search needs
 
+slice-aggregate-feed-6 : tie.Need-slice-aggregate-feed-6 Inv-loop μ-loop
+slice-aggregate-feed-6 c = search needs
+
+slice-aggregate-feed-7 : tie.Need-slice-aggregate-feed-7 Inv-loop μ-loop
+slice-aggregate-feed-7 c = search needs
+
+slice-aggregate-feed-8 : tie.Need-slice-aggregate-feed-8 Inv-loop μ-loop
+slice-aggregate-feed-8 c = search needs
+
 feed-requires : tie.Need-feed-requires Inv-loop μ-loop
 feed-requires c κs = search needs
 
-slice-aggregate-written : tie.Need-slice-aggregate-written Inv-loop μ-loop
-slice-aggregate-written c = search needs
+slice-aggregate-write-answers : tie.Need-slice-aggregate-write-answers Inv-loop μ-loop
+slice-aggregate-write-answers c = search needs
 
-written-requires : tie.Need-written-requires Inv-loop μ-loop
-written-requires c κs = search needs
+write-answers-requires : tie.Need-write-answers-requires Inv-loop μ-loop
+write-answers-requires c κs = search needs
 
 loop-less : tie.Need-loop-less Inv-loop μ-loop
-loop-less c = omega (arith, c .before .before .before .before .before .before .before .before .before .before .before .before .before .before .before .before .before .before .before .before .before .before .loop-test .taken)
+loop-less c = omega (arith, c .before .before .before .before .before .before .before .before .before .before .before .before .before .before .before .before .before .before .before .before .before .before .before .before .before .before .before .before .loop-test .taken)
 
 loop-again : tie.Need-loop-again Inv-loop μ-loop
 loop-again c =
-    let fed = c .before .before .before .before .before .before .before .feed .kept in
-    let read = c .before .before .before .before .before .before .before .before .before .before .before .before .before .before .before .before .before .before .before .read .kept in
-    let inv = c .before .before .before .before .before .before .before .before .before .before .before .before .before .before .before .before .before .before .before .before .before .before .before .loop .inv in (
+    let fed = c .before .before .before .before .before .before .before .before .before .before .feed .kept in
+    let read = c .before .before .before .before .before .before .before .before .before .before .before .before .before .before .before .before .before .before .before .before .before .before .before .before .before .read .kept in
+    let inv = c .before .before .before .before .before .before .before .before .before .before .before .before .before .before .before .before .before .before .before .before .before .before .before .before .before .before .before .before .before .loop .inv in (
       fed .1 .1 .0 ∙ inv .0,
       fed .1 .1 .1 .0 ∙ inv .1,
       fed .1 .1 .1 .1 .1 .0 ∙ inv .2,
       fed .1 .1 .1 .1 .1 .1 .0 ∙ inv .3,
-      read .1 .0 ∙ inv .4,
+      fed .1 .1 .1 .1 .1 .1 .1 .0 ∙ inv .4,
+      fed .1 .1 .1 .1 .1 .1 .1 .1 .0 ∙ inv .5,
+      fed .1 .1 .1 .1 .1 .1 .1 .1 .1 .0 ∙ inv .6,
+      read .1 .0 ∙ inv .7,
     )
 
 loop-less-2 : tie.Need-loop-less-2 Inv-loop μ-loop
@@ -95,26 +107,41 @@ loop-less-2 c = search needs
 loop-again-2 : tie.Need-loop-again-2 Inv-loop μ-loop
 loop-again-2 c = search needs
 
+slice-aggregate-last-line : tie.Need-slice-aggregate-last-line Inv-loop μ-loop
+slice-aggregate-last-line c = search needs
+
+slice-aggregate-last-line-2 : tie.Need-slice-aggregate-last-line-2 Inv-loop μ-loop
+slice-aggregate-last-line-2 c = search needs
+
+slice-aggregate-last-line-3 : tie.Need-slice-aggregate-last-line-3 Inv-loop μ-loop
+slice-aggregate-last-line-3 c = search needs
+
+slice-aggregate-last-line-4 : tie.Need-slice-aggregate-last-line-4 Inv-loop μ-loop
+slice-aggregate-last-line-4 c = search needs
+
+slice-aggregate-last-line-5 : tie.Need-slice-aggregate-last-line-5 Inv-loop μ-loop
+slice-aggregate-last-line-5 c = search needs
+
+slice-aggregate-last-line-6 : tie.Need-slice-aggregate-last-line-6 Inv-loop μ-loop
+slice-aggregate-last-line-6 c = search needs
+
+slice-aggregate-last-line-7 : tie.Need-slice-aggregate-last-line-7 Inv-loop μ-loop
+slice-aggregate-last-line-7 c = search needs
+
+last-line-requires : tie.Need-last-line-requires Inv-loop μ-loop
+last-line-requires c κs = search needs
+
 slice-aggregate-finish : tie.Need-slice-aggregate-finish Inv-loop μ-loop
 slice-aggregate-finish c = search needs
-
-slice-aggregate-finish-2 : tie.Need-slice-aggregate-finish-2 Inv-loop μ-loop
-slice-aggregate-finish-2 c = search needs
-
-slice-aggregate-finish-3 : tie.Need-slice-aggregate-finish-3 Inv-loop μ-loop
-slice-aggregate-finish-3 c = search needs
-
-slice-aggregate-finish-4 : tie.Need-slice-aggregate-finish-4 Inv-loop μ-loop
-slice-aggregate-finish-4 c = search needs
 
 finish-requires : tie.Need-finish-requires Inv-loop μ-loop
 finish-requires c κs = search needs
 
+told-requires : tie.Need-told-requires Inv-loop μ-loop
+told-requires c κs = search needs
+
 returns : tie.Need-returns Inv-loop μ-loop
 returns c = search needs
-
-returns-2 : tie.Need-returns-2 Inv-loop μ-loop
-returns-2 c = search needs
 
 pub replay-spec : {M : Type 1} → statement M
 replay-spec =
@@ -123,8 +150,9 @@ replay-spec =
     Inv-loop
     μ-loop
     large-buffer-requires
-    large-buffer-requires-2
     fresh-requires
+    slice-aggregate-begin
+    begin-requires
     loop-holds
     sub-turns
     slice-aggregate-read
@@ -138,17 +166,25 @@ replay-spec =
     slice-aggregate-feed-3
     slice-aggregate-feed-4
     slice-aggregate-feed-5
+    slice-aggregate-feed-6
+    slice-aggregate-feed-7
+    slice-aggregate-feed-8
     feed-requires
-    slice-aggregate-written
-    written-requires
+    slice-aggregate-write-answers
+    write-answers-requires
     loop-less
     loop-again
     loop-less-2
     loop-again-2
+    slice-aggregate-last-line
+    slice-aggregate-last-line-2
+    slice-aggregate-last-line-3
+    slice-aggregate-last-line-4
+    slice-aggregate-last-line-5
+    slice-aggregate-last-line-6
+    slice-aggregate-last-line-7
+    last-line-requires
     slice-aggregate-finish
-    slice-aggregate-finish-2
-    slice-aggregate-finish-3
-    slice-aggregate-finish-4
     finish-requires
-    returns
-    returns-2)
+    told-requires
+    returns)

@@ -1,0 +1,203 @@
+// Before a line's answer and after it: its head, what it expects, and what needs a look.
+ghost use Prim.Native.Nat.{_≤_};
+ghost use lib.ListN.{length};
+use crate::lines::NAME_PLACE;
+use ledger::counts::BAD;
+use ledger::counts::BODY;
+use ledger::counts::CHECK;
+use ledger::counts::DIFFER;
+use ledger::counts::EXPECTED;
+use ledger::counts::LINES;
+use ledger::counts::NAME;
+use ledger::counts::OLD_BAD;
+use ledger::counts::OLD_REFUSED;
+use ledger::counts::OLD_TROUBLE;
+use ledger::counts::PATH;
+use ledger::counts::REFUSED;
+use ledger::counts::START;
+use ledger::counts::UNANNOUNCED;
+use ledger::counts::USED;
+use ledger::counts::more;
+use ledger::output::bytes_from;
+use ledger::output::first_bytes;
+use ledger::output::make_room;
+
+// Another line begins.
+pub fn open(counts: &mut [usize; 21], names: &[u8], answers: &mut [u8]) {
+    counts[LINES] = more(counts[LINES], 1);
+    make_room(answers, counts);
+    counts[START] = counts[USED];
+    counts[OLD_REFUSED] = counts[REFUSED];
+    counts[OLD_BAD] = counts[BAD];
+    if counts[CHECK] != 0 {
+        put_head(counts, names, answers);
+        return;
+    }
+    counts[BODY] = counts[USED];
+}
+
+// `FILE:LINE: `
+fn put_head(counts: &mut [usize; 21], names: &[u8], answers: &mut [u8]) {
+    counts[OLD_TROUBLE] = trouble(counts);
+    let a = numeral::put_text(answers, counts[USED], first_bytes(names, counts[PATH]));
+    let b = numeral::put_text(answers, a, b":");
+    let c = wording::end::put_count(answers, b, counts[LINES] as u64, b": ");
+    counts[USED] = c;
+    counts[BODY] = c;
+}
+
+// What needs a look.
+fn trouble(counts: &[usize; 21]) -> usize {
+    more(more(counts[BAD], counts[DIFFER]), counts[UNANNOUNCED])
+}
+
+// The line is answered; what it expects stands from the place `expected` on, if that is not 0.
+pub fn close(
+    text: &[u8],
+    expected: usize,
+    counts: &mut [usize; 21],
+    names: &[u8],
+    answers: &mut [u8],
+) {
+    let announced = judged(text, expected, counts, answers);
+    count_unannounced(counts, announced);
+    if counts[CHECK] == 0 {
+        return;
+    }
+    keep_trouble(counts, names, answers);
+}
+
+fn count_unannounced(counts: &mut [usize; 21], announced: bool) {
+    if announced {
+        return;
+    }
+    if counts[REFUSED] == counts[OLD_REFUSED] {
+        return;
+    }
+    counts[UNANNOUNCED] = more(counts[UNANNOUNCED], 1);
+}
+
+// Whether the answer is one that the line expects.
+fn judged(text: &[u8], expected: usize, counts: &mut [usize; 21], answers: &mut [u8]) -> bool {
+    if expected == 0 {
+        return false;
+    }
+    if counts[BAD] != counts[OLD_BAD] {
+        return false;
+    }
+    judge(bytes_from(text, expected), counts, answers)
+}
+
+// Whether the answer is as expected; where it is not, what was expected goes behind its first line.
+fn judge(text: &[u8], counts: &mut [usize; 21], answers: &mut [u8]) -> bool {
+    let mut wanted = [0u8; 1024];
+    let n = line::put_words(&mut wanted, 0, text);
+    counts[EXPECTED] = more(counts[EXPECTED], 1);
+    if begins(
+        bytes_from(first_bytes(answers, counts[USED]), counts[BODY]),
+        first_bytes(&wanted, n),
+    ) {
+        return true;
+    }
+    counts[DIFFER] = more(counts[DIFFER], 1);
+    insert(first_bytes(&wanted, n), counts, answers);
+    false
+}
+
+// Whether the words behind an answer's first begin with those wanted, which one blank parts.
+fn begins(answer: &[u8], wanted: &[u8]) -> bool {
+    if wanted.len() == 0 {
+        return true;
+    }
+    starts(bytes_from(answer, more(place_of(answer, 32), 1)), wanted)
+}
+
+// Whether bytes start with others, and a word does not go on behind them.
+fn starts(bytes: &[u8], wanted: &[u8]) -> bool {
+    let mut i = 0;
+    while i < wanted.len() {
+        if bytes.len() <= i {
+            return false;
+        }
+        if bytes[i] != wanted[i] {
+            return false;
+        }
+        i += 1;
+    }
+    if bytes.len() <= i {
+        return true;
+    }
+    bytes[i] <= 32
+}
+
+// The place of the first byte c, or the end.
+fn place_of(bytes: &[u8], c: u8) -> usize
+    ensures { λ r. ⌜ r ≤ length (now (bytes .entry)) ⌝ }
+{
+    let mut i = 0;
+    while i < bytes.len() {
+        if bytes[i] == c {
+            return i;
+        }
+        i += 1;
+    }
+    i
+}
+
+// The end of the answer's first line.
+fn first_end(counts: &[usize; 21], answers: &[u8]) -> usize {
+    more(
+        counts[BODY],
+        place_of(
+            bytes_from(first_bytes(answers, counts[USED]), counts[BODY]),
+            10,
+        ),
+    )
+}
+
+// Puts ` expected ` and the words behind the answer's first line.
+fn insert(wanted: &[u8], counts: &mut [usize; 21], answers: &mut [u8]) {
+    let end = first_end(counts, answers);
+    let used = counts[USED];
+    let a = numeral::put_text(answers, used, b" expected ");
+    let last = numeral::put_text(answers, a, wanted);
+    rotate(answers, end, used, last);
+    counts[USED] = last;
+}
+
+// Brings the bytes from `middle` to `last` before those from `first` on.
+fn rotate(text: &mut [u8], first: usize, middle: usize, last: usize) {
+    if middle < first {
+        return;
+    }
+    if last < middle {
+        return;
+    }
+    if text.len() < last {
+        return;
+    }
+    bytes::reverse(text, first, middle);
+    bytes::reverse(text, middle, last);
+    bytes::reverse(text, first, last);
+}
+
+// In a check an answer that needs no look is dropped, and of another the first line is kept, with the
+// item's name.
+fn keep_trouble(counts: &mut [usize; 21], names: &[u8], answers: &mut [u8]) {
+    if trouble(counts) == counts[OLD_TROUBLE] {
+        counts[USED] = counts[START];
+        return;
+    }
+    let end = first_end(counts, answers);
+    if counts[NAME] == 0 {
+        counts[USED] = numeral::put_text(answers, end, b"\n");
+        return;
+    }
+    let a = numeral::put_text(answers, end, b" (");
+    let b = numeral::put_text(
+        answers,
+        a,
+        bytes_from(first_bytes(names, counts[NAME]), NAME_PLACE),
+    );
+    counts[USED] = numeral::put_text(answers, b, b")\n");
+}

@@ -54,7 +54,7 @@ class Asking(unittest.TestCase):
 
     def test_copy_ends_like_the_item(self) -> None:
         """The questions and the splitting change nothing: the registers at each item's end are the same."""
-        text = text_of(CRATES, "replay_all", "stdin")
+        text = text_of(CRATES, "replay", "data", "all.item")
         items = asking.split_items(asking.ask_file(EXECUTABLE, text))
         heads = [nodes[0].line.number for nodes in items]
         lines = text.split("\n")

@@ -89,8 +89,8 @@ class Labels(unittest.TestCase):
         self.assertEqual(overlaps(text), [], name)
 
     def test_stored_items(self) -> None:
-        for path in ("replay_all", "replay_bad", "replay_show"):
-            for run in runs(text_of(CRATES, path, "stdin")):
+        for path in ("all.item", "bad.item", "show.item"):
+            for run in runs(text_of(CRATES, "replay", "data", path)):
                 with self.subTest(item=run.name):
                     self.check(page.svg_text([run]), run.name)
 

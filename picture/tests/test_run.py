@@ -105,11 +105,11 @@ class Event(unittest.TestCase):
 
 @NEEDS_PROGRAM
 class Stored(unittest.TestCase):
-    """crates/replay_all/stdin: the marked examples of document 01, and long random items."""
+    """crates/replay/data/all.item and more.item: the marked examples of document 01, and long random items."""
 
     @classmethod
     def setUpClass(cls) -> None:
-        cls.of_name = {run.name: run for run in runs(text_of(CRATES, "replay_all", "stdin"))}
+        cls.of_name = {run.name: run for run in runs(text_of(CRATES, "replay", "data", "all.item") + text_of(CRATES, "replay", "data", "more.item"))}
 
     def test_first_example(self) -> None:
         run = runs(text_of(EXAMPLES, "first.item"))[0]
@@ -163,9 +163,10 @@ class Stored(unittest.TestCase):
         self.assertTrue({"AM", "PM"} & found)
 
     def test_bad_lines(self) -> None:
-        found = [check for run in runs(text_of(CRATES, "replay_bad", "stdin")) for check in run.checks("bad")]
-        stored = text_of(CRATES, "replay_bad", "stdout").split("\n")
-        wanted = [line for line in stored if line.startswith("line ")]
+        found = [check for run in runs(text_of(CRATES, "replay", "data", "bad.item")) for check in run.checks("bad")]
+        stored = text_of(CRATES, "replay", "stdout").split("\n")
+        # bad.item is the first of the stored run with such lines, and has 33
+        wanted = [line for line in stored if line.startswith("line ")][:33]
         self.assertEqual([f"line {check.line.number}: {check.words[0]}" for check in found], wanted)
 
     def test_every_start_has_one_end(self) -> None:

@@ -84,7 +84,7 @@ class Dump(unittest.TestCase):
         self.assertEqual(signals["first.good_flight"], [(0, 0), (100, 1), (101, 0)])
 
     def test_several_items(self) -> None:
-        signals = read(vcd.vcd_text(runs(text_of(CRATES, "replay_all", "stdin"))))
+        signals = read(vcd.vcd_text(runs(text_of(CRATES, "replay", "data", "all.item"))))
         scopes = {name.partition(".")[0] for name in signals}
         self.assertEqual(len(scopes), len({name for name in signals if name.endswith(".INT")}))
         self.assertEqual(settled(signals["item_14_10_undelivered.awaited_flight"]), [(0, 1), (8_192, 0)])

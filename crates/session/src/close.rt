@@ -2,25 +2,25 @@
 ghost use Prim.Native.Nat.{_≤_};
 ghost use lib.ListN.{length};
 use crate::lines::NAME_PLACE;
-use ledger::counts::BAD;
-use ledger::counts::BODY;
-use ledger::counts::CHECK;
-use ledger::counts::DIFFER;
-use ledger::counts::EXPECTED;
-use ledger::counts::LINES;
-use ledger::counts::NAME;
-use ledger::counts::OLD_BAD;
-use ledger::counts::OLD_REFUSED;
-use ledger::counts::OLD_TROUBLE;
-use ledger::counts::PATH;
-use ledger::counts::REFUSED;
-use ledger::counts::START;
-use ledger::counts::UNANNOUNCED;
-use ledger::counts::USED;
-use ledger::counts::more;
-use ledger::output::bytes_from;
-use ledger::output::first_bytes;
-use ledger::output::make_room;
+use item_state::counts::BAD;
+use item_state::counts::BODY;
+use item_state::counts::CHECK;
+use item_state::counts::DIFFER;
+use item_state::counts::EXPECTED;
+use item_state::counts::LINES;
+use item_state::counts::NAME;
+use item_state::counts::OLD_BAD;
+use item_state::counts::OLD_REFUSED;
+use item_state::counts::OLD_TROUBLE;
+use item_state::counts::PATH;
+use item_state::counts::REFUSED;
+use item_state::counts::START;
+use item_state::counts::UNANNOUNCED;
+use item_state::counts::USED;
+use item_state::counts::more;
+use item_state::output::bytes_from;
+use item_state::output::first_bytes;
+use item_state::output::make_room;
 
 // Another line begins.
 pub fn open(counts: &mut [usize; 21], names: &[u8], answers: &mut [u8]) {

@@ -3,18 +3,18 @@ ghost use Prim.Native.Nat.{_≤_, _+_};
 ghost use lib.ListN.{length};
 use crate::lines::answer;
 use device::Model;
-use ledger::counts::BAD;
-use ledger::counts::CALLS;
-use ledger::counts::CHECK;
-use ledger::counts::DIFFER;
-use ledger::counts::EXPECTED;
-use ledger::counts::HELD;
-use ledger::counts::PATH;
-use ledger::counts::REFUSED;
-use ledger::counts::UNANNOUNCED;
-use ledger::counts::USED;
-use ledger::output::first_bytes;
-use ledger::output::write_answers;
+use item_state::counts::BAD;
+use item_state::counts::CALLS;
+use item_state::counts::CHECK;
+use item_state::counts::DIFFER;
+use item_state::counts::EXPECTED;
+use item_state::counts::HELD;
+use item_state::counts::PATH;
+use item_state::counts::REFUSED;
+use item_state::counts::UNANNOUNCED;
+use item_state::counts::USED;
+use item_state::output::first_bytes;
+use item_state::output::write_answers;
 
 // How a replay ended: whether all of the file was read, and what its last line counts.
 pub struct Outcome {

@@ -31,12 +31,12 @@ pub fn group_of(call: Call, counts: &[usize; 21]) -> u8 {
 
 fn later_group(call: Call, counts: &[usize; 21]) -> u8 {
     match call {
-        Call::At(t) => faulty(drive::is_past(t, counts), DRIVE),
+        Call::At(t) => faulty(item_calls::is_past(t, counts), DRIVE),
         Call::Stretch(_) => DRIVE,
         Call::Flight { up: _, down: _ } => DRIVE,
         Call::Temperature(_) => DRIVE,
-        Call::Probe(_) => faulty(keep::lacks_room(call, counts), KEEP),
-        Call::Record(_) => faulty(keep::lacks_room(call, counts), KEEP),
+        Call::Probe(_) => faulty(item_analysis::lacks_room(call, counts), KEEP),
+        Call::Record(_) => faulty(item_analysis::lacks_room(call, counts), KEEP),
         Call::Degrees => KEEP,
         Call::Listing { old: _, first: _ } => KEEP,
         Call::Quietest(_) => KEEP,

@@ -8,11 +8,11 @@ use crate::group::KEEP;
 use crate::group::TELL;
 use crate::group::group_of;
 use device::Model;
-use ledger::counts::MOMENT;
-use ledger::counts::NAME;
-use ledger::counts::PROBES;
-use ledger::counts::RECORD;
-use ledger::counts::USED;
+use item_state::counts::MOMENT;
+use item_state::counts::NAME;
+use item_state::counts::PROBES;
+use item_state::counts::RECORD;
+use item_state::counts::USED;
 use line::Call;
 
 // The item's name stands behind the longest path.
@@ -90,13 +90,13 @@ fn reply(
 ) -> Model {
     let group = group_of(call, counts);
     if group == DRIVE {
-        return drive::drive(m, call, numbers, counts, mem, answers);
+        return item_calls::drive(m, call, numbers, counts, mem, answers);
     }
     if group == ITEM {
         return item(text, counts, mem, names, answers);
     }
     if group == KEEP {
-        keep::keep(m, call, numbers, counts, kept, probes, answers);
+        item_analysis::keep(m, call, numbers, counts, kept, probes, answers);
         return m;
     }
     tell_or_fault(m, call, group, numbers, counts, answers);
@@ -112,11 +112,11 @@ fn tell_or_fault(
     answers: &mut [u8],
 ) {
     if group == TELL {
-        tell::tell(m, call, numbers, counts, answers);
+        item_questions::tell(m, call, numbers, counts, answers);
         return;
     }
     if group == FAULT {
-        tell::bad(call, counts, answers);
+        item_questions::bad(call, counts, answers);
         return;
     }
 }

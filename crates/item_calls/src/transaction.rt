@@ -1,0 +1,150 @@
+// The lines `bus` and `set`.
+ghost use mathlib.Core.Path.{_≡_};
+ghost use Rattle.item_calls.specs.Buffer.{bufferSize};
+use device::Answer;
+use device::Model;
+use item_state::counts::MOMENT;
+use item_state::counts::USED;
+use item_state::counts::count_call;
+use item_state::output::first_bytes;
+
+pub fn bus(
+    m: Model,
+    words: &[u32],
+    counts: &mut [usize; 21],
+    mem: &mut [u8],
+    answers: &mut [u8],
+) -> Model {
+    bus_out(m, words, buffer_size(words), counts, mem, answers)
+}
+
+// A transaction of the low bytes of these words, with an output buffer of `size` bytes.
+pub fn bus_out(
+    m: Model,
+    words: &[u32],
+    size: usize,
+    counts: &mut [usize; 21],
+    mem: &mut [u8],
+    answers: &mut [u8],
+) -> Model {
+    let mut frame = [0u8; 200];
+    let n = numeral::put_low_bytes(&mut frame, 0, words);
+    let mut buffer = [238u8; 200];
+    bus_sized(
+        m,
+        first_bytes(&frame, n),
+        &mut buffer,
+        size,
+        counts,
+        mem,
+        answers,
+    )
+}
+
+// With the first `size` bytes of a buffer; all of it where it has fewer.
+fn bus_sized(
+    m: Model,
+    frame: &[u8],
+    buffer: &mut [u8],
+    size: usize,
+    counts: &mut [usize; 21],
+    mem: &mut [u8],
+    answers: &mut [u8],
+) -> Model {
+    if size <= buffer.len() {
+        bus_call(m, frame, &mut buffer[..size], counts, mem, answers)
+    } else {
+        bus_call(m, frame, buffer, counts, mem, answers)
+    }
+}
+
+fn bus_call(
+    m: Model,
+    frame: &[u8],
+    buffer: &mut [u8],
+    counts: &mut [usize; 21],
+    mem: &mut [u8],
+    answers: &mut [u8],
+) -> Model {
+    let reply = converter::transaction(m, frame, buffer, mem);
+    let answer = reply.answer;
+    let used = wording::bus::put_bus(answers, counts[USED], answer, buffer);
+    start_moment(counts, answer);
+    count_call(counts, answer, used);
+    reply.model
+}
+
+// Moments count from a transaction that starts a measurement.
+fn start_moment(counts: &mut [usize; 21], answer: Answer) {
+    match answer {
+        Answer::Accepted(flight, temperature) => {
+            if flight {
+                counts[MOMENT] = 0;
+            }
+            if temperature {
+                counts[MOMENT] = 0;
+            }
+        }
+        _ => {}
+    }
+}
+
+// A write of these words from the address a on.
+pub fn set(
+    m: Model,
+    a: u32,
+    words: &[u32],
+    counts: &mut [usize; 21],
+    mem: &mut [u8],
+    answers: &mut [u8],
+) -> Model {
+    let mut frame = [0u8; 200];
+    let n = put_write(&mut frame, a, words);
+    set_call(m, first_bytes(&frame, n), counts, mem, answers)
+}
+
+fn set_call(
+    m: Model,
+    frame: &[u8],
+    counts: &mut [usize; 21],
+    mem: &mut [u8],
+    answers: &mut [u8],
+) -> Model {
+    let mut none = [0u8; 0];
+    let reply = converter::transaction(m, frame, &mut none, mem);
+    let answer = reply.answer;
+    let used = wording::bus::put_set(answers, counts[USED], answer);
+    count_call(counts, answer, used);
+    reply.model
+}
+
+// The address, and each word high byte first.
+fn put_write(frame: &mut [u8], a: u32, words: &[u32]) -> usize {
+    let address = [a];
+    let mut place = numeral::put_low_bytes(frame, 0, &address);
+    let mut i = 0;
+    while i < words.len() {
+        let pair = [words[i] / 256, words[i]];
+        place = numeral::put_low_bytes(frame, place, &pair);
+        i += 1;
+    }
+    place
+}
+
+// The output buffer of a frame whose line does not give it.
+fn buffer_size(words: &[u32]) -> usize
+    ensures { λ r. ⌜ r ≡ bufferSize (now (words .entry)) ⌝ }
+{
+    let n = words.len();
+    if n == 0 {
+        return 0;
+    }
+    let first = words[0];
+    if first == 0x90 {
+        return 2;
+    }
+    if first < 0xb0 {
+        return 0;
+    }
+    (n - 1) / 2 * 2
+}

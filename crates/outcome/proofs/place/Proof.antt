@@ -1,0 +1,30 @@
+-- `outcome::place` meets its contract.
+use Rattle.outcome.specs.Code.{placeCode, placeWords}
+use borrow.Author.Needs.{needs}
+use Rattle.outcome.proofs.place.Statement.{statement}
+use Rattle.outcome.proofs.place.Tie as tie
+
+enum-known-p : tie.Need-enum-known-p
+enum-known-p c = search needs
+
+enum-known-p-2 : tie.Need-enum-known-p-2
+enum-known-p-2 c = search needs
+
+put-size-requires : tie.Need-put-size-requires
+put-size-requires c κs = search needs
+
+returns : tie.Need-returns
+unfolding placeCode placeWords
+returns c = let k = c .before .p .given in (rw (k .1), rw (k .1))
+
+same-length : tie.Need-same-length
+same-length c = search needs
+
+returns-2 : tie.Need-returns-2
+unfolding placeCode placeWords
+returns-2 c = let k = c .before .before .before .before .before .p2 .given in (rw (k .1), rw (k .1) (c .before .before .put-size .ensures))
+
+pub place-spec : {M : Type 1} → statement M
+place-spec =
+    tie.close
+    (tie.spec enum-known-p enum-known-p-2 put-size-requires returns same-length returns-2)

@@ -1,0 +1,120 @@
+-- What a call of the library returns: a number for its answer, the answer's words in a lent buffer, the model in its bytes.
+use Prim.Native.Nat.{ℕ}
+use mathlib.Core.Bool.{Bool, true, false}
+use mathlib.Core.Path.{_≡_}
+use mathlib.Core.List.{List, [], _∷_}
+use lib.ListN.{length, set, take, drop}
+use lib.Dec.{eqb}
+use lib.IntN.{ℤ}
+use lib.Seq.{sets}
+use mir.Val.{boolByte}
+use Rattle.unit.specs.Choice.{pick}
+use Rattle.device.specs.declared.Model.{Model}
+use Rattle.device.specs.declared.Reply.{Reply}
+use Rattle.device.specs.declared.Answer.{Answer}
+use Rattle.device.specs.declared.Answer.the-variants.{Refused, Accepted, Ticked, Stretched, Good, Failed}
+use Rattle.device.specs.declared.Told.{Told}
+use Rattle.device.specs.declared.Told.the-variants.{Value, Refused as NotTold}
+use Rattle.thermometer.specs.declared.InDegrees.{InDegrees}
+use Rattle.thermometer.specs.declared.InDegrees.the-variants.{Thousandths, Refused as NotRead}
+use Rattle.quietest.specs.declared.Place.{Place}
+use Rattle.quietest.specs.declared.Place.the-variants.{At, Refused as NotPlaced}
+use Rattle.listing.specs.declared.Listed.{Listed}
+use Rattle.listing.specs.declared.Listed.the-variants.{Written, Refused as NotListed}
+use Rattle.setup_frames.specs.declared.Framed.{Framed}
+use Rattle.setup_frames.specs.declared.Framed.the-variants.{Frames, Refused as NotFramed}
+use Rattle.snapshot.specs.Layout.{stored}
+
+-- "the refusal's number, or for acceptance a value that is none of them"; a delivery is good or failed
+abbrev pub accepted : ℕ
+accepted = 0xFFFFFFFF
+
+abbrev pub failed : ℕ
+failed = 0xFFFFFFFE
+
+unfoldable pub codeOf : Answer → ℕ
+codeOf (Refused n) = n
+codeOf (Accepted f t) = accepted
+codeOf (Ticked f t) = accepted
+codeOf (Stretched f t) = accepted
+codeOf Good = accepted
+codeOf Failed = failed
+
+-- The words of an answer: flight, then temperature. A tick names for each whether one started and whether one failed, a stretch the
+-- ticks in which they did. Yes is 1, no is 0.
+unfoldable pub wordsOf : Answer → List ℕ
+wordsOf (Refused n) = []
+wordsOf (Accepted f t) = boolByte f ∷ boolByte t ∷ []
+wordsOf (Ticked f t) = boolByte (f .started) ∷ boolByte (f .failed) ∷ boolByte (t .started) ∷ boolByte (t .failed) ∷ []
+wordsOf (Stretched f t) = f .started ∷ f .failed ∷ t .started ∷ t .failed ∷ []
+wordsOf Good = []
+wordsOf Failed = []
+
+-- Words go to the first places of the buffer, as many as it has; its further places stay.
+abbrev pub filled : {A : Type 0} → List A → List A → List A
+filled buffer words = sets buffer 0 words
+
+-- The bytes of a model, in a buffer of their length and in no other.
+unfoldable pub kept : Model → List ℕ → List ℕ
+kept m bytes = pick (eqb (length bytes) 233) (stored m) bytes
+
+-- "a refusal changes nothing"
+unfoldable pub modelAfter : Answer → Model → List ℕ → List ℕ
+modelAfter (Refused n) m bytes = bytes
+modelAfter (Accepted f t) m bytes = kept m bytes
+modelAfter (Ticked f t) m bytes = kept m bytes
+modelAfter (Stretched f t) m bytes = kept m bytes
+modelAfter Good m bytes = kept m bytes
+modelAfter Failed m bytes = kept m bytes
+
+-- Questions, degrees, places, listings and set-up frames: each a number and at most two words.
+unfoldable pub toldCode : Told → ℕ
+toldCode (NotTold n) = n
+toldCode (Value v) = accepted
+
+unfoldable pub toldWords : Told → List ℕ
+toldWords (NotTold n) = []
+toldWords (Value v) = v ∷ []
+
+unfoldable pub readingCode : InDegrees → ℕ
+readingCode (NotRead n) = n
+readingCode (Thousandths t) = accepted
+
+unfoldable pub readingWords : InDegrees → List ℕ
+readingWords (NotRead n) = []
+readingWords (Thousandths t) = t ∷ []
+
+unfoldable pub placeCode : Place → ℕ
+placeCode (NotPlaced n) = n
+placeCode (At i) = accepted
+
+unfoldable pub placeWords : Place → List ℕ
+placeWords (NotPlaced n) = []
+placeWords (At i) = i ∷ []
+
+-- the values of a run of w from its place on
+unfoldable pub placeRun : Place → List ℤ → ℕ → List ℤ
+placeRun (NotPlaced n) values w = []
+placeRun (At i) values w = take w (drop i values)
+
+unfoldable pub listedCode : Listed → ℕ
+listedCode (NotListed n) = n
+listedCode (Written n) = accepted
+
+unfoldable pub listedWords : Listed → List ℕ
+listedWords (NotListed n) = []
+listedWords (Written n) = n ∷ []
+
+unfoldable pub framedCode : Framed → ℕ
+framedCode (NotFramed n) = n
+framedCode (Frames b f) = accepted
+
+unfoldable pub framedWords : Framed → List ℕ
+framedWords (NotFramed n) = []
+framedWords (Frames b f) = b ∷ f ∷ []
+
+-- A call's answer: its code, and the model's bytes and the words as it leaves them.
+pub record Settled (r : Reply) (bytes words : List ℕ) (code : ℕ) (bytes′ words′ : List ℕ) : Type 0 where
+  pub number : code ≡ codeOf (r .answer)
+  pub model : bytes′ ≡ modelAfter (r .answer) (r .model) bytes
+  pub answer : words′ ≡ filled words (wordsOf (r .answer))

@@ -1,0 +1,5 @@
+pub mod Loops
+pub mod Parts
+pub mod Meaning
+pub mod Stored
+pub mod Examples

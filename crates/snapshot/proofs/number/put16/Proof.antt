@@ -1,0 +1,42 @@
+-- `snapshot::number::put16` meets its contract.
+use native.Mathlib.Omega.{arith}
+use lib.ListN.{length-set}
+use native.Mathlib.Numerals.{add-one}
+use Rattle.snapshot.specs.Number.{bytesOf}
+use borrow.Author.Needs.{needs}
+use Rattle.snapshot.proofs.number.put16.Statement.{statement}
+use Rattle.snapshot.proofs.number.put16.Tie as tie
+
+cast-bytes : tie.Need-cast-bytes
+cast-bytes c = search needs
+
+slice-write-bytes : tie.Need-slice-write-bytes
+slice-write-bytes c = search needs
+
+cast-bytes-2 : tie.Need-cast-bytes-2
+cast-bytes-2 c = search needs
+
+add-bytes : tie.Need-add-bytes
+add-bytes c = search needs
+
+slice-write-bytes-2 : tie.Need-slice-write-bytes-2
+slice-write-bytes-2 c = simp length-set (omega (arith, c .pre))
+
+same-length : tie.Need-same-length
+same-length c = search needs
+
+returns : tie.Need-returns
+unfolding bytesOf
+returns c = rw (add-one (c .args .at))
+
+pub put16-spec : {M : Type 1} → statement M
+put16-spec =
+    tie.close
+    (tie.spec
+    cast-bytes
+    slice-write-bytes
+    cast-bytes-2
+    add-bytes
+    slice-write-bytes-2
+    same-length
+    returns)

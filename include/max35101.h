@@ -1,0 +1,180 @@
+/*
+ * max35101.h: the proved model of the MAX35101 time-to-digital converter.
+ *
+ * Link libmax35101.a (library/build makes it). docs/LIBRARY.md tells more.
+ *
+ * A model is MAX35101_MODEL_SIZE bytes that the caller keeps: in memory, in a
+ * file, as many as wanted. Copying the bytes copies the model. max35101_fresh
+ * makes one. The bytes are the same on every machine.
+ *
+ * Every call returns the number of a refusal (0 to 22, below), or
+ * MAX35101_ACCEPTED. A refusal changes no buffer. No call fails in another
+ * way: any bytes and any numbers get an answer, no call keeps anything
+ * between calls, allocates, or touches a byte outside the buffers lent to it.
+ *
+ * A buffer is a pointer and its number of elements. For an empty one the
+ * pointer is not looked at: NULL with 0 is an empty buffer. A pointer with a
+ * number other than 0 must point to as many elements, aligned for their type.
+ *
+ * NO TWO BUFFERS OF ONE CALL MAY OVERLAP, unless the call takes both as const.
+ *
+ * Answers go to the first places of `answer`, as many as it has: 4 words are
+ * always enough, fewer leave the last ones out, NULL with 0 all of them.
+ */
+#ifndef MAX35101_H
+#define MAX35101_H
+
+#include <stddef.h>
+#include <stdint.h>
+
+#ifdef __cplusplus
+extern "C" {
+#endif
+
+#define MAX35101_MODEL_SIZE 233u    /* bytes of a model, version byte first */
+#define MAX35101_MODEL_VERSION 1u   /* that byte */
+#define MAX35101_FLASH_SIZE 8192u   /* bytes of the user flash */
+#define MAX35101_LONGEST_STRETCH 16384u
+
+/* What a call returns where it does not refuse. */
+#define MAX35101_ACCEPTED UINT32_MAX
+#define MAX35101_FAILED (UINT32_MAX - 1u) /* a delivery that was accepted, and whose measurement failed */
+
+/* What a call returns where it refuses. */
+enum max35101_refusal {
+    MAX35101_UNSOUND = 0,          /* the bytes are no model */
+    MAX35101_NO_FRAME = 1,         /* a transaction of no bytes */
+    MAX35101_OPCODE = 2,           /* a first byte that the model does not carry */
+    MAX35101_FRAME_LENGTH = 3,
+    MAX35101_ADDRESS = 4,          /* past the last register */
+    MAX35101_SHORT_OUTPUT = 5,     /* a read that the output has no room for */
+    MAX35101_BUSY = 6,             /* a measurement is awaited or an event runs */
+    MAX35101_CALENDAR = 7,         /* the clock or the alarm would be invalid */
+    MAX35101_NOT_INITIALISED = 8,
+    MAX35101_SET_UP = 9,           /* the set-up does not allow the measurement */
+    MAX35101_NOT_AWAITED = 10,     /* a delivery that nothing waits for */
+    MAX35101_WORD_COUNT = 11,      /* a delivery of another number of words */
+    MAX35101_SPAN = 12,            /* a stretch of more than MAX35101_LONGEST_STRETCH ticks */
+    MAX35101_OFF_THE_TABLE = 13,   /* degrees: no resistance, or none on the table */
+    MAX35101_BAD_TABLE = 14,       /* degrees_by: the table does not rise, or has too few or too many entries */
+    MAX35101_SUPPLY_OFF = 15,      /* the regulator of the user flash is off */
+    MAX35101_FLASH_ADDRESS = 16,
+    MAX35101_NOT_ERASED = 17,
+    MAX35101_WIDTH = 18,           /* quietest: no run of that width */
+    MAX35101_SHORT_FRAMES = 19,    /* setup_frames: fewer than 33 bytes or 8 lengths */
+    MAX35101_CAPTURE_NUMBER = 20,  /* a listing whose last capture has too many digits */
+    MAX35101_SHORT_LISTING = 21,   /* a listing that the output has no room for */
+    MAX35101_DIGITS = 22           /* write_listing_as: neither 2 nor 8 digits */
+};
+
+/* A fresh model. */
+uint32_t max35101_fresh(uint8_t *model, size_t model_size);
+
+/*
+ * One bus transaction: the bytes of a chip-enable window, the output of a
+ * read (as many bytes as its frame has after the first, or 2 for the user
+ * flash), and the user flash, of MAX35101_FLASH_SIZE bytes, all FFh when new.
+ * A caller that uses no flash frames may lend none.
+ * answer: { flight started, temperature started }, each 0 or 1.
+ */
+uint32_t max35101_transaction(uint8_t *model, size_t model_size,
+                              const uint8_t *frame, size_t frame_size,
+                              uint8_t *output, size_t output_size,
+                              uint8_t *flash, size_t flash_size,
+                              uint32_t *answer, size_t answer_count);
+
+/*
+ * One period of the 32,768 Hz clock.
+ * answer: { flight started, flight failed, temperature started, temperature failed }, each 0 or 1.
+ */
+uint32_t max35101_tick(uint8_t *model, size_t model_size, uint32_t *answer, size_t answer_count);
+
+/*
+ * `ticks` such periods at once, at most MAX35101_LONGEST_STRETCH. The answer
+ * names the tick, from 1 on, in which each of the same four happened; 0 for none.
+ */
+uint32_t max35101_stretch(uint8_t *model, size_t model_size, uint32_t ticks,
+                          uint32_t *answer, size_t answer_count);
+
+/*
+ * The hit words of the awaited flight measurement, up and down; an empty list
+ * for a direction that is not measured. MAX35101_ACCEPTED where the
+ * measurement is good, else MAX35101_FAILED. The answer has no words.
+ */
+uint32_t max35101_flight_delivery(uint8_t *model, size_t model_size,
+                                  const uint32_t *up, size_t up_count,
+                                  const uint32_t *down, size_t down_count,
+                                  uint32_t *answer, size_t answer_count);
+
+/* The words of the awaited temperature measurement, T1 to T4; as above. */
+uint32_t max35101_temperature_delivery(uint8_t *model, size_t model_size,
+                                       const uint32_t *words, size_t word_count,
+                                       uint32_t *answer, size_t answer_count);
+
+/* Questions, which change nothing. answer: { 1 for yes, 0 for no }. */
+uint32_t max35101_interrupt_pending(const uint8_t *model, size_t model_size,
+                                    uint32_t *answer, size_t answer_count);
+uint32_t max35101_flight_awaited(const uint8_t *model, size_t model_size,
+                                 uint32_t *answer, size_t answer_count);
+uint32_t max35101_temperature_awaited(const uint8_t *model, size_t model_size,
+                                      uint32_t *answer, size_t answer_count);
+uint32_t max35101_regulator_on(const uint8_t *model, size_t model_size,
+                               uint32_t *answer, size_t answer_count);
+
+/* The word of a register, at its read address B0h to FFh, with nothing cleared. answer: { word }. */
+uint32_t max35101_peek(const uint8_t *model, size_t model_size, uint32_t address,
+                       uint32_t *answer, size_t answer_count);
+
+/*
+ * The model's set-up as bus frames that bring a fresh model to it: the bytes
+ * of all, one after the other, and the length of each. 33 bytes and 8 lengths
+ * are enough, and fewer are refused. answer: { bytes, frames }.
+ */
+uint32_t max35101_setup_frames(const uint8_t *model, size_t model_size,
+                               uint8_t *bytes, size_t byte_count,
+                               uint32_t *lengths, size_t length_count,
+                               size_t *answer, size_t answer_count);
+
+/*
+ * The temperature of a PT1000 probe, from its word and the word of its
+ * reference resistor of 1,000 ohms. answer: { thousandths of a degree }.
+ */
+uint32_t max35101_degrees(uint32_t probe, uint32_t reference,
+                          uint32_t *answer, size_t answer_count);
+
+/* The same with a table of the caller's: milliohms at each whole degree from 0, 2 to 512 entries that rise. */
+uint32_t max35101_degrees_by(const uint32_t *table, size_t table_count,
+                             uint32_t probe, uint32_t reference,
+                             uint32_t *answer, size_t answer_count);
+
+/* Where the quietest run of `width` neighbours starts, the earliest among equals. answer: { place, from 0 }. */
+uint32_t max35101_quietest_place(const int32_t *values, size_t value_count, size_t width,
+                                 size_t *answer, size_t answer_count);
+
+/* The values of that run, into the first places of `run`, as many as it has. */
+uint32_t max35101_quietest(const int32_t *values, size_t value_count, size_t width,
+                           int32_t *run, size_t run_count);
+
+/* A difference of quanta, 250/65,536 ns each, in nanoseconds; exact. */
+double max35101_nanoseconds(int32_t quanta);
+
+/*
+ * The differences as printed lines, one each, with capture numbers from
+ * `first` on in eight hexadecimal digits: 23 bytes a line.
+ * answer: { bytes written }.
+ */
+uint32_t max35101_write_listing(const int32_t *differences, size_t difference_count, uint32_t first,
+                                uint8_t *output, size_t output_size,
+                                size_t *answer, size_t answer_count);
+
+/* The same with capture numbers of 2 digits, 17 bytes a line, or of 8. */
+uint32_t max35101_write_listing_as(uint32_t digits,
+                                   const int32_t *differences, size_t difference_count, uint32_t first,
+                                   uint8_t *output, size_t output_size,
+                                   size_t *answer, size_t answer_count);
+
+#ifdef __cplusplus
+}
+#endif
+
+#endif

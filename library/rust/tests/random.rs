@@ -1,0 +1,262 @@
+//! A million random calls through the library and on the second model, in one process; the model is stored and loaded
+//! again between any two.
+
+use max35101::{Delivered, Model, FLASH_SIZE};
+use second_model::model::Outcome;
+use second_model::Model as Second;
+
+const CALLS: u64 = 1_000_000;
+const SEED: u64 = 0x1357_9BDF_0246_8ACE;
+
+/// Numbers that look random, by xorshift.
+struct Random(u64);
+
+impl Random {
+    fn next(&mut self) -> u64 {
+        self.0 ^= self.0 << 13;
+        self.0 ^= self.0 >> 7;
+        self.0 ^= self.0 << 17;
+        self.0
+    }
+
+    fn below(&mut self, n: u64) -> u64 {
+        (self.next() >> 11) % n
+    }
+
+    fn byte(&mut self) -> u8 {
+        self.next().to_le_bytes()[3]
+    }
+}
+
+/// The same chip twice.
+struct Pair {
+    model: Model,
+    flash: Vec<u8>,
+    second: Second,
+    second_flash: Vec<u8>,
+}
+
+fn number<T>(answer: &Result<T, max35101::Refusal>) -> Option<u32> {
+    answer.as_ref().err().map(|refusal| refusal.number())
+}
+
+fn second_number<T>(answer: &Result<T, second_model::refusal::Refusal>) -> Option<u32> {
+    answer.as_ref().err().map(|&refusal| refusal as u32)
+}
+
+fn outcome(delivered: Delivered) -> Outcome {
+    match delivered {
+        Delivered::Good => Outcome::Good,
+        Delivered::Failed => Outcome::Failed,
+    }
+}
+
+impl Pair {
+    fn fresh() -> Pair {
+        Pair {
+            model: Model::fresh(),
+            flash: vec![0xFF; FLASH_SIZE],
+            second: Second::fresh(),
+            second_flash: vec![0xFF; FLASH_SIZE],
+        }
+    }
+
+    fn transaction(&mut self, frame: &[u8], room: usize) -> Option<u32> {
+        let (mut output, mut second_output) = (vec![0xEE; room], vec![0xEE; room]);
+        let answer = self.model.transaction(frame, &mut output, &mut self.flash);
+        let second = self
+            .second
+            .transaction(frame, &mut second_output, &mut self.second_flash);
+        assert_eq!(number(&answer), second_number(&second), "{frame:02X?}");
+        let started = answer.map(|started| (started.flight, started.temperature));
+        let second_started = second.map(|started| (started.flight, started.temperature));
+        assert_eq!(started.ok(), second_started.ok(), "{frame:02X?}");
+        assert_eq!(output, second_output, "{frame:02X?}");
+        number(&answer)
+    }
+
+    fn ticks(&mut self, count: u32) {
+        for tick in 1..=count {
+            let (said, second) = (self.model.tick(), self.second.tick());
+            let said = [
+                said.flight_started,
+                said.flight_failed,
+                said.temperature_started,
+                said.temperature_failed,
+            ];
+            let second = [
+                second.flight_started,
+                second.flight_failed,
+                second.temperature_started,
+                second.temperature_failed,
+            ];
+            assert_eq!(said, second, "tick {tick}");
+        }
+    }
+
+    fn stretch(&mut self, count: u32) {
+        let said = self.model.stretch(count).expect("not too long");
+        let mut ticks = [None; 4];
+        for tick in 1..=count {
+            let report = self.second.tick();
+            let happened = [
+                report.flight_started,
+                report.flight_failed,
+                report.temperature_started,
+                report.temperature_failed,
+            ];
+            for (place, happened) in ticks.iter_mut().zip(happened) {
+                if happened {
+                    *place = Some(tick);
+                }
+            }
+        }
+        let said = [
+            said.flight_started,
+            said.flight_failed,
+            said.temperature_started,
+            said.temperature_failed,
+        ];
+        assert_eq!(said, ticks);
+    }
+
+    fn delivery(&mut self, up: &[u32], down: Option<&[u32]>) -> Option<u32> {
+        let wide = |words: &[u32]| words.iter().map(|&word| word.into()).collect::<Vec<i64>>();
+        let (answer, second) = match down {
+            Some(down) => (
+                self.model.deliver_flight(up, down),
+                self.second.deliver_flight(&wide(up), &wide(down)),
+            ),
+            None => (
+                self.model.deliver_temperature(up),
+                self.second.deliver_temperature(&wide(up)),
+            ),
+        };
+        assert_eq!(number(&answer), second_number(&second));
+        assert_eq!(answer.map(outcome).ok(), second.ok());
+        number(&answer)
+    }
+
+    /// What the registers and the questions say, and the bytes both ways.
+    fn compare(&mut self) {
+        for address in 0xB0..=0xFF {
+            let word = self.model.peek(address).expect("an address");
+            assert_eq!(word, self.second.register(address), "{address:02X}");
+        }
+        assert_eq!(self.model.interrupt_pending(), self.second.interrupt());
+        let (flight, temperature) = (&self.second.flight, &self.second.temperature);
+        assert_eq!(self.model.flight_awaited(), flight.is_awaited());
+        assert_eq!(self.model.temperature_awaited(), temperature.is_awaited());
+        assert_eq!(self.model.regulator_on(), self.second.regulator_on);
+        assert_eq!(self.flash, self.second_flash);
+    }
+
+    fn store_and_load(&mut self) {
+        let loaded = Model::from_bytes(self.model.as_bytes()).expect("what was stored");
+        assert_eq!(loaded, self.model);
+        self.model = loaded;
+    }
+}
+
+/// A frame that is often a good one.
+fn frame(random: &mut Random) -> Vec<u8> {
+    let word = |random: &mut Random| [random.byte(), random.byte()];
+    let mut frame = match random.below(16) {
+        0 => vec![random.byte()],
+        1 => vec![0x05],
+        2 => vec![0x38, 0x10 | random.byte() & 0x0F, 0x10],
+        3 => vec![0x40, 0x00, 0x60],
+        4 => vec![0x40, random.byte(), random.byte()],
+        5 => vec![0x42, random.byte() & 0x1F, random.byte()],
+        6 => vec![0x43, random.byte() & 0x0F, random.byte() & 0xFC],
+        7 => vec![0x02 + (random.byte() & 1)],
+        8 => vec![0x07 + random.byte() % 4],
+        9 => vec![0xE2, 0, 0, 0, 0],
+        10 => vec![0xB0 + random.byte() % 80; 1 + 2 * random.below(9) as usize],
+        11 => vec![0xFE, 0, 0],
+        12 => vec![0x0C + (random.byte() & 1)],
+        13 => vec![0x10, random.byte() & 0x1F, random.byte() & 0xFE, 0x12, 0x34],
+        14 => vec![0x90, random.byte() & 0x1F, random.byte(), 0, 0],
+        _ => vec![0x30 + random.byte() % 20],
+    };
+    if random.below(8) == 0 {
+        for _ in 0..random.below(4) {
+            frame.extend(word(random));
+        }
+    }
+    if random.below(40) == 0 {
+        frame.truncate(random.below(3) as usize);
+    }
+    frame
+}
+
+fn hits(random: &mut Random) -> Vec<u32> {
+    let count = if random.below(8) == 0 {
+        random.below(8)
+    } else {
+        1 + random.below(6)
+    };
+    let wide = random.below(4) == 0;
+    (0..count)
+        .map(|_| random.next() as u32 >> if wide { 0 } else { 9 })
+        .collect()
+}
+
+#[test]
+fn a_million_calls() {
+    let mut random = Random(SEED);
+    let mut pair = Pair::fresh();
+    let (mut calls, mut refused, mut ticks) = (0u64, 0u64, 0u64);
+    while calls < CALLS {
+        if random.below(2_000) == 0 {
+            pair = Pair::fresh();
+        }
+        let answer = match random.below(10) {
+            0..=4 => {
+                let frame = frame(&mut random);
+                let room = random.below(3) as usize * frame.len();
+                pair.transaction(&frame, room)
+            }
+            5 => {
+                let count = 1 + random.below(30) as u32;
+                pair.ticks(count);
+                calls += u64::from(count) - 1;
+                ticks += u64::from(count);
+                None
+            }
+            6 => {
+                let bits = random.below(15);
+                let count = random.below(1 << bits) as u32;
+                pair.stretch(count);
+                ticks += u64::from(count);
+                None
+            }
+            7 | 8 => {
+                let up = hits(&mut random);
+                let down = if random.below(8) == 0 {
+                    hits(&mut random)
+                } else {
+                    up.iter().map(|&word| word ^ 0x55).collect()
+                };
+                let one_way = random.below(4) == 0;
+                pair.delivery(&up, Some(if one_way { &[] } else { &down }))
+            }
+            _ => {
+                let words: Vec<u32> = (0..4).map(|_| random.next() as u32 >> 8).collect();
+                pair.delivery(&words, None)
+            }
+        };
+        calls += 1;
+        refused += u64::from(answer.is_some());
+        pair.store_and_load();
+        if random.below(32) == 0 {
+            pair.compare();
+        }
+    }
+    pair.compare();
+    println!("{calls} calls, {refused} refused, {ticks} ticks, no difference");
+    assert!(
+        refused * 5 < calls * 4,
+        "too few accepted calls: {refused} of {calls} refused"
+    );
+}

@@ -10,6 +10,8 @@ ROOT = os.path.dirname(HERE)
 # ---- The proved program ------------------------------------------------------------------------
 # The command that builds it and the executable that this makes, both at the repository's root. It
 # takes an item on standard input. REPLAY=/path/to/executable in the environment takes its place.
+# It ends with one of these statuses where it has replayed the item, as docs/ITEMS.md says.
+STATUSES = (0, 1, 2)
 REPLAY_BUILD = ["rt", "check", "replay"]
 REPLAY_EXECUTABLE = os.path.join(ROOT, "target", "bin", "replay")
 # ------------------------------------------------------------------------------------------------
@@ -48,6 +50,12 @@ def build():
     return replay_executable(), PEER_EXECUTABLE
 
 
+def without_pages(text):
+    """The text with a comment in place of each line `show`, which the peer does not answer."""
+    lines = text.split(b"\n")
+    return b"\n".join(b"# show" if line.split() == [b"show"] else line for line in lines)
+
+
 def make_items(seed, size):
     """A text of random items and its numbers of items, calls and ticks."""
     command = [MAKE_ITEMS, str(seed), str(size)]
@@ -61,9 +69,8 @@ def stored_items():
     for folder, folders, files in os.walk(ROOT):
         folders[:] = [name for name in folders if name != "target" and not name.startswith(".")]
         found += [os.path.join(folder, name) for name in files if name.endswith(".item")]
-    crates = os.path.join(ROOT, "crates")
     for name in ("replay_all", "replay_bad"):
-        found.append(os.path.join(crates, name, "stdin"))
+        found.append(os.path.join(ROOT, "crates", name, "stdin"))
     return sorted(path for path in found if os.path.exists(path))
 
 

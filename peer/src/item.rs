@@ -1,71 +1,72 @@
 //! Items as text: one call a line.
 
-use crate::registers;
+mod text;
+
+use crate::{opcode, registers};
+
+use text::{decimal, hexadecimal, signed_decimal};
+
+pub use text::{lines, Words, DECIMAL_DIGITS};
 
 /// Bytes of a line, its line feed and carriage return not counted.
 pub const LONGEST_LINE: usize = 1_000;
 /// Bytes of a frame or of an output buffer.
 pub const LONGEST_FRAME: usize = 200;
+/// Words that one `set` line can have.
+pub const LONGEST_SET: usize = 99;
 /// Words of one delivered list.
 pub const LONGEST_LIST: usize = 16;
-/// Digits of a decimal, leading zeros included.
-pub const DECIMAL_DIGITS: usize = 10;
-
-/// A list with room for `N` entries that counts those past its room too.
-pub struct List<T, const N: usize> {
-    entries: [T; N],
-    count: usize,
-}
-
-impl<T: Copy + Default, const N: usize> List<T, N> {
-    fn new() -> Self {
-        List {
-            entries: [T::default(); N],
-            count: 0,
-        }
-    }
-
-    fn push(&mut self, entry: T) {
-        if let Some(place) = self.entries.get_mut(self.count) {
-            *place = entry;
-        }
-        self.count += 1;
-    }
-
-    fn overflows(&self) -> bool {
-        self.count > N
-    }
-
-    pub fn entries(&self) -> &[T] {
-        &self.entries[..self.count]
-    }
-}
-
-pub type Delivered = List<i64, LONGEST_LIST>;
 
 pub enum Line<'a> {
     /// No word, or a comment.
     Nothing,
     Item(Words<'a>),
+    /// Its answer is laid out by each program's makers; this one gives none.
+    Show,
+    Expect {
+        first: u8,
+        wanted: Vec<u16>,
+    },
+    Call {
+        call: Call,
+        /// The words after `=>`.
+        expected: Option<Words<'a>>,
+    },
+}
+
+/// A line that may end with an expected answer.
+pub enum Call {
     Bus {
         output_size: Option<usize>,
-        frame: List<u8, LONGEST_FRAME>,
+        frame: Vec<u8>,
+    },
+    Set {
+        opcode: u8,
+        words: Vec<u16>,
     },
     Tick(u32),
+    At(u32),
+    Stretch(u32),
     Flight {
-        up: Delivered,
-        down: Delivered,
+        up: Vec<i64>,
+        down: Vec<i64>,
     },
-    Temperature(Delivered),
+    Temperature(Vec<i64>),
     Interrupt,
     Awaited,
     Registers,
-    Expect {
-        first: u8,
-        wanted: List<u16, { registers::COUNT }>,
+    Frames,
+    Probe(Vec<u32>),
+    Degrees {
+        probe: u32,
+        reference: u32,
     },
-    /// Its answer is laid out by each program's makers; this one gives none.
-    Show,
+    Record(Vec<i32>),
+    Listing {
+        old: bool,
+        first: u32,
+    },
+    Quietest(u32),
 }
 
 /// Why a line is no call.
@@ -75,6 +76,8 @@ pub enum Fault {
     UnknownWord,
     BadNumber,
     WrongCount,
+    Past,
+    NoRoom,
 }
 
 impl Fault {
@@ -84,58 +87,51 @@ impl Fault {
             Fault::UnknownWord => "unknown word",
             Fault::BadNumber => "bad number",
             Fault::WrongCount => "wrong count",
+            Fault::Past => "past",
+            Fault::NoRoom => "no room",
         }
     }
-}
-
-/// The words of a line, parted by blanks and tabs.
-#[derive(Clone)]
-pub struct Words<'a> {
-    rest: &'a [u8],
-}
-
-impl<'a> Iterator for Words<'a> {
-    type Item = &'a [u8];
-
-    fn next(&mut self) -> Option<&'a [u8]> {
-        let is_blank = |byte: &u8| matches!(byte, b' ' | b'\t');
-        let start = self.rest.iter().position(|byte| !is_blank(byte))?;
-        let rest = &self.rest[start..];
-        let end = rest.iter().position(is_blank).unwrap_or(rest.len());
-        let (word, rest) = rest.split_at(end);
-        self.rest = rest;
-        Some(word)
-    }
-}
-
-/// The lines of a text without their line feeds and one carriage return before each.
-pub fn lines(text: &[u8]) -> impl Iterator<Item = &[u8]> {
-    text.split_inclusive(|&byte| byte == b'\n').map(|line| {
-        let line = line.strip_suffix(b"\n").unwrap_or(line);
-        line.strip_suffix(b"\r").unwrap_or(line)
-    })
 }
 
 pub fn parse(line: &[u8]) -> Result<Line<'_>, Fault> {
     if line.len() > LONGEST_LINE {
         return Err(Fault::TooLong);
     }
-    let mut words = Words { rest: line };
+    let mut words = Words::of(line);
     let Some(first) = words.next() else {
         return Ok(Line::Nothing);
     };
     match first {
         [b'#', ..] => Ok(Line::Nothing),
         b"item" => named(words),
+        b"show" => end(words).map(|()| Line::Show),
+        b"expect" => expect(words),
+        name => {
+            let (words, expected) = words.split_at_arrow();
+            let call = call(name, words)?;
+            Ok(Line::Call { call, expected })
+        }
+    }
+}
+
+fn call(name: &[u8], words: Words) -> Result<Call, Fault> {
+    match name {
         b"bus" => bus(words),
-        b"tick" => tick(words),
+        b"set" => set(words),
+        b"tick" => Ok(Call::Tick(number(words)?)),
+        b"at" => Ok(Call::At(number(words)?)),
+        b"stretch" => Ok(Call::Stretch(number(words)?)),
         b"flight" => flight(words),
         b"temperature" => temperature(words),
-        b"int" => alone(Line::Interrupt, words),
-        b"awaited" => alone(Line::Awaited, words),
-        b"regs" => alone(Line::Registers, words),
-        b"expect" => expect(words),
-        b"show" => alone(Line::Show, words),
+        b"int" => end(words).map(|()| Call::Interrupt),
+        b"awaited" => end(words).map(|()| Call::Awaited),
+        b"regs" => end(words).map(|()| Call::Registers),
+        b"frames" => end(words).map(|()| Call::Frames),
+        b"probe" => probe(words),
+        b"degrees" => degrees(words),
+        b"record" => record(words),
+        b"listing" => listing(words),
+        b"quietest" => Ok(Call::Quietest(number(words)?)),
         _ => Err(Fault::UnknownWord),
     }
 }
@@ -147,39 +143,61 @@ fn named(words: Words) -> Result<Line, Fault> {
     Ok(Line::Item(words))
 }
 
-fn alone<'a>(line: Line<'a>, mut words: Words) -> Result<Line<'a>, Fault> {
+/// No further word may follow.
+fn end(mut words: Words) -> Result<(), Fault> {
     match words.next() {
-        None => Ok(line),
+        None => Ok(()),
         Some(_) => Err(Fault::WrongCount),
     }
 }
 
-fn bus(words: Words) -> Result<Line, Fault> {
+/// The decimal that a line has alone.
+fn number(mut words: Words) -> Result<u32, Fault> {
+    let value = words.next().ok_or(Fault::WrongCount)?;
+    let value = decimal(value, u32::MAX)?;
+    end(words)?;
+    Ok(value)
+}
+
+fn bus(words: Words) -> Result<Call, Fault> {
     let mut words = words.peekable();
     let mut output_size = None;
     if let Some(digits) = words.peek().and_then(|word| word.strip_prefix(b"out=")) {
-        output_size = Some(decimal(digits, LONGEST_FRAME as u64)? as usize);
+        output_size = Some(decimal(digits, LONGEST_FRAME as u32)? as usize);
         words.next();
     }
-    let mut frame = List::new();
+    let mut frame = Vec::with_capacity(LONGEST_FRAME);
     for word in words {
         frame.push(hexadecimal(word, 2, 2)? as u8);
     }
-    if frame.overflows() {
+    if frame.len() > LONGEST_FRAME {
         return Err(Fault::WrongCount);
     }
-    Ok(Line::Bus { output_size, frame })
+    Ok(Call::Bus { output_size, frame })
 }
 
-fn tick(mut words: Words) -> Result<Line, Fault> {
-    let count = words.next().ok_or(Fault::WrongCount)?;
-    let count = decimal(count, u64::from(u32::MAX))?;
-    alone(Line::Tick(count as u32), words)
+fn set(mut words: Words) -> Result<Call, Fault> {
+    let first = words.next().ok_or(Fault::WrongCount)?;
+    let opcode = hexadecimal(first, 2, 2)? as u8;
+    if !(opcode::FIRST_WRITE..=opcode::LAST_WRITE).contains(&opcode) {
+        return Err(Fault::BadNumber);
+    }
+    let mut list = Vec::with_capacity(LONGEST_SET);
+    for word in words {
+        list.push(hexadecimal(word, 1, 4)? as u16);
+    }
+    if !(1..=LONGEST_SET).contains(&list.len()) {
+        return Err(Fault::WrongCount);
+    }
+    Ok(Call::Set {
+        opcode,
+        words: list,
+    })
 }
 
-fn flight(words: Words) -> Result<Line, Fault> {
-    let mut up = Delivered::new();
-    let mut down = Delivered::new();
+fn flight(words: Words) -> Result<Call, Fault> {
+    let mut up = Vec::with_capacity(LONGEST_LIST);
+    let mut down = Vec::with_capacity(LONGEST_LIST);
     let mut separators = 0;
     for word in words {
         if word == b"/" {
@@ -189,21 +207,57 @@ fn flight(words: Words) -> Result<Line, Fault> {
         let list = if separators == 0 { &mut up } else { &mut down };
         list.push(i64::from(hexadecimal(word, 1, 8)?));
     }
-    if separators != 1 || up.overflows() || down.overflows() {
+    if separators != 1 || up.len() > LONGEST_LIST || down.len() > LONGEST_LIST {
         return Err(Fault::WrongCount);
     }
-    Ok(Line::Flight { up, down })
+    Ok(Call::Flight { up, down })
 }
 
-fn temperature(words: Words) -> Result<Line, Fault> {
-    let mut list = Delivered::new();
+fn temperature(words: Words) -> Result<Call, Fault> {
+    let mut list = Vec::with_capacity(LONGEST_LIST);
     for word in words {
         list.push(i64::from(hexadecimal(word, 1, 8)?));
     }
-    if list.overflows() {
+    if list.len() > LONGEST_LIST {
         return Err(Fault::WrongCount);
     }
-    Ok(Line::Temperature(list))
+    Ok(Call::Temperature(list))
+}
+
+fn probe(words: Words) -> Result<Call, Fault> {
+    let entries: Vec<u32> = words
+        .map(|word| decimal(word, u32::MAX))
+        .collect::<Result<_, _>>()?;
+    if entries.is_empty() {
+        return Err(Fault::WrongCount);
+    }
+    Ok(Call::Probe(entries))
+}
+
+fn degrees(mut words: Words) -> Result<Call, Fault> {
+    let mut word = || {
+        let word = words.next().ok_or(Fault::WrongCount)?;
+        hexadecimal(word, 1, 8)
+    };
+    let [probe, reference] = [word()?, word()?];
+    end(words)?;
+    Ok(Call::Degrees { probe, reference })
+}
+
+fn record(words: Words) -> Result<Call, Fault> {
+    let differences = words.map(signed_decimal).collect::<Result<_, _>>()?;
+    Ok(Call::Record(differences))
+}
+
+fn listing(mut words: Words) -> Result<Call, Fault> {
+    let mut first = words.next();
+    let old = first == Some(b"old");
+    if old {
+        first = words.next();
+    }
+    let first = hexadecimal(first.ok_or(Fault::WrongCount)?, 1, 8)?;
+    end(words)?;
+    Ok(Call::Listing { old, first })
 }
 
 /// Words past the last register are not looked into.
@@ -213,39 +267,15 @@ fn expect(mut words: Words) -> Result<Line, Fault> {
     if first < registers::FIRST {
         return Err(Fault::BadNumber);
     }
-    let mut wanted = List::new();
+    let mut wanted = Vec::new();
     for word in words.by_ref().take(registers::words_from(first)) {
         wanted.push(hexadecimal(word, 1, 4)? as u16);
     }
-    if wanted.count == 0 {
+    if wanted.is_empty() {
         return Err(Fault::WrongCount);
     }
-    alone(Line::Expect { first, wanted }, words)
-}
-
-fn decimal(word: &[u8], largest: u64) -> Result<u64, Fault> {
-    if !(1..=DECIMAL_DIGITS).contains(&word.len()) || !word.iter().all(u8::is_ascii_digit) {
-        return Err(Fault::BadNumber);
-    }
-    let value = word
-        .iter()
-        .fold(0, |value, digit| value * 10 + u64::from(digit - b'0'));
-    if value > largest {
-        return Err(Fault::BadNumber);
-    }
-    Ok(value)
-}
-
-fn hexadecimal(word: &[u8], fewest_digits: usize, most_digits: usize) -> Result<u32, Fault> {
-    if !(fewest_digits..=most_digits).contains(&word.len()) {
-        return Err(Fault::BadNumber);
-    }
-    let mut value = 0;
-    for &digit in word {
-        let digit = char::from(digit).to_digit(16).ok_or(Fault::BadNumber)?;
-        value = value << 4 | digit;
-    }
-    Ok(value)
+    end(words)?;
+    Ok(Line::Expect { first, wanted })
 }
 
 #[cfg(test)]
@@ -257,29 +287,38 @@ mod tests {
     }
 
     #[test]
-    fn line_ends() {
-        let found: Vec<&[u8]> = lines(b"a\r\nb\n\r\r\nc\r").collect();
-        assert_eq!(found, [&b"a"[..], b"b", b"\r", b"c"]);
-    }
-
-    #[test]
     fn the_longest_line() {
         let comment = format!("#{}", "x".repeat(LONGEST_LINE - 1));
         assert_eq!(fault(&comment), None);
         assert_eq!(fault(&format!("{comment}x")), Some(Fault::TooLong));
+        let most = format!("record{}", " 1".repeat((LONGEST_LINE - 6) / 2));
+        assert_eq!((fault(&most), most.len()), (None, LONGEST_LINE));
     }
 
     #[test]
-    fn numbers_in_their_range() {
-        for line in [
+    fn lines_that_are_calls() {
+        let lines = [
             "tick 4294967295",
             "tick 0000000003",
             "bus out=200 ff",
             "bus",
             "flight /",
-        ] {
-            assert_eq!(fault(line), None);
+            "set 43 0",
+            "record",
+            "listing old FFFFFFFF",
+            "int => x",
+            "bus 05 =>",
+            "temperature => =>",
+            "item =>",
+            "# => x",
+        ];
+        for line in lines {
+            assert_eq!(fault(line), None, "{line}");
         }
+    }
+
+    #[test]
+    fn bad_numbers() {
         let lines = [
             "tick 4294967296",
             "tick 00000000003",
@@ -291,27 +330,61 @@ mod tests {
             "temperature 000000001",
             "expect AF 0",
             "expect FF x 0",
+            "expect E0 0 => ok",
+            "set 2F 0",
+            "set 44 0",
+            "set 30 x => ok",
+            "at -1",
+            "stretch x",
+            "degrees x",
+            "degrees 1 123456789",
+            "probe 1 -1",
+            "record 2147483648",
+            "listing old old",
+            "quietest 1.0",
         ];
         for line in lines {
-            assert_eq!(fault(line), Some(Fault::BadNumber));
+            assert_eq!(fault(line), Some(Fault::BadNumber), "{line}");
         }
     }
 
     #[test]
-    fn numbers_of_words() {
+    fn wrong_counts() {
         let crowded = format!("bus{}", " 00".repeat(LONGEST_FRAME + 1));
+        let crowded_set = format!("set 30{}", " 0".repeat(LONGEST_SET + 1));
         let lines = [
             "tick",
             "tick 5 x",
+            "tick => 5",
             "flight 1",
             "flight / /",
             "expect FF 0 x",
+            "expect FF 0 => ok",
             "item",
+            "show => x",
+            "set",
+            "set 30",
+            "int x => x",
+            "degrees 1",
+            "degrees 1 2 x",
+            "probe",
+            "listing",
+            "listing old",
+            "listing 1 x",
+            "quietest 1 x",
+            "frames x",
             &crowded,
+            &crowded_set,
         ];
         for line in lines {
-            assert_eq!(fault(line), Some(Fault::WrongCount));
+            assert_eq!(fault(line), Some(Fault::WrongCount), "{line}");
         }
-        assert_eq!(fault("ticks 5"), Some(Fault::UnknownWord));
+    }
+
+    #[test]
+    fn unknown_words() {
+        for line in ["ticks 5", "=> 5", "frame", "Tick 5", "expected"] {
+            assert_eq!(fault(line), Some(Fault::UnknownWord), "{line}");
+        }
     }
 }

@@ -8,13 +8,16 @@ mod flight;
 pub mod item;
 mod model;
 pub mod opcode;
+pub mod record;
 mod refusal;
 pub mod registers;
 mod replay;
+mod set_up_frames;
 mod temperature;
+pub mod thermometer;
 mod transaction;
 
 #[cfg(test)]
 mod chip;
 
-pub use replay::replay;
+pub use replay::{replay, LARGEST_PROBE_TABLE, LONGEST_RECORD, LONGEST_STRETCH};

@@ -14,9 +14,14 @@ pub enum Refusal {
     SetUp,
     NotAwaited,
     WordCount,
-    SupplyOff = 15,
+    Span,
+    OffTheTable,
+    BadTable,
+    SupplyOff,
     FlashAddress,
     NotErased,
+    Width,
+    CaptureNumber = 20,
 }
 
 impl Refusal {
@@ -33,9 +38,14 @@ impl Refusal {
             Refusal::SetUp => "set-up",
             Refusal::NotAwaited => "not awaited",
             Refusal::WordCount => "word count",
+            Refusal::Span => "span",
+            Refusal::OffTheTable => "off the table",
+            Refusal::BadTable => "bad table",
             Refusal::SupplyOff => "supply off",
             Refusal::FlashAddress => "flash address",
             Refusal::NotErased => "not erased",
+            Refusal::Width => "width",
+            Refusal::CaptureNumber => "capture number",
         }
     }
 }

@@ -6,6 +6,8 @@ use crate::event::Timing;
 use crate::opcode::{FIRST_READ, LAST_READ, LAST_WRITE, READ_ABOVE_WRITE};
 
 pub const FIRST: u8 = FIRST_READ;
+/// The first that is not the clock's.
+pub const FIRST_SET_UP: u8 = 0xB4;
 pub const ALARM: u8 = 0xB5;
 pub const TOF1: u8 = 0xB8;
 const TOF2: u8 = 0xB9;
@@ -59,6 +61,9 @@ pub const EOSC: u16 = 1 << 4;
 /// The bits of the same register that say when the alarm flag is set.
 pub const ALARM_MODE: u16 = 3 << 2;
 
+/// The bits of the Event Timing 2 register that have all four ports measured.
+pub const ALL_PORTS: u16 = 3 << 5;
+
 /// HIT pairs of one direction.
 pub const HITS: usize = 6;
 /// Temperature ports.
@@ -106,6 +111,12 @@ impl Registers {
         self.set(address + 1, value as u16);
     }
 
+    /// TOF_DIFF as the signed number that its pair holds.
+    pub fn difference(&self) -> i32 {
+        let [int, frac] = [TOF_DIFF, TOF_DIFF + 1].map(|address| u32::from(self.get(address)));
+        (int << 16 | frac) as i32
+    }
+
     pub fn raise(&mut self, status_bits: u16) {
         self.set(STATUS, self.get(STATUS) | status_bits);
     }
@@ -151,7 +162,7 @@ impl Registers {
 
     /// All four ports are measured.
     pub fn temperature_ready(&self) -> bool {
-        self.field(EVENT_TIMING_2, 6, 5) == 3
+        self.get(EVENT_TIMING_2) & ALL_PORTS == ALL_PORTS
     }
 
     /// Hits of each measured direction.
@@ -208,6 +219,15 @@ mod tests {
         let mut registers = Registers::factory();
         registers.set(address, word);
         registers
+    }
+
+    #[test]
+    fn a_difference_is_signed() {
+        let mut registers = Registers::factory();
+        for difference in [-125_902, -1, 0, i32::MAX, i32::MIN] {
+            registers.set_pair(TOF_DIFF, i64::from(difference));
+            assert_eq!(registers.difference(), difference);
+        }
     }
 
     #[test]

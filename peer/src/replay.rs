@@ -1,36 +1,70 @@
 //! Replays an item's lines on the model and writes their answers.
 
+mod answers;
+mod expectation;
+
 use std::io::{self, Write};
 
 use answers::Answers;
 
 use crate::flash;
-use crate::item::{self, Fault, Line, Words, LONGEST_FRAME};
+use crate::item::{self, Call, Fault, Line, Words, LONGEST_FRAME, LONGEST_SET};
 use crate::model::{Model, Outcome, TickReport};
 use crate::opcode;
+use crate::record;
 use crate::refusal::Refusal;
 use crate::registers;
+use crate::set_up_frames;
+use crate::thermometer;
 use crate::transaction::Started;
-
-mod answers;
 
 /// What an output buffer holds before a call.
 const UNTOUCHED: u8 = 0xEE;
 /// Answers are handed on when this many bytes have gathered.
 const BLOCK: usize = 1 << 16;
+/// Ticks of one stretch.
+pub const LONGEST_STRETCH: u32 = 16_384;
+/// Differences that an item's record holds.
+pub const LONGEST_RECORD: usize = 4_096;
+/// Entries that an item's own probe table holds, those of a table that `degrees` refuses too.
+pub const LARGEST_PROBE_TABLE: usize = 1_024;
+
+/// What the lines of one item share.
+struct Item {
+    model: Model,
+    /// The user flash.
+    memory: Vec<u8>,
+    record: Vec<i32>,
+    probe_table: Vec<u32>,
+    /// Ticks since the last transaction that started a measurement, or since the item's start.
+    moment: u64,
+}
+
+impl Item {
+    fn fresh() -> Item {
+        Item {
+            model: Model::fresh(),
+            memory: vec![flash::ERASED; flash::MEMORY],
+            record: Vec::new(),
+            probe_table: Vec::new(),
+            moment: 0,
+        }
+    }
+}
 
 #[derive(Default)]
 struct Counts {
     calls: u64,
     refused: u64,
+    unannounced: u64,
     bad_lines: u64,
+    expectations: u64,
     differing: u64,
 }
 
 struct Replay {
-    model: Model,
-    /// The item's user flash.
-    memory: Vec<u8>,
+    item: Item,
+    pt1000: Vec<u32>,
     counts: Counts,
     answers: Answers,
 }
@@ -38,15 +72,14 @@ struct Replay {
 /// Replays the whole text.
 pub fn replay<W: Write>(text: &[u8], mut sink: W) -> io::Result<()> {
     let mut replay = Replay {
-        model: Model::fresh(),
-        memory: vec![flash::ERASED; flash::MEMORY],
+        item: Item::fresh(),
+        pt1000: thermometer::pt1000(),
         counts: Counts::default(),
         answers: Answers::with_capacity(2 * BLOCK),
     };
     for (index, line) in item::lines(text).enumerate() {
-        match item::parse(line) {
-            Ok(line) => replay.answer(line),
-            Err(fault) => replay.bad_line(index + 1, fault),
+        if let Err(fault) = replay.line(line) {
+            replay.bad_line(index + 1, fault);
         }
         if replay.answers.len() >= BLOCK {
             replay.answers.hand_on(&mut sink)?;
@@ -58,50 +91,67 @@ pub fn replay<W: Write>(text: &[u8], mut sink: W) -> io::Result<()> {
 }
 
 impl Replay {
-    fn answer(&mut self, line: Line) {
-        match line {
+    fn line(&mut self, line: &[u8]) -> Result<(), Fault> {
+        match item::parse(line)? {
             Line::Nothing | Line::Show => {}
-            Line::Item(words) => self.item(words),
-            Line::Bus { output_size, frame } => self.bus(output_size, frame.entries()),
-            Line::Tick(count) => self.ticks(count),
-            Line::Flight { up, down } => {
-                let answer = self.model.deliver_flight(up.entries(), down.entries());
+            Line::Item(words) => self.begin_item(words),
+            Line::Expect { first, wanted } => self.expect(first, &wanted),
+            Line::Call { call, expected } => {
+                let start = self.answers.len();
+                let refused = self.counts.refused;
+                self.call(&call)?;
+                let agrees = match expected {
+                    Some(expected) => self.judge(start, expected),
+                    None => false,
+                };
+                if !agrees {
+                    self.counts.unannounced += self.counts.refused - refused;
+                }
+            }
+        }
+        Ok(())
+    }
+
+    fn begin_item(&mut self, words: Words) {
+        self.item = Item::fresh();
+        self.answers.put(b"item");
+        self.answers.words(words);
+        self.answers.put(b"\n");
+    }
+
+    /// Answers a call, in one line or more; a fault leaves everything as it was.
+    fn call(&mut self, call: &Call) -> Result<(), Fault> {
+        match call {
+            Call::Bus { output_size, frame } => self.bus(*output_size, frame),
+            Call::Set { opcode, words } => self.set(*opcode, words),
+            Call::Tick(count) => self.tick(*count),
+            Call::At(moment) => self.at(*moment)?,
+            Call::Stretch(count) => self.stretch(*count),
+            Call::Flight { up, down } => {
+                let answer = self.item.model.deliver_flight(up, down);
                 self.delivery("flight", answer);
             }
-            Line::Temperature(words) => {
-                let answer = self.model.deliver_temperature(words.entries());
+            Call::Temperature(words) => {
+                let answer = self.item.model.deliver_temperature(words);
                 self.delivery("temperature", answer);
             }
-            Line::Interrupt => {
-                let answer = if self.model.interrupt() { "yes" } else { "no" };
-                self.answers.print(format_args!("int {answer}\n"));
-            }
-            Line::Awaited => {
-                let flight = u8::from(self.model.flight.is_awaited());
-                let temperature = u8::from(self.model.temperature.is_awaited());
-                self.answers
-                    .print(format_args!("awaited {flight} {temperature}\n"));
-            }
-            Line::Registers => self.registers(),
-            Line::Expect { first, wanted } => self.expect(first, wanted.entries()),
+            Call::Interrupt => self.interrupt(),
+            Call::Awaited => self.awaited(),
+            Call::Registers => self.registers(),
+            Call::Frames => self.frames(),
+            Call::Probe(entries) => self.probe(entries)?,
+            Call::Degrees { probe, reference } => self.degrees(*probe, *reference),
+            Call::Record(differences) => self.record(differences)?,
+            Call::Listing { old, first } => self.listing(*old, *first),
+            Call::Quietest(width) => self.quietest(*width),
         }
+        Ok(())
     }
 
     fn bad_line(&mut self, number: usize, fault: Fault) {
         self.counts.bad_lines += 1;
         let text = fault.text();
         self.answers.print(format_args!("line {number}: {text}\n"));
-    }
-
-    fn item(&mut self, words: Words) {
-        self.model = Model::fresh();
-        self.memory.fill(flash::ERASED);
-        self.answers.put(b"item");
-        for word in words {
-            self.answers.put(b" ");
-            self.answers.put(word);
-        }
-        self.answers.put(b"\n");
     }
 
     fn bus(&mut self, output_size: Option<usize>, frame: &[u8]) {
@@ -112,14 +162,7 @@ impl Replay {
         });
         let mut output = [UNTOUCHED; LONGEST_FRAME];
         let output = &mut output[..size];
-        self.counts.calls += 1;
-        match self.model.transaction(frame, output, &mut self.memory) {
-            Ok(started) => {
-                self.answers.put(b"bus ok ");
-                self.answers.put(started_text(started));
-            }
-            Err(refusal) => self.refused("bus", refusal),
-        }
+        self.transaction("bus", frame, output);
         if !output.is_empty() {
             self.answers.put(b" out ");
             for &byte in output.iter() {
@@ -129,19 +172,71 @@ impl Replay {
         self.answers.put(b"\n");
     }
 
-    fn ticks(&mut self, count: u32) {
+    fn set(&mut self, opcode: u8, words: &[u16]) {
+        let mut frame = Vec::with_capacity(1 + 2 * LONGEST_SET);
+        frame.push(opcode);
+        for word in words {
+            frame.extend(word.to_be_bytes());
+        }
+        self.transaction("set", &frame, &mut []);
+        self.answers.put(b"\n");
+    }
+
+    fn transaction(&mut self, name: &str, frame: &[u8], output: &mut [u8]) {
+        self.counts.calls += 1;
+        let Item { model, memory, .. } = &mut self.item;
+        match model.transaction(frame, output, memory) {
+            Ok(started) => {
+                if started != Started::default() {
+                    self.item.moment = 0;
+                }
+                self.answers.put(name.as_bytes());
+                self.answers.put(b" ok ");
+                self.answers.put(started_text(started));
+            }
+            Err(refusal) => self.refused(name, refusal),
+        }
+    }
+
+    fn tick(&mut self, count: u32) {
         self.counts.calls += 1;
         self.answers.print(format_args!("tick {count}"));
-        for number in 1..=count {
-            let report = self.model.tick();
+        self.ticks(u64::from(count), 0);
+    }
+
+    fn at(&mut self, moment: u32) -> Result<(), Fault> {
+        let now = self.item.moment;
+        let count = u64::from(moment).checked_sub(now).ok_or(Fault::Past)?;
+        self.counts.calls += 1;
+        self.answers.print(format_args!("at {moment}"));
+        self.ticks(count, now);
+        Ok(())
+    }
+
+    fn stretch(&mut self, count: u32) {
+        self.counts.calls += 1;
+        if count > LONGEST_STRETCH {
+            self.refused("stretch", Refusal::Span);
+            self.answers.put(b"\n");
+        } else {
+            self.answers.print(format_args!("stretch {count}"));
+            self.ticks(u64::from(count), 0);
+        }
+    }
+
+    /// Single ticks and the rest of their line; the reports count on from `before`.
+    fn ticks(&mut self, count: u64, before: u64) {
+        for number in before + 1..=before + count {
+            let report = self.item.model.tick();
             if !report.is_empty() {
                 self.tick_report(report, number);
             }
         }
+        self.item.moment += count;
         self.answers.put(b"\n");
     }
 
-    fn tick_report(&mut self, report: TickReport, number: u32) {
+    fn tick_report(&mut self, report: TickReport, number: u64) {
         let what = [
             (report.flight_failed, "failed-flight"),
             (report.flight_started, "started-flight"),
@@ -165,6 +260,7 @@ impl Replay {
         self.answers.put(b"\n");
     }
 
+    /// A refusal, without its line feed.
     fn refused(&mut self, name: &str, refusal: Refusal) {
         self.counts.refused += 1;
         let (number, word) = (refusal as u8, refusal.word());
@@ -172,53 +268,131 @@ impl Replay {
             .print(format_args!("{name} no {number} {word}"));
     }
 
+    fn interrupt(&mut self) {
+        let answer = if self.item.model.interrupt() {
+            "yes"
+        } else {
+            "no"
+        };
+        self.answers.print(format_args!("int {answer}\n"));
+    }
+
+    fn awaited(&mut self) {
+        let flight = u8::from(self.item.model.flight.is_awaited());
+        let temperature = u8::from(self.item.model.temperature.is_awaited());
+        self.answers
+            .print(format_args!("awaited {flight} {temperature}\n"));
+    }
+
     fn registers(&mut self) {
         for first in (registers::FIRST..=registers::LAST).step_by(8) {
             self.answers.byte(first);
             for address in first..=first + 7 {
                 self.answers.put(b" ");
-                self.answers.word(self.model.register(address));
+                self.answers.word(self.item.model.register(address));
             }
             self.answers.put(b"\n");
         }
     }
 
-    fn expect(&mut self, first: u8, wanted: &[u16]) {
-        self.answers.put(b"expect ");
-        self.answers.byte(first);
-        let mut differing = 0;
-        for (address, &wanted) in (first..=registers::LAST).zip(wanted) {
-            let has = self.model.register(address);
-            if has == wanted {
-                continue;
+    fn frames(&mut self) {
+        self.counts.calls += 1;
+        let frames = set_up_frames::frames(&self.item.model.registers);
+        self.answers
+            .print(format_args!("frames {}\n", frames.len()));
+        for frame in frames {
+            self.answers.put(b"frame");
+            for byte in frame {
+                self.answers.put(b" ");
+                self.answers.byte(byte);
             }
-            if differing == 0 {
-                self.answers.put(b" differs");
-            }
-            differing += 1;
-            self.answers.put(b" ");
-            self.answers.byte(address);
-            self.answers.put(b":");
-            self.answers.word(has);
-            self.answers.put(b"/");
-            self.answers.word(wanted);
+            self.answers.put(b"\n");
         }
-        if differing == 0 {
-            self.answers.put(b" ok");
+    }
+
+    fn probe(&mut self, entries: &[u32]) -> Result<(), Fault> {
+        let table = &mut self.item.probe_table;
+        add_within(table, entries, LARGEST_PROBE_TABLE)?;
+        self.answers.print(format_args!("probe {}\n", table.len()));
+        Ok(())
+    }
+
+    fn degrees(&mut self, probe: u32, reference: u32) {
+        self.counts.calls += 1;
+        let table = match self.item.probe_table.as_slice() {
+            [] => &self.pt1000,
+            own => own,
+        };
+        match thermometer::degrees(table, probe, reference) {
+            Ok(thousandths) => {
+                let (whole, part) = (thousandths / 1_000, thousandths % 1_000);
+                self.answers
+                    .print(format_args!("degrees {whole}.{part:03}"));
+            }
+            Err(refusal) => self.refused("degrees", refusal),
         }
         self.answers.put(b"\n");
-        self.counts.differing += differing;
+    }
+
+    fn record(&mut self, differences: &[i32]) -> Result<(), Fault> {
+        let measured = [self.item.model.registers.difference()];
+        let added = if differences.is_empty() {
+            &measured
+        } else {
+            differences
+        };
+        add_within(&mut self.item.record, added, LONGEST_RECORD)?;
+        self.answers.put(b"record");
+        for difference in added {
+            self.answers.print(format_args!(" {difference}"));
+        }
+        self.answers.put(b"\n");
+        Ok(())
+    }
+
+    fn listing(&mut self, old: bool, first: u32) {
+        self.counts.calls += 1;
+        let digits = if old {
+            record::OLD_DIGITS
+        } else {
+            record::DIGITS
+        };
+        match record::listing(&self.item.record, first, digits) {
+            Ok(lines) => {
+                let count = self.item.record.len();
+                self.answers.print(format_args!("listing {count}\n{lines}"));
+            }
+            Err(refusal) => {
+                self.refused("listing", refusal);
+                self.answers.put(b"\n");
+            }
+        }
+    }
+
+    fn quietest(&mut self, width: u32) {
+        self.counts.calls += 1;
+        match record::quietest(&self.item.record, width as usize) {
+            Ok((start, spread)) => {
+                self.answers
+                    .print(format_args!("quietest {start} {spread}"));
+            }
+            Err(refusal) => self.refused("quietest", refusal),
+        }
+        self.answers.put(b"\n");
     }
 
     fn end(&mut self) {
         let Counts {
             calls,
             refused,
+            unannounced,
             bad_lines,
+            expectations,
             differing,
         } = self.counts;
         self.answers.print(format_args!(
-            "end {calls} calls, {refused} refused, {bad_lines} bad lines, {differing} expectations differ\n"
+            "end {calls} calls, {refused} refused, {unannounced} unannounced, \
+             {bad_lines} bad lines, {expectations} expectations, {differing} differ\n"
         ));
     }
 }
@@ -230,6 +404,15 @@ fn started_text(started: Started) -> &'static [u8] {
         (false, true) => b"temperature",
         (true, true) => b"flight+temperature",
     }
+}
+
+/// Adds all of them, or none where they would be more than `most`.
+fn add_within<T: Copy>(list: &mut Vec<T>, added: &[T], most: usize) -> Result<(), Fault> {
+    if list.len() + added.len() > most {
+        return Err(Fault::NoRoom);
+    }
+    list.extend_from_slice(added);
+    Ok(())
 }
 
 #[cfg(test)]
@@ -248,7 +431,7 @@ mod tests {
             tick 3\nflight 64 / 1\nexpect E2 0 63\nbus FE 00 00\nint\nbus 06";
         let wanted = "item one\nbus ok -\nbus ok -\nbus ok flight\nawaited 1 0\n\
             tick 3\nflight good\nexpect E2 ok\nbus ok - out 100C\nint no\nbus no 2 opcode\n\
-            end 7 calls, 1 refused, 0 bad lines, 0 expectations differ\n";
+            end 7 calls, 1 refused, 1 unannounced, 0 bad lines, 2 expectations, 0 differ\n";
         assert_eq!(answers(text), wanted);
     }
 
@@ -258,7 +441,16 @@ mod tests {
             bus 90 00 00 00 00\nbus 0C\nbus out=3 90 00 00 00 00\n";
         let wanted = "bus ok -\nbus ok -\nbus ok - out 1234\nitem item 2\n\
             bus no 15 supply off out EEEE\nbus ok -\nbus ok - out FFFFEE\n\
-            end 6 calls, 1 refused, 0 bad lines, 0 expectations differ\n";
+            end 6 calls, 1 refused, 1 unannounced, 0 bad lines, 0 expectations, 0 differ\n";
+        assert_eq!(answers(text), wanted);
+    }
+
+    #[test]
+    fn an_item_has_its_own_record_and_probe() {
+        let text = "record 1\nprobe 0 1\ndegrees 0 1\nitem x\nlisting 0\ndegrees 0 1\n";
+        let wanted = "record 1\nprobe 2\ndegrees 0.000\nitem x\nlisting 0\n\
+            degrees no 13 off the table\n\
+            end 3 calls, 1 refused, 1 unannounced, 0 bad lines, 0 expectations, 0 differ\n";
         assert_eq!(answers(text), wanted);
     }
 
@@ -267,7 +459,27 @@ mod tests {
         let text = "# no call\n\ntick x\nbus 5\nflight 1\nexpect E2 1\n";
         let wanted = "line 3: bad number\nline 4: bad number\nline 5: wrong count\n\
             expect E2 differs E2:0000/0001\n\
-            end 0 calls, 0 refused, 3 bad lines, 1 expectations differ\n";
+            end 0 calls, 0 refused, 0 unannounced, 3 bad lines, 1 expectations, 1 differ\n";
         assert_eq!(answers(text), wanted);
+    }
+
+    #[test]
+    fn moments_count_from_the_last_start() {
+        let text = "tick 5\nat 7\nset 38 0110\nbus 05\nat 6\nstretch 3\nat 10\nbus 02\nat 8192\n\
+            bus 02\nbus 02\nat 0\nat 8200\nitem x\nat 0\n";
+        let wanted = "tick 5\nat 7\nset ok -\nbus ok -\nline 5: past\nstretch 3\nat 10\n\
+            bus ok flight\nat 8192 failed-flight@8192\nbus ok flight\nbus no 6 busy\nat 0\n\
+            at 8200 failed-flight@8192\nitem x\nat 0\n\
+            end 13 calls, 1 refused, 1 unannounced, 1 bad lines, 0 expectations, 0 differ\n";
+        assert_eq!(answers(text), wanted);
+    }
+
+    #[test]
+    fn a_full_record_takes_no_more() {
+        let mut text = "record 7 7 7 7 7 7 7 7\n".repeat(LONGEST_RECORD / 8);
+        text += "record\nquietest 4096\n";
+        let given = answers(&text);
+        let last: Vec<&str> = given.lines().rev().take(3).collect();
+        assert_eq!(last[1..], ["quietest 0 0", "line 513: no room"]);
     }
 }

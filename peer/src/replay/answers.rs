@@ -3,6 +3,8 @@
 use std::fmt;
 use std::io::{self, Write};
 
+use crate::item::Words;
+
 pub struct Answers {
     text: Vec<u8>,
 }
@@ -39,6 +41,26 @@ impl Answers {
         for byte in word.to_be_bytes() {
             self.byte(byte);
         }
+    }
+
+    /// Each word with a blank before it.
+    pub fn words(&mut self, words: Words) {
+        for word in words {
+            self.put(b" ");
+            self.put(word);
+        }
+    }
+
+    /// The line that begins at `start`, without its line feed.
+    pub fn line_from(&self, start: usize) -> &[u8] {
+        let rest = &self.text[start..];
+        let end = rest.iter().position(|&byte| byte == b'\n');
+        &rest[..end.unwrap_or(rest.len())]
+    }
+
+    /// Takes back what stands from `place` on.
+    pub fn take_from(&mut self, place: usize) -> Vec<u8> {
+        self.text.split_off(place)
     }
 
     pub fn hand_on<W: Write>(&mut self, sink: &mut W) -> io::Result<()> {

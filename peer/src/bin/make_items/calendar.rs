@@ -135,7 +135,7 @@ impl Maker {
             let early = self.random.below(2);
             self.wait(seconds * second - early);
         }
-        self.probe();
+        self.look();
     }
 }
 

@@ -2,11 +2,11 @@
 
 use peer::event::{Timing, DELIVERY_LIMIT};
 use peer::opcode::{HALT, RESET};
-use peer::registers::{control, CALIBRATION_AND_CONTROL, EVENT_TIMING_1, TOF1};
+use peer::registers::{control, ALL_PORTS, CALIBRATION_AND_CONTROL, EVENT_TIMING_1, TOF1};
 
 use crate::events::{Action, Plan};
 use crate::maker::Maker;
-use crate::set_up::{timing_words, ALL_PORTS};
+use crate::set_up::timing_words;
 
 impl Maker {
     /// An event over one group or more, mostly ended by HALT, and sometimes left running.

@@ -4,7 +4,7 @@ use peer::event::DELIVERY_LIMIT;
 use peer::opcode::{
     EVTMG1, EVTMG2, EVTMG3, HALT, INITIALIZE, RESET, TEMPERATURE, TOF_DIFF, TOF_DOWN, TOF_UP,
 };
-use peer::registers::{NO_HIT, PORTS, SHORT_LIMIT, STATUS};
+use peer::registers::{FIRST_SET_UP, NO_HIT, PORTS, SHORT_LIMIT, STATUS};
 
 use crate::maker::Maker;
 
@@ -18,8 +18,6 @@ pub const STARTS: [u8; 7] = [
     EVTMG2,
     EVTMG3,
 ];
-/// A register that only stores.
-const STORE: u8 = 0xB4;
 
 /// How a delivery is meant to be answered.
 #[derive(Clone, Copy)]
@@ -89,6 +87,9 @@ impl Maker {
         if failing && short {
             self.shorten(&mut words);
         }
+        if let [probe, reference, ..] = words[..] {
+            self.measured(probe, reference);
+        }
         self.temperature(&words);
     }
 
@@ -106,8 +107,8 @@ impl Maker {
         let opcode = self
             .random
             .one_of(&[TOF_UP, TOF_DOWN, TOF_DIFF, TEMPERATURE]);
-        self.bus(&[opcode]);
-        self.probe();
+        self.start(opcode);
+        self.look();
         let delay = match self.random.below(20) {
             0 => DELIVERY_LIMIT - 1,
             1 => DELIVERY_LIMIT,
@@ -129,7 +130,10 @@ impl Maker {
                 _ => self.deliver_flight(opcode != TOF_DOWN, opcode != TOF_UP, quality),
             }
         }
-        self.probe();
+        if self.random.percent(20) {
+            self.measured_difference();
+        }
+        self.look();
     }
 
     /// A call that what runs refuses or leaves room for.
@@ -137,7 +141,7 @@ impl Maker {
         match self.random.below(10) {
             0 => self.deliver_flight(true, true, Quality::Good),
             1 => self.deliver_temperature(Quality::Good),
-            2 => self.write(STORE, &[0x1234]),
+            2 => self.write(FIRST_SET_UP, &[0x1234]),
             3 => self.bus(&[INITIALIZE]),
             4 if self.random.percent(20) => self.bus(&[HALT]),
             4 if self.random.percent(5) => self.bus(&[RESET]),

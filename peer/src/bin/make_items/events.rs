@@ -16,8 +16,8 @@ pub enum Action {
     Flight(Quality),
     Temperature(Quality),
     Disturb,
-    Probe,
-    /// A look at the counts and averages.
+    Awaited,
+    /// A read of the counts and averages.
     Averages,
     Command(u8),
 }
@@ -50,7 +50,7 @@ impl Maker {
     /// Begins an event; answers its opcode.
     pub fn event_command(&mut self) -> u8 {
         let opcode = self.random.one_of(&[EVTMG1, EVTMG2, EVTMG3]);
-        self.bus(&[opcode]);
+        self.start(opcode);
         opcode
     }
 
@@ -84,7 +84,7 @@ impl Maker {
             }
             for offset in [DELIVERY_LIMIT - 1, DELIVERY_LIMIT, period - 1, period] {
                 if self.random.percent(15) {
-                    plan.push((start + offset, Action::Probe));
+                    plan.push((start + offset, Action::Awaited));
                 }
             }
             if self.random.percent(10) {
@@ -92,7 +92,7 @@ impl Maker {
             }
         }
         let last = (starts - 1) * period + DELIVERY_LIMIT;
-        plan.push((last + self.random.below(20), Action::Probe));
+        plan.push((last + self.random.below(20), Action::Awaited));
     }
 
     /// Does what is planned, in the order of the plan.
@@ -107,7 +107,7 @@ impl Maker {
                 Action::Flight(quality) => self.deliver_flight(true, true, quality),
                 Action::Temperature(quality) => self.deliver_temperature(quality),
                 Action::Disturb => self.disturb(),
-                Action::Probe => self.line(b"awaited"),
+                Action::Awaited => self.line(b"awaited"),
                 Action::Averages => self.read(TOF_CYCLE_COUNT, AVERAGES),
                 Action::Command(opcode) => self.bus(&[opcode]),
             }
@@ -117,7 +117,7 @@ impl Maker {
                 return;
             }
             if self.random.percent(20) {
-                self.probe();
+                self.look();
             }
         }
     }

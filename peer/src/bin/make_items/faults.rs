@@ -1,6 +1,6 @@
 //! Lines that are mostly no calls.
 
-use peer::item::{LONGEST_FRAME, LONGEST_LINE, LONGEST_LIST};
+use peer::item::{LONGEST_FRAME, LONGEST_LINE, LONGEST_LIST, LONGEST_SET};
 use peer::registers::words_from;
 
 use crate::maker::Maker;
@@ -18,7 +18,7 @@ impl Maker {
     }
 
     fn known_faulty_line(&mut self) {
-        const LINES: [&str; 24] = [
+        const LINES: [&str; 44] = [
             "tick",
             "tick x y",
             "tick 4294967296",
@@ -43,6 +43,26 @@ impl Maker {
             "bus out= B0 00 00",
             "bus B0 00 00 out=2",
             "bus OUT=2 B0 00 00",
+            "set 38",
+            "set 2F 0",
+            "set 44 0",
+            "set 38 12345",
+            "at",
+            "at 4294967296",
+            "stretch 1 x",
+            "frames 1",
+            "probe",
+            "probe 4294967296",
+            "degrees 1",
+            "degrees 1 2 x",
+            "record 2147483648",
+            "record -2147483649",
+            "listing old",
+            "listing 123456789",
+            "quietest -1",
+            "=> ok",
+            "show => x",
+            "tick => 5",
         ];
         let line = self.random.one_of(&LINES);
         self.line(line.as_bytes());
@@ -57,6 +77,7 @@ impl Maker {
             ("flight 1 /", "", " 7", LONGEST_LIST),
             ("temperature", "", " 7", LONGEST_LIST),
             ("expect F0", "", " 0", words_from(0xF0)),
+            ("set 30", "", " 0", LONGEST_SET),
         ]);
         let count = most - 1 + self.random.place(3);
         let words = word.repeat(count);
@@ -85,7 +106,7 @@ impl Maker {
 
     /// A good line with one byte changed, added or removed.
     fn altered_line(&mut self) {
-        const LINES: [&str; 12] = [
+        const LINES: [&str; 24] = [
             "item an altered line",
             "bus 38 01 10",
             "bus out=4 FE 00 00",
@@ -98,6 +119,18 @@ impl Maker {
             "awaited",
             "regs",
             "expect E2 FFFF 1432",
+            "set 38 0110 => ok -",
+            "set 43 C",
+            "stretch 12 => 12",
+            "frames",
+            "probe 1000000 1003908",
+            "degrees F4240 F4240",
+            "record 7 -8 9",
+            "record",
+            "listing old 3",
+            "listing 3 => 0",
+            "quietest 2",
+            "int => no",
         ];
         const BYTES: &[u8] = b" \t/#=gxGB0179-.\r\x00\x0B\xA0\xFF";
         let mut line = self.random.one_of(&LINES).as_bytes().to_vec();

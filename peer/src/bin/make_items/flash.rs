@@ -28,7 +28,7 @@ impl Maker {
                     let opcode = self.random.one_of(&[HALT, INITIALIZE, RESET]);
                     self.bus(&[opcode]);
                 }
-                5 => self.probe(),
+                5 => self.look(),
                 _ => self.flash_frame(),
             }
         }

@@ -88,7 +88,7 @@ impl Maker {
                 8 => self.disturb(),
                 9 => self.frames(),
                 10 => self.flash_frame(),
-                _ => self.probe(),
+                _ => self.look(),
             }
         }
     }

@@ -10,8 +10,10 @@ mod flash;
 mod frames;
 mod maker;
 mod random;
+mod record;
 mod set_up;
 mod text;
+mod thermometer;
 
 use std::io::{self, Write};
 use std::process::ExitCode;

@@ -11,6 +11,10 @@ pub struct Maker {
     pub items: i64,
     pub calls: i64,
     pub ticks: i64,
+    /// Ticks since the last start that was meant to be accepted, or since the item's line.
+    pub moment: i64,
+    /// The probe's word and its reference's of the last temperature delivery.
+    pub last_words: (i64, i64),
     /// What was last written, supposing that it was accepted.
     pub set_up: Registers,
     pub initialised: bool,
@@ -24,6 +28,8 @@ impl Maker {
             items: 0,
             calls: 0,
             ticks: 0,
+            moment: 0,
+            last_words: (0, 0),
             set_up: Registers::factory(),
             initialised: false,
         }
@@ -45,6 +51,7 @@ impl Maker {
     fn item(&mut self) {
         self.items += 1;
         self.forget_set_up();
+        self.moment = 0;
         let name = format!("item random {}", self.items);
         self.line(name.as_bytes());
         for _ in 0..self.random.between(1, 12) {
@@ -53,14 +60,16 @@ impl Maker {
                 0..=4 => self.configure(),
                 5..=26 => self.calendar(),
                 27..=29 => self.continuous_event(),
-                30..=60 => self.single_measurement(),
-                61..=64 => self.flash(),
-                65..=74 => self.event(),
-                75..=84 => self.frames(),
-                85..=91 => self.mixture(),
+                30..=55 => self.single_measurement(),
+                56..=59 => self.flash(),
+                60..=69 => self.event(),
+                70..=76 => self.frames(),
+                77..=81 => self.mixture(),
+                82..=87 => self.record(),
+                88..=92 => self.thermometer(),
                 _ => self.faulty_lines(),
             }
-            self.probe();
+            self.look();
         }
         self.line(b"regs");
     }
@@ -99,13 +108,52 @@ mod tests {
         assert_ne!(items(3), items(4));
     }
 
+    fn answers(seed: i64) -> String {
+        let mut answers = Vec::new();
+        peer::replay(&items(seed), &mut answers).unwrap();
+        String::from_utf8_lossy(&answers).into_owned()
+    }
+
     #[test]
     fn items_reach_every_refusal() {
-        let mut answers = Vec::new();
-        peer::replay(&items(1), &mut answers).unwrap();
-        let answers = String::from_utf8_lossy(&answers);
-        for number in (1..=11).chain(15..=17) {
-            assert!(answers.contains(&format!(" no {number} ")));
+        let answers = answers(1);
+        for number in (1..=18).chain([20]) {
+            assert!(answers.contains(&format!(" no {number} ")), "{number}");
+        }
+    }
+
+    #[test]
+    fn items_reach_every_answer_of_a_line() {
+        let answers = answers(2);
+        let wanted = [
+            "bus ok",
+            "set ok",
+            "set no",
+            "tick ",
+            "at ",
+            "stretch ",
+            "flight good",
+            "temperature failed",
+            "int yes",
+            "awaited 1 1",
+            "frames ",
+            "frame 3",
+            "probe ",
+            "degrees 1",
+            "record -",
+            "listing 0",
+            "listing 1",
+            "quietest 0",
+            " expected ",
+            ": too long",
+            ": unknown word",
+            ": bad number",
+            ": wrong count",
+            ": past",
+            ": no room",
+        ];
+        for wanted in wanted {
+            assert!(answers.contains(wanted), "{wanted}");
         }
     }
 }

@@ -1,11 +1,8 @@
 //! Set-up words.
 
-use peer::registers::{control, EOSC, TOF1};
+use peer::registers::{control, ALL_PORTS, EOSC, TOF1};
 
 use crate::maker::Maker;
-
-/// Bits of 40h that have all four ports measured.
-pub const ALL_PORTS: u16 = 3 << 5;
 
 impl Maker {
     fn tof1(&mut self) -> u16 {

@@ -2,7 +2,7 @@
 
 use peer::item::{DECIMAL_DIGITS, LONGEST_FRAME};
 use peer::opcode::{INITIALIZE, READ_ABOVE_WRITE, RESET};
-use peer::registers;
+use peer::{registers, LONGEST_STRETCH};
 
 use crate::maker::Maker;
 
@@ -19,17 +19,45 @@ impl Maker {
         self.text.extend_from_slice(ending);
     }
 
-    fn call(&mut self, words: &str) {
+    /// A line that counts as a call.
+    pub fn call(&mut self, words: &str) {
         self.calls += 1;
-        if self.random.percent(1) {
-            let spaced = words.replace(' ', "\t  ");
-            self.line(format!(" {spaced}").as_bytes());
-        } else {
-            self.line(words.as_bytes());
-        }
+        self.question(words);
     }
 
-    fn hexadecimal(&mut self, value: i64, digits: usize) -> String {
+    /// A line that may end with an expected answer.
+    pub fn question(&mut self, words: &str) {
+        let mut line = String::from(words);
+        if self.random.percent(4) {
+            line += self.guess();
+        }
+        if self.random.percent(1) {
+            line = format!(" {}", line.replace(' ', "\t  "));
+        }
+        self.line(line.as_bytes());
+    }
+
+    /// An expected answer, which may be the right one.
+    fn guess(&mut self) -> &'static str {
+        self.random.one_of(&[
+            " =>",
+            " => ok",
+            " => ok -",
+            " => ok flight",
+            " => no",
+            " => no 6",
+            " => no 10 not awaited",
+            " => no 9 set",
+            " => good",
+            " => failed",
+            " => yes",
+            " => 0",
+            " => 1 0",
+            " => =>",
+        ])
+    }
+
+    pub fn hexadecimal(&mut self, value: i64, digits: usize) -> String {
         match self.random.below(10) {
             0 => format!("{value:0digits$x}"),
             _ => format!("{value:0digits$X}"),
@@ -69,14 +97,35 @@ impl Maker {
         self.call(&words);
     }
 
+    /// A command that is meant to start a measurement.
+    pub fn start(&mut self, opcode: u8) {
+        self.bus(&[opcode]);
+        self.moment = 0;
+    }
+
     /// Writes from the register of this address on.
     pub fn write(&mut self, first: u8, words: &[u16]) {
-        let mut frame = vec![first - READ_ABOVE_WRITE];
+        let opcode = first - READ_ABOVE_WRITE;
+        let mut frame = vec![opcode];
         for (address, &word) in (first..).zip(words) {
             frame.extend(word.to_be_bytes());
             self.set_up.set(address, word);
         }
-        self.bus(&frame);
+        if self.random.percent(25) {
+            self.set(opcode, words);
+        } else {
+            self.bus(&frame);
+        }
+    }
+
+    pub fn set(&mut self, opcode: u8, words: &[u16]) {
+        let mut line = format!("set {}", self.hexadecimal(opcode.into(), 2));
+        for &word in words {
+            let digits = self.random.one_of(&[4, 4, 4, 1]);
+            line.push(' ');
+            line += &self.hexadecimal(word.into(), digits);
+        }
+        self.call(&line);
     }
 
     pub fn read(&mut self, first: u8, count: usize) {
@@ -88,13 +137,19 @@ impl Maker {
     }
 
     pub fn tick(&mut self, count: i64) {
-        self.ticks += count;
+        self.pass("tick", count, count);
+    }
+
+    /// A line of this name and number, after which so many ticks have passed.
+    fn pass(&mut self, name: &str, number: i64, ticks: i64) {
+        self.ticks += ticks;
+        self.moment += ticks;
         let digits = if self.random.percent(2) {
             DECIMAL_DIGITS
         } else {
             1
         };
-        self.call(&format!("tick {count:0digits$}"));
+        self.call(&format!("{name} {number:0digits$}"));
     }
 
     /// Ticks in one line or more.
@@ -106,11 +161,26 @@ impl Maker {
                 1 => 1,
                 _ => self.random.below(left),
             };
-            self.tick(part);
+            self.wait_once(part);
             left -= part;
         }
         if left > 0 || self.random.percent(2) {
-            self.tick(left);
+            self.wait_once(left);
+        }
+    }
+
+    fn wait_once(&mut self, count: i64) {
+        let longest = i64::from(LONGEST_STRETCH);
+        match self.random.below(8) {
+            0 => self.pass("at", self.moment + count, count),
+            1 if self.random.percent(2) => self.pass("at", (self.moment - 1).max(0), 0),
+            1 if self.random.percent(3) => self.pass("stretch", longest + 1 + count, 0),
+            1 if count <= longest => self.pass("stretch", count, count),
+            1 => {
+                self.pass("stretch", longest, longest);
+                self.wait_once(count - longest);
+            }
+            _ => self.tick(count),
         }
     }
 
@@ -136,13 +206,14 @@ impl Maker {
     }
 
     /// Often looks at the state.
-    pub fn probe(&mut self) {
+    pub fn look(&mut self) {
         match self.random.below(12) {
-            0 => self.line(b"regs"),
-            1 => self.line(b"awaited"),
-            2 => self.line(b"int"),
+            0 => self.question("regs"),
+            1 => self.question("awaited"),
+            2 => self.question("int"),
             3 => self.read(registers::STATUS, 1),
             4 => self.expect(),
+            5 if self.random.percent(30) => self.call("frames"),
             5 => {
                 let (first, count) = self.some_registers();
                 self.read(first, count as usize);

@@ -27,7 +27,8 @@ class Event(unittest.TestCase):
         cls.words = [label.words for label in labels(cls.text)]
 
     def test_marks(self) -> None:
-        wanted = {"start": 10, "good": 6, "failed": 2, "expired": 1, "dropped": 1, "awaited": 0, "refused": 1}
+        # six good measurements, and two marks in the panel of degrees
+        wanted = {"start": 10, "good": 8, "failed": 2, "expired": 1, "dropped": 1, "awaited": 0, "refused": 1}
         self.assertEqual({name: marks(self.text, name) for name in wanted}, wanted)
 
     def test_bus_and_status(self) -> None:
@@ -38,7 +39,7 @@ class Event(unittest.TestCase):
         self.assertTrue(any(words.endswith("TO AF TOF") for words in self.words))
 
     def test_expectation_that_differs(self) -> None:
-        self.assertEqual(marks(self.text, "ok"), 3)
+        self.assertEqual(marks(self.text, "ok"), 4)
         self.assertIn("1", self.words)
         self.assertTrue(any("line 55: E6 has 14B5, expected 14B6" in words for words in self.words))
 
@@ -56,7 +57,7 @@ class Event(unittest.TestCase):
             "3,031,388 ticks, 92.51062 s; 1 call refused",
             "flight: 7 started, 4 good, 1 failed, 1 expired, 1 dropped",
             "temperature: 3 started, 2 good, 1 failed",
-            "13 expected words, 1 line differing",
+            "14 expected words, 1 line differing",
         ):
             self.assertIn(words, self.words)
 

@@ -88,7 +88,8 @@ class Event(unittest.TestCase):
         self.assertEqual(bounds, {512 * 65_536})
 
     def test_expectations(self) -> None:
-        self.assertEqual(self.run_of.expected, 2 + 3 + 2 + 3 + 3)
+        # the words of the `expect` lines, and one refusal that is announced
+        self.assertEqual(self.run_of.expected, 2 + 3 + 2 + 3 + 3 + 1)
         (check,) = self.run_of.checks("differs")
         self.assertEqual((check.line.number, check.words), (55, ["E6 has 14B5, expected 14B6"]))
         place = next(step.tick for step in self.run_of.steps if check in step.checks)

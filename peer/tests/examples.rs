@@ -1,24 +1,26 @@
-//! The worked items in examples/ against their stored answers.
+//! The worked items in examples/, and that of the capture, against their stored answers.
 
 use std::fs;
 use std::path::{Path, PathBuf};
 
 fn examples() -> Vec<PathBuf> {
-    let folder = Path::new(env!("CARGO_MANIFEST_DIR")).join("../examples");
-    let entries = fs::read_dir(folder).unwrap();
-    let paths = entries.map(|entry| entry.unwrap().path());
-    paths
-        .filter(|path| {
-            path.extension()
-                .is_some_and(|extension| extension == "item")
-        })
-        .collect()
+    let root = Path::new(env!("CARGO_MANIFEST_DIR")).join("..");
+    let folders = ["examples", "capture"].map(|name| fs::read_dir(root.join(name)).unwrap());
+    let paths = folders
+        .into_iter()
+        .flatten()
+        .map(|entry| entry.unwrap().path());
+    let is_item = |path: &PathBuf| {
+        path.extension()
+            .is_some_and(|extension| extension == "item")
+    };
+    paths.filter(is_item).collect()
 }
 
 #[test]
 fn examples_answer_as_stored() {
     let paths = examples();
-    assert!(paths.len() >= 6, "{paths:?}");
+    assert!(paths.len() >= 7, "{paths:?}");
     for path in paths {
         let mut answers = Vec::new();
         peer::replay(&fs::read(&path).unwrap(), &mut answers).unwrap();

@@ -164,19 +164,13 @@ def item_text(windows: list[Window], name: str) -> str:
     lines = [f"item {name}"]
     start = windows[0].time if windows else Fraction(0)
     before = 0
-    last = start
     for window in windows:
-        if window.time < last:
-            raise CaptureError(f"{window.number}: the time goes back")
-        last = window.time
         now = floor((window.time - start) * TICKS_PER_SECOND)
         lines += waits(now - before)
         before = now
         if window.line:
             lines.append(window.line)
             continue
-        if len(window.sent) > LONGEST_FRAME:
-            raise CaptureError(f"{window.number}: a window of {len(window.sent)} bytes; a line takes {LONGEST_FRAME}")
         answer = expected(window) if window.sent else ""
         lines.append(frame_line(window) + answer)
         if len(window.sent) == 1 and window.sent[0] in DELIVERIES:
@@ -194,34 +188,50 @@ def read_rate(text: str) -> Fraction:
     return rate
 
 
-def make(source: TextIO, rate: Fraction | None, name: str) -> str:
+def read_windows(source: TextIO, rate: Fraction | None) -> list[Window]:
+    """The windows of a capture by sigrok-cli at this rate, or of a table, which have to be in the order of time."""
     lines = source.read().splitlines()
-    windows = read_table(lines) if rate is None else read_sigrok(lines, rate)
-    return item_text(list(windows), name)
+    windows = list(read_table(lines) if rate is None else read_sigrok(lines, rate))
+    for before, window in zip(windows[:1] + windows, windows):
+        if window.time < before.time:
+            raise CaptureError(f"{window.number}: the time goes back")
+        if len(window.sent) > LONGEST_FRAME:
+            raise CaptureError(f"{window.number}: a window of {len(window.sent)} bytes; a line takes {LONGEST_FRAME}")
+    return windows
+
+
+def read_file(path: str, rate: Fraction | None) -> list[Window]:
+    try:
+        if path == "-":
+            return read_windows(sys.stdin, rate)
+        with open(path, encoding="utf-8-sig", newline="") as file:
+            return read_windows(file, rate)
+    except CaptureError as error:
+        raise CaptureError(f"{path}:{error}") from None
+    except (OSError, UnicodeDecodeError) as error:
+        raise CaptureError(f"make_item: cannot read {path}: {error}") from None
 
 
 def main() -> int:
     parser = argparse.ArgumentParser(description=__doc__, formatter_class=argparse.RawDescriptionHelpFormatter)
     parser.add_argument("--sigrok", metavar="RATE", type=read_rate, help="the capture is what sigrok-cli prints, at this "
                         "rate of samples, as 1M; without it the capture is a table")
+    parser.add_argument("--lines", metavar="TABLE", help="a table of times and lines, as `flight ..`, that belong between "
+                        "the windows, by the clock of the capture")
     parser.add_argument("--name", help="the item's name; the file's where none is given")
     parser.add_argument("capture", nargs="?", default="-", help="the file; standard input where none is given")
     options = parser.parse_args()
     path = options.capture
     name = options.name or ("capture" if path == "-" else os.path.splitext(os.path.basename(path))[0])
     try:
-        if path == "-":
-            text = make(sys.stdin, options.sigrok, name)
-        else:
-            with open(path, encoding="utf-8-sig", newline="") as file:
-                text = make(file, options.sigrok, name)
+        windows = read_file(path, options.sigrok)
+        if options.lines:
+            # Where times are equal a window comes first: a command before its delivery.
+            windows = sorted(windows + read_file(options.lines, None), key=lambda window: window.time)
     except CaptureError as error:
-        print(f"{path}:{error}", file=sys.stderr)
+        print(error, file=sys.stderr)
         return 1
-    except (OSError, UnicodeDecodeError) as error:
-        print(f"make_item: cannot read {path}: {error}", file=sys.stderr)
-        return 1
-    sys.stdout.write(text)
+    sys.stdout.write(item_text(windows, name))
     return 0
 
 

@@ -24,18 +24,28 @@ def stored(name: str) -> str:
         return file.read()
 
 
+def made_of(text: str, rate: Fraction | None) -> list[str]:
+    """The item's lines behind its name."""
+    return make_item.item_text(make_item.read_windows(io.StringIO(text), rate), "t").splitlines()[1:]
+
+
 def of_table(text: str) -> list[str]:
-    return make_item.make(io.StringIO(text), None, "t").splitlines()[1:]
+    return made_of(text, None)
 
 
-def of_sigrok(text: str, rate: Fraction = RATE) -> list[str]:
-    return make_item.make(io.StringIO(text), rate, "t").splitlines()[1:]
+def of_sigrok(text: str) -> list[str]:
+    return made_of(text, RATE)
+
+
+def run(*arguments: str, text: str = "") -> subprocess.CompletedProcess[str]:
+    command = [sys.executable, os.path.join(FOLDER, "make_item.py"), *arguments]
+    return subprocess.run(command, input=text, capture_output=True, text=True, cwd=FOLDER)
 
 
 class Examples(unittest.TestCase):
     def test_table(self) -> None:
-        made = make_item.make(io.StringIO(stored("example.csv")), None, "example")
-        self.assertEqual(made, stored("example.item"))
+        done = run("example.csv")
+        self.assertEqual((done.stdout, done.stderr, done.returncode), (stored("example.item"), "", 0))
 
     def test_sigrok(self) -> None:
         """The same windows; the delivery, which is not on the bus, is lacking, and its ticks are in one line."""
@@ -45,6 +55,16 @@ class Examples(unittest.TestCase):
         place = wanted.index(delivered[1]) - 1
         self.assertEqual(wanted[place : place + 3], delivered)
         self.assertEqual(made, wanted[:place] + ["tick 329"] + wanted[place + 3 :])
+
+
+    def test_sigrok_with_lines(self) -> None:
+        """With the delivery in a table of its own both captures give the same item."""
+        with tempfile.TemporaryDirectory() as folder:
+            path = os.path.join(folder, "words.csv")
+            with open(path, "w", encoding="utf-8") as file:
+                file.write("time,mosi\n0.013100,flight 460000 470000 / 480000 490000\n")
+            done = run("--sigrok", "1M", "--lines", path, "--name", "example", text=stored("example.txt"))
+        self.assertEqual((done.stdout, done.stderr, done.returncode), (stored("example.item"), "", 0))
 
 
 class Ticks(unittest.TestCase):
@@ -58,6 +78,9 @@ class Ticks(unittest.TestCase):
         made = of_table("time,mosi\n0,05\n0.0000305,05\n0.0000306,05\n1,05\n")
         # 0.0000305 s are 0.9994 ticks
         self.assertEqual(made, ["bus 05", "bus 05", "tick 1", "bus 05", "tick 32767", "bus 05"])
+
+    def test_times_before_a_trigger(self) -> None:
+        self.assertEqual(of_table("time,mosi\n-1.5,05\n-0.5,05\n"), ["bus 05", "tick 32768", "bus 05"])
 
     def test_two_days(self) -> None:
         made = of_table("time,mosi\n0,05\n172800,05\n")
@@ -134,9 +157,12 @@ class Refused(unittest.TestCase):
         self.check(of_sigrok, "0-1 spi-1: 05\n" * 3, "3: a third line of the samples 0-1")
 
     def test_status(self) -> None:
-        run = subprocess.run([os.path.join(FOLDER, "make_item.py"), "no.csv"], capture_output=True, text=True)
-        self.assertEqual((run.returncode, run.stdout), (1, ""))
-        self.assertIn("cannot read no.csv", run.stderr)
+        done = run("no.csv")
+        self.assertEqual((done.returncode, done.stdout), (1, ""))
+        self.assertIn("cannot read no.csv", done.stderr)
+        done = run(text="time,mosi\n0,x\n")
+        self.assertEqual((done.returncode, done.stdout), (1, ""))
+        self.assertEqual(done.stderr, "-:2: these are no bytes of two hexadecimal digits: x\n")
 
 
 def wave(windows: list[tuple[int, list[int], list[int]]]) -> str:

@@ -1,20 +1,21 @@
 //! Replays an item's lines on the model and writes their answers.
 
 mod answers;
+mod beside;
 mod expectation;
 
 use std::io::{self, Write};
 
 use answers::Answers;
 
+pub use beside::{LARGEST_PROBE_TABLE, LONGEST_RECORD};
+
 use crate::flash;
 use crate::item::{self, Call, Fault, Line, Words, LONGEST_FRAME, LONGEST_SET};
 use crate::model::{Model, Outcome, TickReport};
 use crate::opcode;
-use crate::record;
 use crate::refusal::Refusal;
 use crate::registers;
-use crate::set_up_frames;
 use crate::thermometer;
 use crate::transaction::Started;
 
@@ -24,10 +25,6 @@ const UNTOUCHED: u8 = 0xEE;
 const BLOCK: usize = 1 << 16;
 /// Ticks of one stretch.
 pub const LONGEST_STRETCH: u32 = 16_384;
-/// Differences that an item's record holds.
-pub const LONGEST_RECORD: usize = 4_096;
-/// Entries that an item's own probe table holds, those of a table that `degrees` refuses too.
-pub const LARGEST_PROBE_TABLE: usize = 1_024;
 
 /// What the lines of one item share.
 struct Item {
@@ -295,92 +292,6 @@ impl Replay {
         }
     }
 
-    fn frames(&mut self) {
-        self.counts.calls += 1;
-        let frames = set_up_frames::frames(&self.item.model.registers);
-        self.answers
-            .print(format_args!("frames {}\n", frames.len()));
-        for frame in frames {
-            self.answers.put(b"frame");
-            for byte in frame {
-                self.answers.put(b" ");
-                self.answers.byte(byte);
-            }
-            self.answers.put(b"\n");
-        }
-    }
-
-    fn probe(&mut self, entries: &[u32]) -> Result<(), Fault> {
-        let table = &mut self.item.probe_table;
-        add_within(table, entries, LARGEST_PROBE_TABLE)?;
-        self.answers.print(format_args!("probe {}\n", table.len()));
-        Ok(())
-    }
-
-    fn degrees(&mut self, probe: u32, reference: u32) {
-        self.counts.calls += 1;
-        let table = match self.item.probe_table.as_slice() {
-            [] => &self.pt1000,
-            own => own,
-        };
-        match thermometer::degrees(table, probe, reference) {
-            Ok(thousandths) => {
-                let (whole, part) = (thousandths / 1_000, thousandths % 1_000);
-                self.answers
-                    .print(format_args!("degrees {whole}.{part:03}"));
-            }
-            Err(refusal) => self.refused("degrees", refusal),
-        }
-        self.answers.put(b"\n");
-    }
-
-    fn record(&mut self, differences: &[i32]) -> Result<(), Fault> {
-        let measured = [self.item.model.registers.difference()];
-        let added = if differences.is_empty() {
-            &measured
-        } else {
-            differences
-        };
-        add_within(&mut self.item.record, added, LONGEST_RECORD)?;
-        self.answers.put(b"record");
-        for difference in added {
-            self.answers.print(format_args!(" {difference}"));
-        }
-        self.answers.put(b"\n");
-        Ok(())
-    }
-
-    fn listing(&mut self, old: bool, first: u32) {
-        self.counts.calls += 1;
-        let digits = if old {
-            record::OLD_DIGITS
-        } else {
-            record::DIGITS
-        };
-        match record::listing(&self.item.record, first, digits) {
-            Ok(lines) => {
-                let count = self.item.record.len();
-                self.answers.print(format_args!("listing {count}\n{lines}"));
-            }
-            Err(refusal) => {
-                self.refused("listing", refusal);
-                self.answers.put(b"\n");
-            }
-        }
-    }
-
-    fn quietest(&mut self, width: u32) {
-        self.counts.calls += 1;
-        match record::quietest(&self.item.record, width as usize) {
-            Ok((start, spread)) => {
-                self.answers
-                    .print(format_args!("quietest {start} {spread}"));
-            }
-            Err(refusal) => self.refused("quietest", refusal),
-        }
-        self.answers.put(b"\n");
-    }
-
     fn end(&mut self) {
         let Counts {
             calls,
@@ -404,15 +315,6 @@ fn started_text(started: Started) -> &'static [u8] {
         (false, true) => b"temperature",
         (true, true) => b"flight+temperature",
     }
-}
-
-/// Adds all of them, or none where they would be more than `most`.
-fn add_within<T: Copy>(list: &mut Vec<T>, added: &[T], most: usize) -> Result<(), Fault> {
-    if list.len() + added.len() > most {
-        return Err(Fault::NoRoom);
-    }
-    list.extend_from_slice(added);
-    Ok(())
 }
 
 #[cfg(test)]
@@ -472,14 +374,5 @@ mod tests {
             at 8200 failed-flight@8192\nitem x\nat 0\n\
             end 13 calls, 1 refused, 1 unannounced, 1 bad lines, 0 expectations, 0 differ\n";
         assert_eq!(answers(text), wanted);
-    }
-
-    #[test]
-    fn a_full_record_takes_no_more() {
-        let mut text = "record 7 7 7 7 7 7 7 7\n".repeat(LONGEST_RECORD / 8);
-        text += "record\nquietest 4096\n";
-        let given = answers(&text);
-        let last: Vec<&str> = given.lines().rev().take(3).collect();
-        assert_eq!(last[1..], ["quietest 0 0", "line 513: no room"]);
     }
 }

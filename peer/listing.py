@@ -1,5 +1,5 @@
 #!/usr/bin/env python3
-"""Writes what the program `listing_rows` must write, by exact fractions: peer/listing.py > crates/listing_rows/stdout"""
+"""Writes what the program `test_listing` must write, by exact fractions: peer/listing.py > crates/test_listing/stdout"""
 from fractions import Fraction
 
 # The eleven differences of Table 1 of the MAX35102 data sheet; halves of a ten-thousandth; steps of a digit more.

@@ -64,13 +64,11 @@ def make_items(seed, size):
 
 
 def stored_items():
-    """The paths of the repository's items: the examples, and the input of each stored replay."""
+    """The paths of the repository's items: the examples, captures, and those of the stored run."""
     found = []
     for folder, folders, files in os.walk(ROOT):
         folders[:] = [name for name in folders if name != "target" and not name.startswith(".")]
         found += [os.path.join(folder, name) for name in files if name.endswith(".item")]
-    for name in ("replay_all", "replay_bad"):
-        found.append(os.path.join(ROOT, "crates", name, "stdin"))
     return sorted(path for path in found if os.path.exists(path))
 
 

@@ -1,5 +1,5 @@
 #!/usr/bin/env python3
-"""Prints the rows that crates/readings writes, worked out from notes 6 and 7 by exact fractions: `peer/readings.py | cmp - crates/readings/stdout`."""
+"""Prints the rows that crates/test_degrees writes, worked out from notes 6 and 7 by exact fractions: `peer/readings.py | cmp - crates/test_degrees/stdout`."""
 from fractions import Fraction
 from math import floor
 

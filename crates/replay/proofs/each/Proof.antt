@@ -6,10 +6,10 @@ use Rattle.replay.proofs.each.Statement.{statement}
 use Rattle.replay.proofs.each.Tie as tie
 
 abbrev Inv-loop : tie.InvT-loop
-Inv-loop n i₀ i = Unit
+Inv-loop first n check i₀ i = Unit
 
 abbrev μ-loop : tie.MeasureT-loop
-μ-loop n i₀ i = n - i
+μ-loop first n check i₀ i = n - i
 
 loop-holds : tie.Need-loop-holds Inv-loop μ-loop
 loop-holds c = search needs

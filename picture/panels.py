@@ -212,5 +212,7 @@ def degrees(strip: Strip, canvas: Canvas, drawn: Curves) -> float:
         for place, reading in within[:1]:
             x, y = strip.x(place), shown.y(reading.value)
             words = fit([f"{name} {reading.value:.3f} °C", name], strip.end(place) - x - 8)
-            canvas.text(x + 8, y - 6, words)
+            # below the mark where the line goes up from it
+            rises = len(within) > 1 and within[1][1].value > reading.value
+            canvas.text(x + 8, y + 12 if rises else y - 6, words)
     return HIGH + 4

@@ -2,7 +2,7 @@
 use Prim.Native.Nat.{ℕ, zero, suc, _+_, _-_}
 use native.Mathlib.Omega.{arith}
 use mathlib.Core.Bool.{true}
-use mathlib.Core.List.{List, []}
+use mathlib.Core.List.{List, [], _∷_}
 use mathlib.Core.Path.{_≡_, refl}
 use Rattle.unit.proofs.Cases.{by-test}
 use Rattle.calendar.specs.Words.{alarmValid}
@@ -10,10 +10,13 @@ use Rattle.setup.specs.Setup.{alarmWord}
 use Rattle.frame.proofs.Laws.{write-means}
 use Rattle.frame.specs.Frame.{isWrite}
 use Rattle.device.specs.declared.Model.{Model}
+use Rattle.device.specs.Model.{isSound}
 use Rattle.device.specs.Call.{opcode}
+use Rattle.device.proofs.Sound.{bounds-of}
 use Rattle.setup_frames.specs.declared.Framed.{Framed}
 use Rattle.setup_frames.specs.Frames.{starts, frameAt, framesFrom, frames, Written, numberIn}
 use Rattle.setup_frames.specs.Sending.{onlyWrites, Words, framesLeft, Brings}
+use Rattle.setup_frames.proofs.Outcome.{number-0}
 use Rattle.setup_frames.proofs.Least.{least}
 use Rattle.setup_frames.proofs.Sent.{same-words}
 use Rattle.setup_frames.proofs.Meaning.{frames-left}
@@ -34,14 +37,24 @@ pub frames-bring : (s : List ℕ) → Words s → alarmValid (alarmWord s) ≡ t
 unfolding frames
 frames-bring s w v = record { writes = writes-from s 16 0 refl; same = same-words s w v; fewest = least s }
 
+-- an accepted call is one on a sound model
+accepted-sound :
+    (m : Model) (bytes lengths b l : List ℕ) (r : Framed) → Written m bytes lengths r b l → numberIn r ≡ [] → isSound m ≡ true
+accepted-sound m bytes lengths b l r w e =
+    by-test (isSound m) (λ s. s)
+    (λ f.
+    let t : numberIn r ≡ 0 ∷ [] = number-0 m bytes lengths b l r w .1 f in
+    let z : _≡_ {A = ℕ} 0 1 = cc in
+    absurd (omega arith))
+
 -- "Sending them to a fresh model gives the same sixteen words, and every other list of write frames that does so has at least as many
--- bytes", of an accepted call on a model with a valid alarm
+-- bytes", of an accepted call
 pub buffers-bring :
     (m : Model) (bytes lengths b l : List ℕ) (r : Framed) →
     Written m bytes lengths r b l →
     numberIn r ≡ [] →
     Words (m .setup) →
-    alarmValid (alarmWord (m .setup)) ≡ true →
     Brings (framesLeft r b l) (m .setup)
-buffers-bring m bytes lengths b l r w e sixteen valid =
-    rw (frames-left m bytes lengths b l r w e) (frames-bring (m .setup) sixteen valid)
+buffers-bring m bytes lengths b l r w e sixteen =
+    rw (frames-left m bytes lengths b l r w e)
+    (frames-bring (m .setup) sixteen (bounds-of m (accepted-sound m bytes lengths b l r w e) .alarm))

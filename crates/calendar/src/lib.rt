@@ -1,4 +1,4 @@
-// The calendar clock: its fields, its step by one tick, its register words, and the alarm.
+// The calendar clock: its fields. Its step by one tick, its register words and the alarm are defined in specs/; `clock` has the code.
 use unit::Ticks;
 
 // Years count from 2000, hours go from 0 to 23. The second holds `ticks` of the 32,768 Hz clock. `twelve` is the form in
@@ -14,8 +14,3 @@ pub struct Clock {
     pub ticks: Ticks,
     pub twelve: bool,
 }
-
-pub mod alarm;
-pub mod date;
-pub mod step;
-pub mod words;

@@ -17,8 +17,6 @@ pub mod CommandMeaning
 pub mod CallMeaning
 pub mod AnswerMeaning
 pub mod StartMeaning
-pub mod Witness
-pub mod Bench
 pub mod Going
 pub mod Stretch
 pub mod Quiet
@@ -30,7 +28,6 @@ pub mod Held
 pub mod Others
 pub mod Third
 pub mod SoundMeaning
-pub mod Groups
 pub mod FlashRun
 pub mod Supply
 pub mod FlashMeaning

@@ -25,4 +25,3 @@ pub mod Initialised
 pub mod SetupTold
 pub mod Probes
 pub mod SecondDemand
-pub mod Bench

@@ -41,7 +41,7 @@ pub fn no_temperature() -> Temperature
 pub fn fresh_with(status: Status) -> Model
     ensures { λ r. ⌜ r ≡ freshWith status ⌝ }
 {
-    let clock = calendar::date::start();
+    let clock = clock::date::start();
     let setup = setup::factory();
     let flight = no_flight();
     let temperature = no_temperature();
@@ -105,8 +105,8 @@ pub fn is_sound(m: Model) -> bool
     let flight = m.flight;
     let temperature = m.temperature;
     let setup = m.setup;
-    if calendar::date::clock_valid(clock) {
-        if calendar::words::alarm_valid(setup::alarm_word(setup)) {
+    if clock::date::clock_valid(clock) {
+        if clock::words::alarm_valid(setup::alarm_word(setup)) {
             if flight_sound(flight) {
                 return temperature_sound(temperature);
             }

@@ -25,15 +25,15 @@ pub fn calendar_word(m: Model, a: u32) -> u32
 {
     let clock = m.clock;
     if a == 0xb0 {
-        return calendar::words::word30(clock);
+        return clock::words::word30(clock);
     }
     if a == 0xb1 {
-        return calendar::words::word31(clock);
+        return clock::words::word31(clock);
     }
     if a == 0xb2 {
-        return calendar::words::word32(clock);
+        return clock::words::word32(clock);
     }
-    calendar::words::word33(clock)
+    clock::words::word33(clock)
 }
 
 // C4h to E6h.

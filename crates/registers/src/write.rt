@@ -55,7 +55,7 @@ fn ticks_after(m: Model, words: &[u8], op: u32, n: usize) -> Ticks
         return clock.ticks;
     }
     if 0x30 < op + n as u32 {
-        return calendar::words::ticks_in(frame::word_at(words, (0x30 - op) as usize));
+        return clock::words::ticks_in(frame::word_at(words, (0x30 - op) as usize));
     }
     clock.ticks
 }
@@ -69,7 +69,7 @@ fn clock_after(m: Model, words: &[u8], op: u32, n: usize) -> Clock
     let w32 = written(words, op, n, 0x32, calendar_word(m, 0xb2));
     let w33 = written(words, op, n, 0x33, calendar_word(m, 0xb3));
     let ticks = ticks_after(m, words, op, n);
-    calendar::words::clock_from(w30, w31, w32, w33, ticks)
+    clock::words::clock_from(w30, w31, w32, w33, ticks)
 }
 
 // Whether the clock or the alarm would be invalid.
@@ -86,7 +86,7 @@ pub fn write_invalid(m: Model, words: &[u8], op: u32, n: usize) -> bool
     let w32 = written(words, op, n, 0x32, calendar_word(m, 0xb2));
     let w33 = written(words, op, n, 0x33, calendar_word(m, 0xb3));
     let ticks = ticks_after(m, words, op, n);
-    if calendar::words::words_valid(w30, w31, w32, w33, ticks) {
+    if clock::words::words_valid(w30, w31, w32, w33, ticks) {
         return alarm_invalid(m, words, op, n);
     }
     true
@@ -102,7 +102,7 @@ fn alarm_invalid(m: Model, words: &[u8], op: u32, n: usize) -> bool
     }
     let old = m.setup;
     let setup = setup_after(old, words, op, n);
-    if calendar::words::alarm_valid(setup::alarm_word(setup)) {
+    if clock::words::alarm_valid(setup::alarm_word(setup)) {
         return false;
     }
     true

@@ -37,7 +37,7 @@ pub fn clock_byte(m: Model, x: u8) -> u32 {
 
 // The digits of the hours: bit 5 is one of them in the 24-hour form alone.
 fn hour_digits(w: u32) -> u32 {
-    if calendar::words::twelve_in(w) {
+    if clock::words::twelve_in(w) {
         w % 32
     } else {
         w % 64

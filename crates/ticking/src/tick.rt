@@ -90,7 +90,7 @@ fn clock_ticked(m: Model) -> Clock
     if setup::clock_stands(setup) {
         return clock;
     }
-    calendar::step::tick_clock(clock)
+    clock::step::tick_clock(clock)
 }
 
 fn tick_rings(m: Model, after: Clock) -> bool
@@ -100,7 +100,7 @@ fn tick_rings(m: Model, after: Clock) -> bool
     let setup = m.setup;
     let w = setup::alarm_word(setup);
     let mode = setup::alarm_mode(setup);
-    calendar::alarm::alarm_rings(before, after, w, mode)
+    clock::alarm::alarm_rings(before, after, w, mode)
 }
 
 fn tick_status(m: Model, after: Clock) -> Status

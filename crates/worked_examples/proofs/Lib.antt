@@ -1,0 +1,4 @@
+-- Worked examples.
+pub mod Bench
+pub mod Witness
+pub mod Groups

@@ -13,8 +13,8 @@ use lib.ListN.{length}
 use mathlib.Core.Path.{_≡_, refl, _∙_}
 use Prim.Native.Nat.{ℕ}
 use borrow.Author.Needs.{needs}
-use Rattle.converter.proofs.flash_frame_reply.Statement.{statement}
-use Rattle.converter.proofs.flash_frame_reply.Tie as tie
+use Rattle.bus.proofs.flash_frame_reply.Statement.{statement}
+use Rattle.bus.proofs.flash_frame_reply.Tie as tie
 
 -- what decoding gives but a flash frame: what a read or a refusal gives, and the memory as it was
 not-a-flash :

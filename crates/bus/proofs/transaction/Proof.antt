@@ -19,8 +19,8 @@ use mathlib.Core.Path.{_≡_, sym, _∙_}
 use native.Mathlib.Omega.{arith}
 use Prim.Native.Nat.{ℕ}
 use borrow.Author.Needs.{needs}
-use Rattle.converter.proofs.transaction.Statement.{statement}
-use Rattle.converter.proofs.transaction.Tie as tie
+use Rattle.bus.proofs.transaction.Statement.{statement}
+use Rattle.bus.proofs.transaction.Tie as tie
 
 -- a frame that is no command, with the bytes after its opcode as a slice has them
 rest :

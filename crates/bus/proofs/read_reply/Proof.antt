@@ -18,8 +18,8 @@ use mathlib.Core.Path.{_≡_, refl, _∙_, ap}
 use Prim.Native.Nat.{ℕ}
 use Rattle.device.specs.Parts.{readReply, readOutput}
 use borrow.Author.Needs.{needs}
-use Rattle.converter.proofs.read_reply.Statement.{statement}
-use Rattle.converter.proofs.read_reply.Tie as tie
+use Rattle.bus.proofs.read_reply.Statement.{statement}
+use Rattle.bus.proofs.read_reply.Tie as tie
 
 -- what decoding gives but a read: the refusal's number, and nothing written
 not-a-read :

@@ -1,8 +1,8 @@
 -- `converter::write_reply` meets its contract.
 use Rattle.device.specs.Parts.{writeReply}
 use borrow.Author.Needs.{needs}
-use Rattle.converter.proofs.write_reply.Statement.{statement}
-use Rattle.converter.proofs.write_reply.Tie as tie
+use Rattle.bus.proofs.write_reply.Statement.{statement}
+use Rattle.bus.proofs.write_reply.Tie as tie
 
 is-busy-requires : tie.Need-is-busy-requires
 is-busy-requires c κs = search needs

@@ -13,8 +13,8 @@ use lib.ListN.{length}
 use mathlib.Core.Path.{_≡_, refl, _∙_}
 use Prim.Native.Nat.{ℕ}
 use borrow.Author.Needs.{needs}
-use Rattle.converter.proofs.words_reply.Statement.{statement}
-use Rattle.converter.proofs.words_reply.Tie as tie
+use Rattle.bus.proofs.words_reply.Statement.{statement}
+use Rattle.bus.proofs.words_reply.Tie as tie
 
 not-a-write :
     (m : Model) (d : Decoded) (b x : List ℕ) →

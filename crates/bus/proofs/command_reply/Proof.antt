@@ -1,8 +1,8 @@
 -- `converter::command_reply` meets its contract.
 use Rattle.device.specs.Parts.{commandReply}
 use borrow.Author.Needs.{needs}
-use Rattle.converter.proofs.command_reply.Statement.{statement}
-use Rattle.converter.proofs.command_reply.Tie as tie
+use Rattle.bus.proofs.command_reply.Statement.{statement}
+use Rattle.bus.proofs.command_reply.Tie as tie
 
 command-busy-requires : tie.Need-command-busy-requires
 command-busy-requires c κs = search needs

@@ -9,8 +9,8 @@ use mathlib.Core.List.{List, [], _∷_}
 use mathlib.Core.Path.{_≡_, refl}
 use Prim.Native.Nat.{ℕ}
 use borrow.Author.Needs.{needs}
-use Rattle.converter.proofs.refusal_number.Statement.{statement}
-use Rattle.converter.proofs.refusal_number.Tie as tie
+use Rattle.bus.proofs.refusal_number.Statement.{statement}
+use Rattle.bus.proofs.refusal_number.Tie as tie
 
 not-a-refusal : (d : Decoded) → OneOf (0 ∷ 1 ∷ 2 ∷ 3 ∷ []) (tagOf the-type d) → _≡_ {A = ℕ} 2 (refusalNumber d)
 unfolding refusalNumber

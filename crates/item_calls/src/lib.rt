@@ -9,23 +9,23 @@ use device::Model;
 use item_state::counts::MOMENT;
 use item_state::output::first_words;
 use item_state::output::words_from;
-use line::Call;
+use line::Content;
 
 // The model after such a line. Any other leaves it as it is.
 pub fn drive(
     m: Model,
-    call: Call,
+    content: Content,
     numbers: &[u32],
     counts: &mut [usize; 21],
     mem: &mut [u8],
     answers: &mut [u8],
 ) -> Model {
-    match call {
-        Call::Tick(n) => ticks::tick(m, n, counts, answers),
-        Call::Bus { bytes } => {
+    match content {
+        Content::Tick(n) => ticks::tick(m, n, counts, answers),
+        Content::Bus { bytes } => {
             transaction::bus(m, first_words(numbers, bytes), counts, mem, answers)
         }
-        Call::BusOut { out, bytes } => transaction::bus_out(
+        Content::BusOut { out, bytes } => transaction::bus_out(
             m,
             first_words(numbers, bytes),
             out as usize,
@@ -33,7 +33,7 @@ pub fn drive(
             mem,
             answers,
         ),
-        Call::Set { address, words } => {
+        Content::Set { address, words } => {
             transaction::set(
                 m,
                 address,
@@ -43,22 +43,22 @@ pub fn drive(
                 answers,
             )
         }
-        _ => pass(m, call, numbers, counts, answers),
+        _ => pass(m, content, numbers, counts, answers),
     }
 }
 
 // Ticks and deliveries.
 fn pass(
     m: Model,
-    call: Call,
+    content: Content,
     numbers: &[u32],
     counts: &mut [usize; 21],
     answers: &mut [u8],
 ) -> Model {
-    match call {
-        Call::At(t) => ticks::at(m, t, counts, answers),
-        Call::Stretch(n) => ticks::stretch(m, n, counts, answers),
-        Call::Flight { up, down } => flight(
+    match content {
+        Content::At(t) => ticks::at(m, t, counts, answers),
+        Content::Stretch(n) => ticks::stretch(m, n, counts, answers),
+        Content::Flight { up, down } => flight(
             m,
             first_words(numbers, up),
             words_from(numbers, up),
@@ -66,7 +66,7 @@ fn pass(
             counts,
             answers,
         ),
-        Call::Temperature(n) => {
+        Content::Temperature(n) => {
             delivery::temperature(m, first_words(numbers, n), counts, answers)
         }
         _ => m,

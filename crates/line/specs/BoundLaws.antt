@@ -10,8 +10,8 @@ use Rattle.numeral.specs.declared.Number.{Number}
 use Rattle.numeral.specs.declared.Number.the-variants.{Value, Bad}
 use Rattle.numeral.specs.Read.{readHex, readDecimal}
 use Rattle.numeral.specs.DigitLaws.{decimal-at-most}
-use Rattle.line.specs.declared.Call.{Call}
-use Rattle.line.specs.declared.Call.the-variants.{Bus, BusOut}
+use Rattle.line.specs.declared.Content.{Content}
+use Rattle.line.specs.declared.Content.the-variants.{Bus, BusOut}
 use Rattle.line.specs.declared.Counted.{Counted}
 use Rattle.line.specs.declared.Keyword.{Keyword}
 use Rattle.line.specs.Mark.{takesMark, callWords}
@@ -19,27 +19,27 @@ use Rattle.line.specs.declared.Tally.{Tally}
 use Rattle.line.specs.declared.Tally.the-variants.{Wrong, All}
 use Rattle.line.specs.Words.{words, sameBytes}
 use Rattle.line.specs.Numbers.{tallied}
-use Rattle.line.specs.Line.{Answer, answer, Bounded, bytesCall, bytesAnswer, byteForm, isOut, outAnswer, busAnswer, itemCall, alone, numbered, decimalWith, decimalCall, flightCall, flightAnswer, temperatureCall, temperatureAnswer, expectCall, expectWords, expectFrom, expectAnswer, setCall, setWords, setFrom, setAnswer, probeCall, probeAnswer, degreesCall, degreesAnswer, recordCall, recordAnswer, hexWith, hexCall, listingCall, laterAnswer, keywordOf, keywordAnswer, wordsAnswer, contentLength, lineAnswer}
+use Rattle.line.specs.Line.{Reading, reading, Bounded, bytesCall, bytesReading, byteForm, isOut, outReading, busReading, itemCall, alone, numbered, decimalWith, decimalCall, flightCall, flightReading, temperatureCall, temperatureReading, expectCall, expectWords, expectFrom, expectReading, setCall, setWords, setFrom, setReading, probeCall, probeReading, degreesCall, degreesReading, recordCall, recordReading, hexWith, hexCall, listingCall, laterReading, keywordOf, keywordReading, wordsReading, contentLength, lineReading}
 
 cond-cases : {A : Type 0} (P : A → Type 0) (t : Bool) {x y : A} → (t ≡ true → P x) → (t ≡ false → P y) → P (cond t x y)
 cond-cases P true one other = one refl
 cond-cases P false one other = other refl
 
-abbrev Within : Answer → Type 0
-Within a = Bounded (a .call)
+abbrev Within : Reading → Type 0
+Within a = Bounded (a .content)
 
-bytes-bounded : (call : ℕ → Call) → ((n : ℕ) → n ≤ 200 → Bounded (call n)) → (t : Tally) → Bounded (bytesCall call t)
+bytes-bounded : (content : ℕ → Content) → ((n : ℕ) → n ≤ 200 → Bounded (content n)) → (t : Tally) → Bounded (bytesCall content t)
 unfolding bytesCall
-bytes-bounded call h Wrong = tt
-bytes-bounded call h (All n k u) = cond-cases Bounded (ltb 200 n) (λ _. tt) (λ e. h n (ltb-false 200 n e))
+bytes-bounded content h Wrong = tt
+bytes-bounded content h (All n k u) = cond-cases Bounded (ltb 200 n) (λ _. tt) (λ e. h n (ltb-false 200 n e))
 
-out-bounded : (r : Number) → ((b : ℕ) → r ≡ Value b → b ≤ 200) → (l : List ℕ) (ws : List (List ℕ)) → Within (outAnswer r l ws)
-unfolding outAnswer bytesAnswer
+out-bounded : (r : Number) → ((b : ℕ) → r ≡ Value b → b ≤ 200) → (l : List ℕ) (ws : List (List ℕ)) → Within (outReading r l ws)
+unfolding outReading bytesReading
 out-bounded Bad h l ws = tt
 out-bounded (Value b) h l ws = bytes-bounded (BusOut b) (λ n most. (h b refl, most)) (tallied byteForm 0 0 0 l ws .tally)
 
-bus-bounded : (l : List ℕ) (ws : List (List ℕ)) → Within (busAnswer l ws)
-unfolding busAnswer bytesAnswer
+bus-bounded : (l : List ℕ) (ws : List (List ℕ)) → Within (busReading l ws)
+unfolding busReading bytesReading
 bus-bounded l [] = bytes-bounded Bus (λ n most. most) _
 bus-bounded l (w ∷ ws) =
     cond-cases Within (isOut w) (λ _. out-bounded (readDecimal 200 (drop 4 w)) (λ b e. decimal-at-most 200 (drop 4 w) b e) l ws)
@@ -72,12 +72,12 @@ expect-from-bounded (Value a) l ws =
     cond-cases Within (ltb a 176) (λ _. tt)
     (λ e. cond-cases Within (ltb 255 a) (λ _. tt) (λ e′. expect-bounded a (ltb-false a 176 e) (ltb-false 255 a e′) _))
 
-expect-answer-bounded : (l : List ℕ) (ws : List (List ℕ)) → Within (expectAnswer l ws)
-unfolding expectAnswer
-expect-answer-bounded l [] = tt
-expect-answer-bounded l (w ∷ ws) = expect-from-bounded (readHex 2 2 w) l ws
+expect-reading-bounded : (l : List ℕ) (ws : List (List ℕ)) → Within (expectReading l ws)
+unfolding expectReading
+expect-reading-bounded l [] = tt
+expect-reading-bounded l (w ∷ ws) = expect-from-bounded (readHex 2 2 w) l ws
 
-alone-bounded : (c : Call) → Bounded c → (ws : List (List ℕ)) → Bounded (alone c ws)
+alone-bounded : (c : Content) → Bounded c → (ws : List (List ℕ)) → Bounded (alone c ws)
 unfolding alone
 alone-bounded c h [] = h
 alone-bounded c h (w ∷ ws) = tt
@@ -118,10 +118,10 @@ set-from-bounded (Value a) l ws =
     cond-cases Within (ltb a 48) (λ _. tt)
     (λ e. cond-cases Within (ltb 67 a) (λ _. tt) (λ e′. set-bounded a (ltb-false a 48 e) (ltb-false 67 a e′) _))
 
-set-answer-bounded : (l : List ℕ) (ws : List (List ℕ)) → Within (setAnswer l ws)
-unfolding setAnswer
-set-answer-bounded l [] = tt
-set-answer-bounded l (w ∷ ws) = set-from-bounded (readHex 2 2 w) l ws
+set-reading-bounded : (l : List ℕ) (ws : List (List ℕ)) → Within (setReading l ws)
+unfolding setReading
+set-reading-bounded l [] = tt
+set-reading-bounded l (w ∷ ws) = set-from-bounded (readHex 2 2 w) l ws
 
 probe-bounded : (t : Tally) → Bounded (probeCall t)
 unfolding probeCall
@@ -141,7 +141,7 @@ record-bounded (All n k u) = tt
 hex-with-bounded : (old : Bool) (r : Number) (ws : List (List ℕ)) → Bounded (hexWith old r ws)
 unfolding hexWith
 hex-with-bounded old Bad ws = tt
-hex-with-bounded old (Value n) ws = alone-bounded (Call.Listing old n) tt ws
+hex-with-bounded old (Value n) ws = alone-bounded (Content.Listing old n) tt ws
 
 hex-bounded : (old : Bool) (ws : List (List ℕ)) → Bounded (hexCall old ws)
 unfolding hexCall
@@ -154,12 +154,12 @@ listing-bounded [] = tt
 listing-bounded (w ∷ ws) =
     cond-cases Bounded (sameBytes w (111 ∷ 108 ∷ 100 ∷ [])) (λ _. hex-bounded true ws) (λ _. hex-bounded false (w ∷ ws))
 
-later-bounded : (k : Keyword) (l : List ℕ) (ws : List (List ℕ)) → Within (laterAnswer k l ws)
-unfolding laterAnswer probeAnswer degreesAnswer recordAnswer
-later-bounded Keyword.Set l ws = set-answer-bounded l ws
+later-bounded : (k : Keyword) (l : List ℕ) (ws : List (List ℕ)) → Within (laterReading k l ws)
+unfolding laterReading probeReading degreesReading recordReading
+later-bounded Keyword.Set l ws = set-reading-bounded l ws
 later-bounded Keyword.At l ws = decimal-bounded Counted.At ws
 later-bounded Keyword.Stretch l ws = decimal-bounded Counted.Stretch ws
-later-bounded Keyword.Frames l ws = alone-bounded Call.Frames tt ws
+later-bounded Keyword.Frames l ws = alone-bounded Content.Frames tt ws
 later-bounded Keyword.Probe l ws = probe-bounded _
 later-bounded Keyword.Degrees l ws = degrees-bounded _
 later-bounded Keyword.Record l ws = record-bounded _
@@ -177,18 +177,18 @@ later-bounded Keyword.Expect l ws = tt
 later-bounded Keyword.Show l ws = tt
 later-bounded Keyword.Unknown l ws = tt
 
-keyword-bounded : (k : Keyword) (l : List ℕ) (ws : List (List ℕ)) → Within (keywordAnswer k l ws)
-unfolding keywordAnswer flightAnswer temperatureAnswer
+keyword-bounded : (k : Keyword) (l : List ℕ) (ws : List (List ℕ)) → Within (keywordReading k l ws)
+unfolding keywordReading flightReading temperatureReading
 keyword-bounded Keyword.Item l ws = item-bounded ws
 keyword-bounded Keyword.Bus l ws = bus-bounded l ws
 keyword-bounded Keyword.Tick l ws = decimal-bounded Counted.Tick ws
 keyword-bounded Keyword.Flight l ws = flight-bounded _
 keyword-bounded Keyword.Temperature l ws = temperature-bounded _
-keyword-bounded Keyword.Int l ws = alone-bounded Call.Int tt ws
-keyword-bounded Keyword.Awaited l ws = alone-bounded Call.Awaited tt ws
-keyword-bounded Keyword.Regs l ws = alone-bounded Call.Regs tt ws
-keyword-bounded Keyword.Expect l ws = expect-answer-bounded l ws
-keyword-bounded Keyword.Show l ws = alone-bounded Call.Show tt ws
+keyword-bounded Keyword.Int l ws = alone-bounded Content.Int tt ws
+keyword-bounded Keyword.Awaited l ws = alone-bounded Content.Awaited tt ws
+keyword-bounded Keyword.Regs l ws = alone-bounded Content.Regs tt ws
+keyword-bounded Keyword.Expect l ws = expect-reading-bounded l ws
+keyword-bounded Keyword.Show l ws = alone-bounded Content.Show tt ws
 keyword-bounded Keyword.Set l ws = later-bounded Keyword.Set l ws
 keyword-bounded Keyword.At l ws = later-bounded Keyword.At l ws
 keyword-bounded Keyword.Stretch l ws = later-bounded Keyword.Stretch l ws
@@ -200,14 +200,14 @@ keyword-bounded Keyword.Listing l ws = later-bounded Keyword.Listing l ws
 keyword-bounded Keyword.Quietest l ws = later-bounded Keyword.Quietest l ws
 keyword-bounded Keyword.Unknown l ws = later-bounded Keyword.Unknown l ws
 
-words-bounded : (l : List ℕ) (ws : List (List ℕ)) → Within (wordsAnswer l ws)
-unfolding wordsAnswer
+words-bounded : (l : List ℕ) (ws : List (List ℕ)) → Within (wordsReading l ws)
+unfolding wordsReading
 words-bounded l [] = tt
 words-bounded l (w ∷ ws) = cond-cases Within (eqb (getD w 0 0) 35) (λ _. tt) (λ _. keyword-bounded (keywordOf w) l (callWords (takesMark (keywordOf w)) ws))
 
-pub line-bounded : (l cs : List ℕ) → Within (lineAnswer l cs)
-unfolding lineAnswer
+pub line-bounded : (l cs : List ℕ) → Within (lineReading l cs)
+unfolding lineReading
 line-bounded l cs = cond-cases Within (ltb 1000 (contentLength cs)) (λ _. tt) (λ _. words-bounded l (words (take (contentLength cs) cs)))
 
-pub with-bounds : {r : Call} {l′ : List ℕ} {X : Type 0} (l cs : List ℕ) → answer r l′ ≡ lineAnswer l cs → X → (answer r l′ ≡ lineAnswer l cs) × (X × Bounded r)
-with-bounds l cs e x = (e, (x, (rw (ap (λ (a : Answer). a .call) e) (line-bounded l cs))))
+pub with-bounds : {r : Content} {l′ : List ℕ} {X : Type 0} (l cs : List ℕ) → reading r l′ ≡ lineReading l cs → X → (reading r l′ ≡ lineReading l cs) × (X × Bounded r)
+with-bounds l cs e x = (e, (x, (rw (ap (λ (a : Reading). a .content) e) (line-bounded l cs))))

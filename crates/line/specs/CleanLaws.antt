@@ -12,10 +12,10 @@ use borrow.Author.Tests.{lt-ltb, lt-leb, ne-eqb}
 use Rattle.numeral.specs.Digit.{digitOf, areDigits, valueOf}
 use Rattle.numeral.specs.DigitLaws.{value-append, are-append, hex-reads}
 use Rattle.line.specs.declared.Form.{Form}
-use Rattle.line.specs.declared.Kind.the-variants.{Word}
+use Rattle.line.specs.declared.ListWord.the-variants.{Word}
 use Rattle.line.specs.Words.{isBlank, wordsAfter, words, part, sameBytes}
 use Rattle.line.specs.WordLaws.{length-part, words-blank, word-grows, word-stops, word-ends, same-equal}
-use Rattle.line.specs.Numbers.{isSlash, kindOf, tallied, Outcome}
+use Rattle.line.specs.Numbers.{isSlash, listWord, tallied, Outcome}
 use Rattle.line.specs.NumberLaws.{tally-word}
 use Rattle.line.specs.Clean.{DigitsAt, WholeAt, PairAt, Passed}
 
@@ -95,9 +95,9 @@ module _ {s : List ℕ} {i j m v : ℕ} (d : DigitsAt s i j m v) where
         go (yes p) = word-stops s j p i (whole .some) (whole .stops p)
         go (no p) = word-ends s i j (whole .some) (d .high) (omega arith)
 
-    number-kind : (n : ℕ) → n < f .looked → kindOf f n (part i j s) ≡ Word v
-    unfolding kindOf isSlash
-    number-kind n h =
+    number-word : (n : ℕ) → n < f .looked → listWord f n (part i j s) ≡ Word v
+    unfolding listWord isSlash
+    number-word n h =
         let long = length-part i j s (d .high) in
         let reads =
         hex-reads (f .least) (f .most) (part i j s) (omega (arith, long, whole .some)) (omega (arith, long, whole .long)) (omega (arith, long, d .within))
@@ -134,7 +134,7 @@ passed-more {f = f} {s = s} {c = c} {l′ = l′} p d whole blanks after less =
       low = omega (arith, p .low, whole .some);
       high = d .high;
       count = omega (arith, p .count, whole .some);
-      alike = λ k u. tally-word f c k u l′ (sym blanks ∙ first-word d f refl whole) (number-kind d f refl whole c less) ∙ p .alike k u;
+      alike = λ k u. tally-word f c k u l′ (sym blanks ∙ first-word d f refl whole) (number-word d f refl whole c less) ∙ p .alike k u;
     }
 
 pub passed-pair : {f : Form} {s : List ℕ} {at n i c v : ℕ} {l l′ : List ℕ} → Passed f s at n l i c l′ → f .most ≡ 2 → f .least ≡ 2 → PairAt s i v → c < f .looked

@@ -5,18 +5,18 @@ use mathlib.Core.Bool.{true}
 use mathlib.Core.List.{List, [], _∷_}
 use Rattle.numeral.specs.Digit.{digitOf, areDigits, valueOf}
 use Rattle.numeral.specs.Read.{valueIn, readHex, readDecimal, readSigned, negated}
-use Rattle.line.specs.declared.Call.{Call}
-use Rattle.line.specs.declared.Call.the-variants.{Nothing, UnknownWord, BadNumber, WrongCount, BusOut, Tick, Flight, Set, At, Probe, Degrees, Record, Listing, Quietest}
+use Rattle.line.specs.declared.Content.{Content}
+use Rattle.line.specs.declared.Content.the-variants.{Nothing, UnknownWord, BadNumber, WrongCount, BusOut, Tick, Flight, Set, At, Probe, Degrees, Record, Listing, Quietest}
 use Rattle.line.specs.Words.{words, wordsAfter, ended, isBlank, sameBytes}
-use Rattle.line.specs.Numbers.{isSlash, kindOf, tallied}
+use Rattle.line.specs.Numbers.{isSlash, listWord, tallied}
 use Rattle.line.specs.Decimals.{decimalOf, listed}
 use Rattle.line.specs.Mark.{takesMark, isMark, beforeMark}
-use Rattle.line.specs.Line.{lineAnswer, contentLength, wordsAnswer, keywordOf, keywordAnswer, itemCall, busAnswer, isOut, outAnswer, bytesAnswer, bytesCall, numbered, decimalWith, decimalCall, alone, flightAnswer, flightCall, temperatureAnswer, temperatureCall, expectAnswer, expectFrom, expectWords, expectCall, setAnswer, setFrom, setWords, setCall, probeAnswer, probeCall, degreesAnswer, degreesCall, recordAnswer, recordCall, hexWith, hexCall, listingCall, laterAnswer}
+use Rattle.line.specs.Line.{lineReading, contentLength, wordsReading, keywordOf, keywordReading, itemCall, busReading, isOut, outReading, bytesReading, bytesCall, numbered, decimalWith, decimalCall, alone, flightReading, flightCall, temperatureReading, temperatureCall, expectReading, expectFrom, expectWords, expectCall, setReading, setFrom, setWords, setCall, probeReading, probeCall, degreesReading, degreesCall, recordReading, recordCall, hexWith, hexCall, listingCall, laterReading}
 
 -- What is said by a line whose numbers find no place.
-said : List ℕ → Call
-unfolding lineAnswer contentLength wordsAnswer words wordsAfter ended isBlank sameBytes keywordOf keywordAnswer itemCall busAnswer isOut outAnswer bytesAnswer bytesCall numbered decimalWith decimalCall alone flightAnswer flightCall temperatureAnswer temperatureCall expectAnswer expectFrom expectWords expectCall setAnswer setFrom setWords setCall probeAnswer probeCall degreesAnswer degreesCall recordAnswer recordCall hexWith hexCall listingCall laterAnswer takesMark isMark beforeMark listed decimalOf readSigned negated isSlash kindOf tallied readHex readDecimal valueIn valueOf areDigits digitOf
-said cs = lineAnswer [] cs .call
+said : List ℕ → Content
+unfolding lineReading contentLength wordsReading words wordsAfter ended isBlank sameBytes keywordOf keywordReading itemCall busReading isOut outReading bytesReading bytesCall numbered decimalWith decimalCall alone flightReading flightCall temperatureReading temperatureCall expectReading expectFrom expectWords expectCall setReading setFrom setWords setCall probeReading probeCall degreesReading degreesCall recordReading recordCall hexWith hexCall listingCall laterReading takesMark isMark beforeMark listed decimalOf readSigned negated isSlash listWord tallied readHex readDecimal valueIn valueOf areDigits digitOf
+said cs = lineReading [] cs .content
 
 -- `int x`
 word-past : said (105 ∷ 110 ∷ 116 ∷ 32 ∷ 120 ∷ []) ≡ WrongCount

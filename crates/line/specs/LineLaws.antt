@@ -10,16 +10,16 @@ use lib.Dec.{ltb, eqb}
 use lib.ListN.{length, getD, take, drop, length-take}
 use lib.Seq.{take-all, getD-take, getD-drop}
 use borrow.Author.Tests.{lt-ltb}
-use Rattle.line.specs.declared.Call.{Call}
+use Rattle.line.specs.declared.Content.{Content}
 use Rattle.line.specs.declared.Keyword.{Keyword}
 use Rattle.line.specs.declared.Tally.{Tally}
 use Rattle.line.specs.Words.{part}
 use Rattle.line.specs.Numbers.{Outcome}
-use Rattle.line.specs.Line.{answer, answered, isOut, contentLength, lineAnswer}
+use Rattle.line.specs.Line.{reading, readBy, isOut, contentLength, lineReading}
 
-pub answered-by : (f : Tally → Call) {t : Tally} {l : List ℕ} {o : Outcome} {r : Call} → record { tally = t; numbers = l } ≡ o → r ≡ f t
-    → answer r l ≡ answered f o
-answered-by f {t} {l} e h = ap (λ (c : Call). answer c l) h ∙ ap (answered f) e
+pub read-by : (f : Tally → Content) {t : Tally} {l : List ℕ} {o : Outcome} {r : Content} → record { tally = t; numbers = l } ≡ o → r ≡ f t
+    → reading r l ≡ readBy f o
+read-by f {t} {l} e h = ap (λ (c : Content). reading c l) h ∙ ap (readBy f) e
 
 -- In a chain of tests, the first that holds decides.
 pub here : {test t : Bool} {a : Keyword} (b : Keyword) → test ≡ t → test ≡ true → a ≡ cond t a b
@@ -40,8 +40,8 @@ out-long w e = go (decLe 4 (length w)) e
     go (yes p) = λ _. p
     go (no p) = rw (lt-ltb (length w) 4 (omega arith)) (λ e′. let z : _≡_ {A = ℕ} 0 1 = cc in absurd (omega arith))
 
-long-line : (l cs : List ℕ) → 1001 < length cs → lineAnswer l cs ≡ answer Call.TooLong l
-unfolding lineAnswer contentLength
+long-line : (l cs : List ℕ) → 1001 < length cs → lineReading l cs ≡ reading Content.TooLong l
+unfolding lineReading contentLength
 long-line l cs h = rw (go (eqb (getD cs (length cs - 1) 0) 13))
   where
     go : (t : Bool) → ltb 1000 (cond t (length cs - 1) (length cs)) ≡ true
@@ -49,10 +49,10 @@ long-line l cs h = rw (go (eqb (getD cs (length cs - 1) 0) 13))
     go false = lt-ltb 1000 (length cs) (omega arith)
 
 -- A reader need keep no more than the first 1,002 bytes of a line.
-pub cut : (l cs : List ℕ) → lineAnswer l (take 1002 cs) ≡ lineAnswer l cs
+pub cut : (l cs : List ℕ) → lineReading l (take 1002 cs) ≡ lineReading l cs
 cut l cs = go (decLe (length cs) 1002)
   where
-    go : Dec (length cs ≤ 1002) → lineAnswer l (take 1002 cs) ≡ lineAnswer l cs
+    go : Dec (length cs ≤ 1002) → lineReading l (take 1002 cs) ≡ lineReading l cs
     go (yes p) = rw (take-all 1002 cs p)
     go (no p) =
         let some : 1001 < length (take 1002 cs) = rw length-take (omega arith) in

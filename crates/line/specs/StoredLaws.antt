@@ -13,7 +13,7 @@ use Rattle.numeral.specs.declared.Number.the-variants.{Value, Bad}
 use Rattle.numeral.specs.Read.{readHex}
 use Rattle.line.specs.declared.Form.{Form}
 use Rattle.line.specs.declared.Tally.the-variants.{All}
-use Rattle.line.specs.Numbers.{isSlash, kindOf, ofNumber, tallied, Outcome}
+use Rattle.line.specs.Numbers.{isSlash, listWord, ofNumber, tallied, Outcome}
 use Rattle.line.specs.NumberLaws.{tally-end, tally-word, tally-wrong}
 
 -- From the number n on, c numbers are counted and stored.
@@ -22,9 +22,9 @@ pub record Stored (f : Form) (n : ℕ) (l : List ℕ) (ws : List (List ℕ)) (c 
   pub value : (i : ℕ) → i < length ws → readHex (f .least) (f .most) (getD ws i []) ≡ Value (getD l′ (n + i) 0)
   pub before : (i : ℕ) → i < n → getD l′ i 0 ≡ getD l i 0
 
-kind-number : (f : Form) (n : ℕ) (w : List ℕ) → f .slash ≡ false → n < f .looked → kindOf f n w ≡ ofNumber (readHex (f .least) (f .most) w)
-unfolding kindOf isSlash
-kind-number f n w e h = rw (e, lt-leb (f .looked) n h)
+number-read : (f : Form) (n : ℕ) (w : List ℕ) → f .slash ≡ false → n < f .looked → listWord f n w ≡ ofNumber (readHex (f .least) (f .most) w)
+unfolding listWord isSlash
+number-read f n w e h = rw (e, lt-leb (f .looked) n h)
 
 -- In a list that no slash parts, with each word looked into and room for all.
 pub stored : (f : Form) → f .slash ≡ false → (ws : List (List ℕ)) (n k u : ℕ) (l : List ℕ) → n + length ws ≤ f .looked → n + length ws ≤ length l
@@ -41,13 +41,13 @@ stored f plain (w ∷ ws) n k u l seen room o e c k′ u′ all =
         → (c′ a b : ℕ) → o′ .tally ≡ All c′ a b → Stored f (n + 1) l″ ws c′ (o′ .numbers))
         → Stored f n l (w ∷ ws) c (o .numbers)
     go Bad p rest =
-        let kind = kind-number f n w plain (omega arith) ∙ ap ofNumber p in
-        let wrong = ap (λ (x : Outcome). x .tally) (tally-wrong f n k u l refl kind ∙ e) in
+        let word = number-read f n w plain (omega arith) ∙ ap ofNumber p in
+        let wrong = ap (λ (x : Outcome). x .tally) (tally-wrong f n k u l refl word ∙ e) in
         let z : _≡_ {A = ℕ} 0 1 = cc in
         absurd (omega arith)
     go (Value v) p rest =
-        let kind = kind-number f n w plain (omega arith) ∙ ap ofNumber p in
-        let s = rest (set l n v) (omega arith) (rw length-set (omega arith)) o (tally-word f n k u l refl kind ∙ e) c k′ u′ all in
+        let word = number-read f n w plain (omega arith) ∙ ap ofNumber p in
+        let s = rest (set l n v) (omega arith) (rw length-set (omega arith)) o (tally-word f n k u l refl word ∙ e) c k′ u′ all in
         let here : getD (o .numbers) n 0 ≡ v = s .before n (omega arith) ∙ getD-set-same l n v 0 (omega arith) in
         record {
           count = omega (arith, s .count);

@@ -1,5 +1,5 @@
 // A line's call.
-use crate::Call;
+use crate::Content;
 use crate::Counted;
 use crate::Form;
 use crate::Keyword;
@@ -19,25 +19,25 @@ ghost use mathlib.Core.Bool.{true, false};
 ghost use Prim.Native.Nat.{_≤_, _-_};
 ghost use lib.ListN.{length, take, drop};
 ghost use Rattle.numeral.specs.Read.{readDecimal};
-ghost use Rattle.line.specs.declared.Call.the-variants.{Bus};
+ghost use Rattle.line.specs.declared.Content.the-variants.{Bus};
 ghost use Rattle.line.specs.declared.Tally.the-variants.{All};
 ghost use Rattle.line.specs.Words.{words};
 ghost use Rattle.line.specs.Mark.{Expects};
-ghost use Rattle.line.specs.Line.{answer, itemCall, byteForm, wordForm, flightCall, bytesAnswer, isOut, outAnswer, busAnswer, alone as Line·alone, flightAnswer, temperatureAnswer, expectWords, expectFrom, expectAnswer, keywordAnswer, laterAnswer, wordsAnswer, wordsExpected, contentLength, lineAnswer, lineExpected, Bounded};
+ghost use Rattle.line.specs.Line.{reading, itemCall, byteForm, wordForm, flightCall, bytesReading, isOut, outReading, busReading, alone as Line·alone, flightReading, temperatureReading, expectWords, expectFrom, expectReading, keywordReading, laterReading, wordsReading, wordsExpected, contentLength, lineReading, lineExpected, Bounded};
 
 // The count of numbers that no list reaches.
 const EVERY: usize = 18446744073709551615;
 
 // Reads a line, without its line feed.
 pub fn read_line(line: &[u8], numbers: &mut [u32]) -> Said
-    ensures { λ r. ⌜ answer (r .call) (now (numbers .exit)) ≡ lineAnswer (now (numbers .entry)) (now (line .entry)) ⌝ }
+    ensures { λ r. ⌜ reading (r .content) (now (numbers .exit)) ≡ lineReading (now (numbers .entry)) (now (line .entry)) ⌝ }
     ensures expected { λ r. ⌜ Expects (lineExpected (now (line .entry))) (take (contentLength (now (line .entry))) (now (line .entry))) (r .expected) ⌝ }
-    ensures bounded { λ r. ⌜ Bounded (r .call) ⌝ }
+    ensures bounded { λ r. ⌜ Bounded (r .content) ⌝ }
 {
     let n = content_length(line);
     if 1000 < n {
         Said {
-            call: Call::TooLong,
+            content: Content::TooLong,
             expected: 0,
         }
     } else {
@@ -57,20 +57,20 @@ pub(crate) fn content_length(line: &[u8]) -> usize
 }
 
 fn words_call(s: &[u8], numbers: &mut [u32]) -> Said
-    ensures { λ r. ⌜ (answer (r .call) (now (numbers .exit)) ≡ wordsAnswer (now (numbers .entry)) (words (now (s .entry)))) × Expects (wordsExpected (words (now (s .entry)))) (now (s .entry)) (r .expected) ⌝ }
+    ensures { λ r. ⌜ (reading (r .content) (now (numbers .exit)) ≡ wordsReading (now (numbers .entry)) (words (now (s .entry)))) × Expects (wordsExpected (words (now (s .entry)))) (now (s .entry)) (r .expected) ⌝ }
 {
     let word = next_word(s, 0);
     let start = word.start;
     let end = word.end;
     if end <= start {
         return Said {
-            call: Call::Nothing,
+            content: Content::Nothing,
             expected: 0,
         };
     }
     if s[start] == 35 {
         return Said {
-            call: Call::Nothing,
+            content: Content::Nothing,
             expected: 0,
         };
     }
@@ -78,15 +78,15 @@ fn words_call(s: &[u8], numbers: &mut [u32]) -> Said
     let part = call_part(takes_mark(k), s, end);
     let stop = part.start;
     Said {
-        call: keyword_call(k, &s[..stop], end, numbers),
+        content: keyword_call(k, &s[..stop], end, numbers),
         expected: behind_mark(part),
     }
 }
 
 // The call of a keyword, with the words from the place `at` on.
-fn keyword_call(k: Keyword, s: &[u8], at: usize, numbers: &mut [u32]) -> Call
+fn keyword_call(k: Keyword, s: &[u8], at: usize, numbers: &mut [u32]) -> Content
     requires { ⌜ at ≤ length (now s) ⌝ }
-    ensures { λ r. ⌜ answer r (now (numbers .exit)) ≡ keywordAnswer k (now (numbers .entry)) (words (drop at (now (s .entry)))) ⌝ }
+    ensures { λ r. ⌜ reading r (now (numbers .exit)) ≡ keywordReading k (now (numbers .entry)) (words (drop at (now (s .entry)))) ⌝ }
 {
     match k {
         Keyword::Item => item_call(s, at),
@@ -94,61 +94,61 @@ fn keyword_call(k: Keyword, s: &[u8], at: usize, numbers: &mut [u32]) -> Call
         Keyword::Tick => later::decimal_call(Counted::Tick, s, at),
         Keyword::Flight => flight_call(s, at, numbers),
         Keyword::Temperature => temperature_call(s, at, numbers),
-        Keyword::Int => alone(Call::Int, s, at),
-        Keyword::Awaited => alone(Call::Awaited, s, at),
-        Keyword::Regs => alone(Call::Regs, s, at),
+        Keyword::Int => alone(Content::Int, s, at),
+        Keyword::Awaited => alone(Content::Awaited, s, at),
+        Keyword::Regs => alone(Content::Regs, s, at),
         Keyword::Expect => expect_call(s, at, numbers),
-        Keyword::Show => alone(Call::Show, s, at),
+        Keyword::Show => alone(Content::Show, s, at),
         _ => later_call(k, s, at, numbers),
     }
 }
 
-fn later_call(k: Keyword, s: &[u8], at: usize, numbers: &mut [u32]) -> Call
+fn later_call(k: Keyword, s: &[u8], at: usize, numbers: &mut [u32]) -> Content
     requires { ⌜ at ≤ length (now s) ⌝ }
-    ensures { λ r. ⌜ answer r (now (numbers .exit)) ≡ laterAnswer k (now (numbers .entry)) (words (drop at (now (s .entry)))) ⌝ }
+    ensures { λ r. ⌜ reading r (now (numbers .exit)) ≡ laterReading k (now (numbers .entry)) (words (drop at (now (s .entry)))) ⌝ }
 {
     match k {
         Keyword::Set => later::set_call(s, at, numbers),
         Keyword::At => later::decimal_call(Counted::At, s, at),
         Keyword::Stretch => later::decimal_call(Counted::Stretch, s, at),
-        Keyword::Frames => alone(Call::Frames, s, at),
+        Keyword::Frames => alone(Content::Frames, s, at),
         Keyword::Probe => later::probe_call(s, at, numbers),
         Keyword::Degrees => later::degrees_call(s, at, numbers),
         Keyword::Record => later::record_call(s, at, numbers),
         Keyword::Listing => later::listing_call(s, at),
         Keyword::Quietest => later::decimal_call(Counted::Quietest, s, at),
-        _ => Call::UnknownWord,
+        _ => Content::UnknownWord,
     }
 }
 
-fn item_call(s: &[u8], at: usize) -> Call
+fn item_call(s: &[u8], at: usize) -> Content
     requires { ⌜ at ≤ length (now s) ⌝ }
     ensures { λ r. ⌜ r ≡ itemCall (words (drop at (now (s .entry)))) ⌝ }
 {
     let word = next_word(s, at);
     if word.end <= word.start {
-        Call::WrongCount
+        Content::WrongCount
     } else {
-        Call::Item
+        Content::Item
     }
 }
 
 // A call that has no further word.
-pub(crate) fn alone(call: Call, s: &[u8], at: usize) -> Call
+pub(crate) fn alone(content: Content, s: &[u8], at: usize) -> Content
     requires { ⌜ at ≤ length (now s) ⌝ }
-    ensures { λ r. ⌜ r ≡ Line·alone call (words (drop at (now (s .entry)))) ⌝ }
+    ensures { λ r. ⌜ r ≡ Line·alone content (words (drop at (now (s .entry)))) ⌝ }
 {
     let word = next_word(s, at);
     if word.end <= word.start {
-        call
+        content
     } else {
-        Call::WrongCount
+        Content::WrongCount
     }
 }
 
-fn bus_call(s: &[u8], at: usize, numbers: &mut [u32]) -> Call
+fn bus_call(s: &[u8], at: usize, numbers: &mut [u32]) -> Content
     requires { ⌜ at ≤ length (now s) ⌝ }
-    ensures { λ r. ⌜ answer r (now (numbers .exit)) ≡ busAnswer (now (numbers .entry)) (words (drop at (now (s .entry)))) ⌝ }
+    ensures { λ r. ⌜ reading r (now (numbers .exit)) ≡ busReading (now (numbers .entry)) (words (drop at (now (s .entry)))) ⌝ }
 {
     let word = next_word(s, at);
     let start = word.start;
@@ -181,43 +181,43 @@ fn out_number(word: &[u8]) -> Number
     numeral::read_decimal(&word[4..], 200)
 }
 
-fn bytes_call(s: &[u8], at: usize, numbers: &mut [u32]) -> Call
+fn bytes_call(s: &[u8], at: usize, numbers: &mut [u32]) -> Content
     requires { ⌜ at ≤ length (now s) ⌝ }
-    ensures { λ r. ⌜ answer r (now (numbers .exit)) ≡ bytesAnswer Bus (now (numbers .entry)) (words (drop at (now (s .entry)))) ⌝ }
+    ensures { λ r. ⌜ reading r (now (numbers .exit)) ≡ bytesReading Bus (now (numbers .entry)) (words (drop at (now (s .entry)))) ⌝ }
 {
     match tally(s, at, byte_form(), numbers) {
-        Tally::Wrong => Call::BadNumber,
+        Tally::Wrong => Content::BadNumber,
         Tally::All {
             count,
             slashes: _,
             up: _,
         } => {
             if 200 < count {
-                Call::WrongCount
+                Content::WrongCount
             } else {
-                Call::Bus { bytes: count }
+                Content::Bus { bytes: count }
             }
         }
     }
 }
 
-fn out_call(out: Number, s: &[u8], at: usize, numbers: &mut [u32]) -> Call
+fn out_call(out: Number, s: &[u8], at: usize, numbers: &mut [u32]) -> Content
     requires { ⌜ at ≤ length (now s) ⌝ }
-    ensures { λ r. ⌜ answer r (now (numbers .exit)) ≡ outAnswer out (now (numbers .entry)) (words (drop at (now (s .entry)))) ⌝ }
+    ensures { λ r. ⌜ reading r (now (numbers .exit)) ≡ outReading out (now (numbers .entry)) (words (drop at (now (s .entry)))) ⌝ }
 {
     match out {
-        Number::Bad => Call::BadNumber,
+        Number::Bad => Content::BadNumber,
         Number::Value(n) => match tally(s, at, byte_form(), numbers) {
-            Tally::Wrong => Call::BadNumber,
+            Tally::Wrong => Content::BadNumber,
             Tally::All {
                 count,
                 slashes: _,
                 up: _,
             } => {
                 if 200 < count {
-                    Call::WrongCount
+                    Content::WrongCount
                 } else {
-                    Call::BusOut {
+                    Content::BusOut {
                         out: n,
                         bytes: count,
                     }
@@ -251,30 +251,30 @@ fn word_form(slash: bool) -> Form
     }
 }
 
-fn flight_call(s: &[u8], at: usize, numbers: &mut [u32]) -> Call
+fn flight_call(s: &[u8], at: usize, numbers: &mut [u32]) -> Content
     requires { ⌜ at ≤ length (now s) ⌝ }
-    ensures { λ r. ⌜ answer r (now (numbers .exit)) ≡ flightAnswer (now (numbers .entry)) (words (drop at (now (s .entry)))) ⌝ }
+    ensures { λ r. ⌜ reading r (now (numbers .exit)) ≡ flightReading (now (numbers .entry)) (words (drop at (now (s .entry)))) ⌝ }
 {
     match tally(s, at, word_form(true), numbers) {
-        Tally::Wrong => Call::BadNumber,
+        Tally::Wrong => Content::BadNumber,
         Tally::All { count, slashes, up } => flight_of(count, slashes, up),
     }
 }
 
-fn flight_of(count: usize, slashes: usize, up: usize) -> Call
+fn flight_of(count: usize, slashes: usize, up: usize) -> Content
     ensures { λ r. ⌜ r ≡ flightCall (All count slashes up) ⌝ }
 {
     if slashes != 1 {
-        return Call::WrongCount;
+        return Content::WrongCount;
     }
     if 16 < up {
-        return Call::WrongCount;
+        return Content::WrongCount;
     }
     let down = less(count, up);
     if 16 < down {
-        return Call::WrongCount;
+        return Content::WrongCount;
     }
-    Call::Flight { up, down }
+    Content::Flight { up, down }
 }
 
 // a - b, or 0.
@@ -284,61 +284,61 @@ fn less(a: usize, b: usize) -> usize
     if a < b { 0 } else { a - b }
 }
 
-fn temperature_call(s: &[u8], at: usize, numbers: &mut [u32]) -> Call
+fn temperature_call(s: &[u8], at: usize, numbers: &mut [u32]) -> Content
     requires { ⌜ at ≤ length (now s) ⌝ }
-    ensures { λ r. ⌜ answer r (now (numbers .exit)) ≡ temperatureAnswer (now (numbers .entry)) (words (drop at (now (s .entry)))) ⌝ }
+    ensures { λ r. ⌜ reading r (now (numbers .exit)) ≡ temperatureReading (now (numbers .entry)) (words (drop at (now (s .entry)))) ⌝ }
 {
     match tally(s, at, word_form(false), numbers) {
-        Tally::Wrong => Call::BadNumber,
+        Tally::Wrong => Content::BadNumber,
         Tally::All {
             count,
             slashes: _,
             up: _,
         } => {
             if 16 < count {
-                Call::WrongCount
+                Content::WrongCount
             } else {
-                Call::Temperature(count)
+                Content::Temperature(count)
             }
         }
     }
 }
 
-fn expect_call(s: &[u8], at: usize, numbers: &mut [u32]) -> Call
+fn expect_call(s: &[u8], at: usize, numbers: &mut [u32]) -> Content
     requires { ⌜ at ≤ length (now s) ⌝ }
-    ensures { λ r. ⌜ answer r (now (numbers .exit)) ≡ expectAnswer (now (numbers .entry)) (words (drop at (now (s .entry)))) ⌝ }
+    ensures { λ r. ⌜ reading r (now (numbers .exit)) ≡ expectReading (now (numbers .entry)) (words (drop at (now (s .entry)))) ⌝ }
 {
     let word = next_word(s, at);
     let start = word.start;
     let end = word.end;
     if end <= start {
-        return Call::WrongCount;
+        return Content::WrongCount;
     }
     expect_from(numeral::read_hex(&s[start..end], 2, 2), s, end, numbers)
 }
 
 // With the word of the address read.
-fn expect_from(address: Number, s: &[u8], at: usize, numbers: &mut [u32]) -> Call
+fn expect_from(address: Number, s: &[u8], at: usize, numbers: &mut [u32]) -> Content
     requires { ⌜ at ≤ length (now s) ⌝ }
-    ensures { λ r. ⌜ answer r (now (numbers .exit)) ≡ expectFrom address (now (numbers .entry)) (words (drop at (now (s .entry)))) ⌝ }
+    ensures { λ r. ⌜ reading r (now (numbers .exit)) ≡ expectFrom address (now (numbers .entry)) (words (drop at (now (s .entry)))) ⌝ }
 {
     match address {
-        Number::Bad => Call::BadNumber,
+        Number::Bad => Content::BadNumber,
         Number::Value(a) => {
             if a < 176 {
-                return Call::BadNumber;
+                return Content::BadNumber;
             }
             if 255 < a {
-                return Call::BadNumber;
+                return Content::BadNumber;
             }
             expect_words(a, s, at, numbers)
         }
     }
 }
 
-fn expect_words(a: u32, s: &[u8], at: usize, numbers: &mut [u32]) -> Call
+fn expect_words(a: u32, s: &[u8], at: usize, numbers: &mut [u32]) -> Content
     requires { ⌜ (a ≤ 255) × (at ≤ length (now s)) ⌝ }
-    ensures { λ r. ⌜ answer r (now (numbers .exit)) ≡ expectWords a (now (numbers .entry)) (words (drop at (now (s .entry)))) ⌝ }
+    ensures { λ r. ⌜ reading r (now (numbers .exit)) ≡ expectWords a (now (numbers .entry)) (words (drop at (now (s .entry)))) ⌝ }
 {
     let most = (256 - a) as usize;
     let form = Form {
@@ -348,19 +348,19 @@ fn expect_words(a: u32, s: &[u8], at: usize, numbers: &mut [u32]) -> Call
         slash: false,
     };
     match tally(s, at, form, numbers) {
-        Tally::Wrong => Call::BadNumber,
+        Tally::Wrong => Content::BadNumber,
         Tally::All {
             count,
             slashes: _,
             up: _,
         } => {
             if count < 1 {
-                return Call::WrongCount;
+                return Content::WrongCount;
             }
             if most < count {
-                return Call::WrongCount;
+                return Content::WrongCount;
             }
-            Call::Expect {
+            Content::Expect {
                 address: a,
                 words: count,
             }

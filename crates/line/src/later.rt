@@ -1,6 +1,6 @@
 // The calls of the lines beside those of 01: a write in words, moments, stretches, and what stands
 // beside the model.
-use crate::Call;
+use crate::Content;
 use crate::Counted;
 use crate::Form;
 use crate::Tally;
@@ -14,13 +14,13 @@ ghost use mathlib.Core.Path.{_≡_};
 ghost use Prim.Native.Nat.{_≤_};
 ghost use lib.ListN.{length, drop};
 ghost use Rattle.line.specs.Words.{words};
-ghost use Rattle.line.specs.Line.{answer, numbered as Line·numbered, decimalCall, setWords, setFrom, setAnswer, probeAnswer, recordAnswer, degreesAnswer, hexCall, listingCall};
+ghost use Rattle.line.specs.Line.{reading, numbered as Line·numbered, decimalCall, setWords, setFrom, setReading, probeReading, recordReading, degreesReading, hexCall, listingCall};
 
 // The count of numbers that no list reaches.
 const EVERY: usize = 18446744073709551615;
 
 // `tick N`, `at T`, `stretch N` and `quietest W`.
-pub(crate) fn decimal_call(k: Counted, s: &[u8], at: usize) -> Call
+pub(crate) fn decimal_call(k: Counted, s: &[u8], at: usize) -> Content
     requires { ⌜ at ≤ length (now s) ⌝ }
     ensures { λ r. ⌜ r ≡ decimalCall k (words (drop at (now (s .entry)))) ⌝ }
 {
@@ -28,60 +28,60 @@ pub(crate) fn decimal_call(k: Counted, s: &[u8], at: usize) -> Call
     let start = word.start;
     let end = word.end;
     if end <= start {
-        return Call::WrongCount;
+        return Content::WrongCount;
     }
     match numeral::read_decimal(&s[start..end], 4294967295) {
         Number::Value(n) => alone(numbered(k, n), s, end),
-        Number::Bad => Call::BadNumber,
+        Number::Bad => Content::BadNumber,
     }
 }
 
-fn numbered(k: Counted, n: u32) -> Call
+fn numbered(k: Counted, n: u32) -> Content
     ensures { λ r. ⌜ r ≡ Line·numbered k n ⌝ }
 {
     match k {
-        Counted::Tick => Call::Tick(n),
-        Counted::At => Call::At(n),
-        Counted::Stretch => Call::Stretch(n),
-        Counted::Quietest => Call::Quietest(n),
+        Counted::Tick => Content::Tick(n),
+        Counted::At => Content::At(n),
+        Counted::Stretch => Content::Stretch(n),
+        Counted::Quietest => Content::Quietest(n),
     }
 }
 
-pub(crate) fn set_call(s: &[u8], at: usize, numbers: &mut [u32]) -> Call
+pub(crate) fn set_call(s: &[u8], at: usize, numbers: &mut [u32]) -> Content
     requires { ⌜ at ≤ length (now s) ⌝ }
-    ensures { λ r. ⌜ answer r (now (numbers .exit)) ≡ setAnswer (now (numbers .entry)) (words (drop at (now (s .entry)))) ⌝ }
+    ensures { λ r. ⌜ reading r (now (numbers .exit)) ≡ setReading (now (numbers .entry)) (words (drop at (now (s .entry)))) ⌝ }
 {
     let word = next_word(s, at);
     let start = word.start;
     let end = word.end;
     if end <= start {
-        return Call::WrongCount;
+        return Content::WrongCount;
     }
     set_from(numeral::read_hex(&s[start..end], 2, 2), s, end, numbers)
 }
 
 // With the word of the address read.
-fn set_from(address: Number, s: &[u8], at: usize, numbers: &mut [u32]) -> Call
+fn set_from(address: Number, s: &[u8], at: usize, numbers: &mut [u32]) -> Content
     requires { ⌜ at ≤ length (now s) ⌝ }
-    ensures { λ r. ⌜ answer r (now (numbers .exit)) ≡ setFrom address (now (numbers .entry)) (words (drop at (now (s .entry)))) ⌝ }
+    ensures { λ r. ⌜ reading r (now (numbers .exit)) ≡ setFrom address (now (numbers .entry)) (words (drop at (now (s .entry)))) ⌝ }
 {
     match address {
-        Number::Bad => Call::BadNumber,
+        Number::Bad => Content::BadNumber,
         Number::Value(a) => {
             if a < 48 {
-                return Call::BadNumber;
+                return Content::BadNumber;
             }
             if 67 < a {
-                return Call::BadNumber;
+                return Content::BadNumber;
             }
             set_words(a, s, at, numbers)
         }
     }
 }
 
-fn set_words(a: u32, s: &[u8], at: usize, numbers: &mut [u32]) -> Call
+fn set_words(a: u32, s: &[u8], at: usize, numbers: &mut [u32]) -> Content
     requires { ⌜ at ≤ length (now s) ⌝ }
-    ensures { λ r. ⌜ answer r (now (numbers .exit)) ≡ setWords a (now (numbers .entry)) (words (drop at (now (s .entry)))) ⌝ }
+    ensures { λ r. ⌜ reading r (now (numbers .exit)) ≡ setWords a (now (numbers .entry)) (words (drop at (now (s .entry)))) ⌝ }
 {
     let form = Form {
         least: 1,
@@ -90,19 +90,19 @@ fn set_words(a: u32, s: &[u8], at: usize, numbers: &mut [u32]) -> Call
         slash: false,
     };
     match tally(s, at, form, numbers) {
-        Tally::Wrong => Call::BadNumber,
+        Tally::Wrong => Content::BadNumber,
         Tally::All {
             count,
             slashes: _,
             up: _,
         } => {
             if count < 1 {
-                return Call::WrongCount;
+                return Content::WrongCount;
             }
             if 99 < count {
-                return Call::WrongCount;
+                return Content::WrongCount;
             }
-            Call::Set {
+            Content::Set {
                 address: a,
                 words: count,
             }
@@ -110,43 +110,43 @@ fn set_words(a: u32, s: &[u8], at: usize, numbers: &mut [u32]) -> Call
     }
 }
 
-pub(crate) fn probe_call(s: &[u8], at: usize, numbers: &mut [u32]) -> Call
+pub(crate) fn probe_call(s: &[u8], at: usize, numbers: &mut [u32]) -> Content
     requires { ⌜ at ≤ length (now s) ⌝ }
-    ensures { λ r. ⌜ answer r (now (numbers .exit)) ≡ probeAnswer (now (numbers .entry)) (words (drop at (now (s .entry)))) ⌝ }
+    ensures { λ r. ⌜ reading r (now (numbers .exit)) ≡ probeReading (now (numbers .entry)) (words (drop at (now (s .entry)))) ⌝ }
 {
     match decimals(s, at, false, numbers) {
-        Tally::Wrong => Call::BadNumber,
+        Tally::Wrong => Content::BadNumber,
         Tally::All {
             count,
             slashes: _,
             up: _,
         } => {
             if count < 1 {
-                Call::WrongCount
+                Content::WrongCount
             } else {
-                Call::Probe(count)
+                Content::Probe(count)
             }
         }
     }
 }
 
-pub(crate) fn record_call(s: &[u8], at: usize, numbers: &mut [u32]) -> Call
+pub(crate) fn record_call(s: &[u8], at: usize, numbers: &mut [u32]) -> Content
     requires { ⌜ at ≤ length (now s) ⌝ }
-    ensures { λ r. ⌜ answer r (now (numbers .exit)) ≡ recordAnswer (now (numbers .entry)) (words (drop at (now (s .entry)))) ⌝ }
+    ensures { λ r. ⌜ reading r (now (numbers .exit)) ≡ recordReading (now (numbers .entry)) (words (drop at (now (s .entry)))) ⌝ }
 {
     match decimals(s, at, true, numbers) {
-        Tally::Wrong => Call::BadNumber,
+        Tally::Wrong => Content::BadNumber,
         Tally::All {
             count,
             slashes: _,
             up: _,
-        } => Call::Record(count),
+        } => Content::Record(count),
     }
 }
 
-pub(crate) fn degrees_call(s: &[u8], at: usize, numbers: &mut [u32]) -> Call
+pub(crate) fn degrees_call(s: &[u8], at: usize, numbers: &mut [u32]) -> Content
     requires { ⌜ at ≤ length (now s) ⌝ }
-    ensures { λ r. ⌜ answer r (now (numbers .exit)) ≡ degreesAnswer (now (numbers .entry)) (words (drop at (now (s .entry)))) ⌝ }
+    ensures { λ r. ⌜ reading r (now (numbers .exit)) ≡ degreesReading (now (numbers .entry)) (words (drop at (now (s .entry)))) ⌝ }
 {
     let form = Form {
         least: 1,
@@ -155,22 +155,22 @@ pub(crate) fn degrees_call(s: &[u8], at: usize, numbers: &mut [u32]) -> Call
         slash: false,
     };
     match tally(s, at, form, numbers) {
-        Tally::Wrong => Call::BadNumber,
+        Tally::Wrong => Content::BadNumber,
         Tally::All {
             count,
             slashes: _,
             up: _,
         } => {
             if count == 2 {
-                Call::Degrees
+                Content::Degrees
             } else {
-                Call::WrongCount
+                Content::WrongCount
             }
         }
     }
 }
 
-pub(crate) fn listing_call(s: &[u8], at: usize) -> Call
+pub(crate) fn listing_call(s: &[u8], at: usize) -> Content
     requires { ⌜ at ≤ length (now s) ⌝ }
     ensures { λ r. ⌜ r ≡ listingCall (words (drop at (now (s .entry)))) ⌝ }
 {
@@ -178,7 +178,7 @@ pub(crate) fn listing_call(s: &[u8], at: usize) -> Call
     let start = word.start;
     let end = word.end;
     if end <= start {
-        return Call::WrongCount;
+        return Content::WrongCount;
     }
     if same(&s[start..end], b"old") {
         hex_call(true, s, end)
@@ -188,7 +188,7 @@ pub(crate) fn listing_call(s: &[u8], at: usize) -> Call
 }
 
 // The capture number, with the form of the listing.
-fn hex_call(old: bool, s: &[u8], at: usize) -> Call
+fn hex_call(old: bool, s: &[u8], at: usize) -> Content
     requires { ⌜ at ≤ length (now s) ⌝ }
     ensures { λ r. ⌜ r ≡ hexCall old (words (drop at (now (s .entry)))) ⌝ }
 {
@@ -196,10 +196,10 @@ fn hex_call(old: bool, s: &[u8], at: usize) -> Call
     let start = word.start;
     let end = word.end;
     if end <= start {
-        return Call::WrongCount;
+        return Content::WrongCount;
     }
     match numeral::read_hex(&s[start..end], 1, 8) {
-        Number::Value(n) => alone(Call::Listing { old, first: n }, s, end),
-        Number::Bad => Call::BadNumber,
+        Number::Value(n) => alone(Content::Listing { old, first: n }, s, end),
+        Number::Bad => Content::BadNumber,
     }
 }

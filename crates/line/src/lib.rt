@@ -17,8 +17,9 @@ pub use held::LONGEST;
 pub use held::hold_byte;
 pub use text::put_words;
 
-// What a line says. Counts are of the numbers that the line left in the buffer, from its start on.
-pub enum Call {
+// What a line holds: nothing, a fault, an item's name or a call. Counts are of the numbers that the
+// line left in the buffer, from its start on.
+pub enum Content {
     // A line that is passed over.
     Nothing,
     // Lines that are no calls, in the order in which the first that fits is given.
@@ -53,10 +54,10 @@ pub enum Call {
     Quietest(u32),
 }
 
-// What a line says, and the place from which the words stand that it expects of the answer, behind
+// What a line holds, and the place from which the words stand that it expects of the answer, behind
 // its `=>`; 0 where it has none.
 pub struct Said {
-    pub call: Call,
+    pub content: Content,
     pub expected: usize,
 }
 
@@ -102,7 +103,7 @@ pub struct Form {
 }
 
 // One word of such a list.
-pub enum Kind {
+pub enum ListWord {
     Slash,
     Past,
     Word(u32),

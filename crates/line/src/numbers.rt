@@ -1,7 +1,7 @@
 // The numbers of a line.
 use crate::Digits;
 use crate::Form;
-use crate::Kind;
+use crate::ListWord;
 use crate::Reached;
 use crate::Tally;
 use crate::words::is_blank;
@@ -15,7 +15,7 @@ ghost use Prim.Native.Nat.{_+_, _≤_, _<_};
 ghost use lib.Dec.{eqb};
 ghost use lib.ListN.{length, getD, set, drop};
 ghost use Rattle.line.specs.Words.{isBlank, words};
-ghost use Rattle.line.specs.Numbers.{isSlash, kindOf, tallied};
+ghost use Rattle.line.specs.Numbers.{isSlash, listWord, tallied};
 ghost use Rattle.line.specs.Clean.{DigitsAt, WholeAt, PairAt, Passed};
 
 // Reads the words from the place `at` on, and stores their numbers.
@@ -40,15 +40,15 @@ pub(crate) fn tally(s: &[u8], at: usize, form: Form, numbers: &mut [u32]) -> Tal
                 up,
             };
         }
-        match kind_of(&s[start..end], form, n) {
-            Kind::Wrong => return Tally::Wrong,
-            Kind::Slash => {
+        match list_word(&s[start..end], form, n) {
+            ListWord::Wrong => return Tally::Wrong,
+            ListWord::Slash => {
                 up = first_slash(slashes, n, up);
                 slashes += 1;
                 count = n;
             }
-            Kind::Past => count = n + 1,
-            Kind::Word(v) => {
+            ListWord::Past => count = n + 1,
+            ListWord::Word(v) => {
                 store(numbers, n, v);
                 count = n + 1;
             }
@@ -194,18 +194,18 @@ fn stop_of(len: usize, start: usize, most: usize) -> usize
 }
 
 // What a word is after n numbers.
-fn kind_of(word: &[u8], form: Form, n: usize) -> Kind
-    ensures { λ r. ⌜ r ≡ kindOf form n (now (word .entry)) ⌝ }
+fn list_word(word: &[u8], form: Form, n: usize) -> ListWord
+    ensures { λ r. ⌜ r ≡ listWord form n (now (word .entry)) ⌝ }
 {
     if is_slash(form.slash, word) {
-        return Kind::Slash;
+        return ListWord::Slash;
     }
     if form.looked <= n {
-        return Kind::Past;
+        return ListWord::Past;
     }
     match numeral::read_hex(word, form.least, form.most) {
-        Number::Value(v) => Kind::Word(v),
-        Number::Bad => Kind::Wrong,
+        Number::Value(v) => ListWord::Word(v),
+        Number::Bad => ListWord::Wrong,
     }
 }
 

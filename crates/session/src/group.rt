@@ -1,5 +1,5 @@
 // Who answers a line.
-use line::Call;
+use line::Content;
 
 pub const NOTHING: u8 = 0;
 
@@ -14,32 +14,32 @@ pub const TELL: u8 = 4;
 // A line that is no call because of what came before it.
 pub const FAULT: u8 = 5;
 
-pub fn group_of(call: Call, counts: &[usize; 21]) -> u8 {
-    match call {
-        Call::Tick(_) => DRIVE,
-        Call::Bus { bytes: _ } => DRIVE,
-        Call::BusOut { out: _, bytes: _ } => DRIVE,
-        Call::Set {
+pub fn group_of(content: Content, counts: &[usize; 21]) -> u8 {
+    match content {
+        Content::Tick(_) => DRIVE,
+        Content::Bus { bytes: _ } => DRIVE,
+        Content::BusOut { out: _, bytes: _ } => DRIVE,
+        Content::Set {
             address: _,
             words: _,
         } => DRIVE,
-        Call::Nothing => NOTHING,
-        Call::Item => ITEM,
-        _ => later_group(call, counts),
+        Content::Nothing => NOTHING,
+        Content::Item => ITEM,
+        _ => later_group(content, counts),
     }
 }
 
-fn later_group(call: Call, counts: &[usize; 21]) -> u8 {
-    match call {
-        Call::At(t) => faulty(item_calls::is_past(t, counts), DRIVE),
-        Call::Stretch(_) => DRIVE,
-        Call::Flight { up: _, down: _ } => DRIVE,
-        Call::Temperature(_) => DRIVE,
-        Call::Probe(_) => faulty(item_analysis::lacks_room(call, counts), KEEP),
-        Call::Record(_) => faulty(item_analysis::lacks_room(call, counts), KEEP),
-        Call::Degrees => KEEP,
-        Call::Listing { old: _, first: _ } => KEEP,
-        Call::Quietest(_) => KEEP,
+fn later_group(content: Content, counts: &[usize; 21]) -> u8 {
+    match content {
+        Content::At(t) => faulty(item_calls::is_past(t, counts), DRIVE),
+        Content::Stretch(_) => DRIVE,
+        Content::Flight { up: _, down: _ } => DRIVE,
+        Content::Temperature(_) => DRIVE,
+        Content::Probe(_) => faulty(item_analysis::lacks_room(content, counts), KEEP),
+        Content::Record(_) => faulty(item_analysis::lacks_room(content, counts), KEEP),
+        Content::Degrees => KEEP,
+        Content::Listing { old: _, first: _ } => KEEP,
+        Content::Quietest(_) => KEEP,
         _ => TELL,
     }
 }

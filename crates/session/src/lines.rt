@@ -13,7 +13,7 @@ use item_state::counts::NAME;
 use item_state::counts::PROBES;
 use item_state::counts::RECORD;
 use item_state::counts::USED;
-use line::Call;
+use line::Content;
 
 // The item's name stands behind the longest path.
 pub const NAME_PLACE: usize = 4096;
@@ -30,10 +30,10 @@ pub fn answer(
     answers: &mut [u8],
 ) -> Model {
     let said = line::read_line(text, numbers);
-    let call = said.call;
+    let content = said.content;
     respond(
         m,
-        call,
+        content,
         said.expected,
         text,
         numbers,
@@ -48,7 +48,7 @@ pub fn answer(
 
 fn respond(
     m: Model,
-    call: Call,
+    content: Content,
     expected: usize,
     text: &[u8],
     numbers: &[u32],
@@ -62,7 +62,7 @@ fn respond(
     open(counts, names, answers);
     let model = reply(
         m,
-        call,
+        content,
         text,
         numbers,
         counts,
@@ -78,7 +78,7 @@ fn respond(
 
 fn reply(
     m: Model,
-    call: Call,
+    content: Content,
     text: &[u8],
     numbers: &[u32],
     counts: &mut [usize; 21],
@@ -88,35 +88,35 @@ fn reply(
     names: &mut [u8],
     answers: &mut [u8],
 ) -> Model {
-    let group = group_of(call, counts);
+    let group = group_of(content, counts);
     if group == DRIVE {
-        return item_calls::drive(m, call, numbers, counts, mem, answers);
+        return item_calls::drive(m, content, numbers, counts, mem, answers);
     }
     if group == ITEM {
         return item(text, counts, mem, names, answers);
     }
     if group == KEEP {
-        item_analysis::keep(m, call, numbers, counts, kept, probes, answers);
+        item_analysis::keep(m, content, numbers, counts, kept, probes, answers);
         return m;
     }
-    tell_or_fault(m, call, group, numbers, counts, answers);
+    tell_or_fault(m, content, group, numbers, counts, answers);
     m
 }
 
 fn tell_or_fault(
     m: Model,
-    call: Call,
+    content: Content,
     group: u8,
     numbers: &[u32],
     counts: &mut [usize; 21],
     answers: &mut [u8],
 ) {
     if group == TELL {
-        item_questions::tell(m, call, numbers, counts, answers);
+        item_questions::tell(m, content, numbers, counts, answers);
         return;
     }
     if group == FAULT {
-        item_questions::bad(call, counts, answers);
+        item_questions::bad(content, counts, answers);
         return;
     }
 }

@@ -2,7 +2,7 @@
 -- Assumes nothing.
 use mathlib.Core.Path.{sym, _∙_}
 use borrow.Author.Needs.{needs}
-use Rattle.line.specs.Line.{busAnswer}
+use Rattle.line.specs.Line.{busReading}
 use Rattle.line.proofs.calls.bus_call.Statement.{statement}
 use Rattle.line.proofs.calls.bus_call.Tie as tie
 
@@ -16,7 +16,7 @@ same-length : tie.Need-same-length
 same-length c = search needs
 
 returns : tie.Need-returns
-unfolding busAnswer
+unfolding busReading
 returns c =
     let none = c .before .before .before .before .before .next-word .ensures .none (c .before .before .before .before .if1 .taken) in
     rw none (rw none at (c .before .before .bytes-call .ensures))
@@ -55,7 +55,7 @@ same-length-2 : tie.Need-same-length-2
 same-length-2 c = search needs
 
 returns-2 : tie.Need-returns-2
-unfolding busAnswer
+unfolding busReading
 returns-2 c =
     rw (c .before .before .before .before .before .before .before .before .before .before .next-word .ensures .some (c .before .before .before .before .before .before .before .before .before .if1 .left), ← c .before .before .before .before .before .before .before .is-out .ensures, c .before .before .before .before .before .before .if2 .taken, ← c .before .before .before .before .out-number .ensures) (c .before .before .out-call .ensures)
 
@@ -63,7 +63,7 @@ same-length-3 : tie.Need-same-length-3
 same-length-3 c = search needs
 
 returns-3 : tie.Need-returns-3
-unfolding busAnswer
+unfolding busReading
 returns-3 c =
     let word = c .before .before .before .before .before .before .before .before .next-word .ensures .some (c .before .before .before .before .before .before .before .if1 .left) in
     rw (word, ← c .before .before .before .before .before .is-out .ensures, c .before .before .before .before .if2 .left) (rw word at (c .before .before .bytes-call2 .ensures))

@@ -2,9 +2,9 @@
 -- Assumes nothing.
 use borrow.Author.Tests.{lt-ltb, le-ltb}
 use borrow.Author.Needs.{needs}
-use Rattle.line.specs.declared.Call.the-variants.{Bus}
-use Rattle.line.specs.Line.{bytesAnswer, bytesCall}
-use Rattle.line.specs.LineLaws.{answered-by}
+use Rattle.line.specs.declared.Content.the-variants.{Bus}
+use Rattle.line.specs.Line.{bytesReading, bytesCall}
+use Rattle.line.specs.LineLaws.{read-by}
 use Rattle.line.proofs.calls.bytes_call.Statement.{statement}
 use Rattle.line.proofs.calls.bytes_call.Tie as tie
 
@@ -24,25 +24,25 @@ same-length : tie.Need-same-length
 same-length c = search needs
 
 returns : tie.Need-returns
-unfolding bytesAnswer bytesCall
+unfolding bytesReading bytesCall
 returns c =
-    answered-by (bytesCall Bus) (rw (c .before .before .before .before .before .before .byte-form .ensures) at (c .before .before .before .before .tally .ensures)) (rw (c .enum-told .given .1))
+    read-by (bytesCall Bus) (rw (c .before .before .before .before .before .before .byte-form .ensures) at (c .before .before .before .before .tally .ensures)) (rw (c .enum-told .given .1))
 
 same-length-2 : tie.Need-same-length-2
 same-length-2 c = search needs
 
 returns-2 : tie.Need-returns-2
-unfolding bytesAnswer bytesCall
+unfolding bytesReading bytesCall
 returns-2 c =
-    answered-by (bytesCall Bus) (rw (c .before .before .before .before .before .before .before .before .byte-form .ensures) at (c .before .before .before .before .before .before .tally .ensures)) (rw (c .before .before .count .given .1, lt-ltb _ _ (c .if1 .taken)))
+    read-by (bytesCall Bus) (rw (c .before .before .before .before .before .before .before .before .byte-form .ensures) at (c .before .before .before .before .before .before .tally .ensures)) (rw (c .before .before .count .given .1, lt-ltb _ _ (c .if1 .taken)))
 
 same-length-3 : tie.Need-same-length-3
 same-length-3 c = search needs
 
 returns-3 : tie.Need-returns-3
-unfolding bytesAnswer bytesCall
+unfolding bytesReading bytesCall
 returns-3 c =
-    answered-by (bytesCall Bus) (rw (c .before .before .before .before .before .before .before .before .byte-form .ensures) at (c .before .before .before .before .before .before .tally .ensures)) (rw (c .before .before .count .given .1, le-ltb _ _ (c .if1 .left)))
+    read-by (bytesCall Bus) (rw (c .before .before .before .before .before .before .before .before .byte-form .ensures) at (c .before .before .before .before .before .before .tally .ensures)) (rw (c .before .before .count .given .1, le-ltb _ _ (c .if1 .left)))
 
 pub bytes-call-spec : {M : Type 1} → statement M
 bytes-call-spec =

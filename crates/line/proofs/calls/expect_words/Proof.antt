@@ -3,7 +3,7 @@
 use borrow.Author.Tests.{lt-ltb, le-ltb}
 use borrow.Author.Needs.{needs}
 use Rattle.line.specs.Line.{expectWords, expectCall}
-use Rattle.line.specs.LineLaws.{answered-by}
+use Rattle.line.specs.LineLaws.{read-by}
 use Rattle.line.proofs.calls.expect_words.Statement.{statement}
 use Rattle.line.proofs.calls.expect_words.Tie as tie
 
@@ -28,7 +28,7 @@ same-length c = search needs
 returns : tie.Need-returns
 unfolding expectWords expectCall
 returns c =
-    answered-by (expectCall _) (c .before .before .before .before .before .before .tally .ensures) (rw (c .before .before .count .given .1, lt-ltb _ _ (c .if1 .taken)))
+    read-by (expectCall _) (c .before .before .before .before .before .before .tally .ensures) (rw (c .before .before .count .given .1, lt-ltb _ _ (c .if1 .taken)))
 
 same-length-2 : tie.Need-same-length-2
 same-length-2 c = search needs
@@ -36,14 +36,14 @@ same-length-2 c = search needs
 returns-2 : tie.Need-returns-2
 unfolding expectWords expectCall
 returns-2 c =
-    answered-by (expectCall _) (c .before .before .before .before .before .before .before .tally .ensures) (rw (c .before .before .before .count .given .1, le-ltb _ _ (c .before .if1 .left), lt-ltb _ _ (c .if2 .taken)))
+    read-by (expectCall _) (c .before .before .before .before .before .before .before .tally .ensures) (rw (c .before .before .before .count .given .1, le-ltb _ _ (c .before .if1 .left), lt-ltb _ _ (c .if2 .taken)))
 
 same-length-3 : tie.Need-same-length-3
 same-length-3 c = search needs
 
 returns-3 : tie.Need-returns-3
 unfolding expectWords expectCall
-returns-3 c = answered-by (expectCall _) (c .before .before .before .before .tally .ensures) (rw (c .enum-told .given .1))
+returns-3 c = read-by (expectCall _) (c .before .before .before .before .tally .ensures) (rw (c .enum-told .given .1))
 
 same-length-4 : tie.Need-same-length-4
 same-length-4 c = search needs
@@ -51,7 +51,7 @@ same-length-4 c = search needs
 returns-4 : tie.Need-returns-4
 unfolding expectWords expectCall
 returns-4 c =
-    answered-by (expectCall _) (c .before .before .before .before .before .before .before .tally .ensures) (rw (c .before .before .before .count .given .1, le-ltb _ _ (c .before .if1 .left), le-ltb _ _ (c .if2 .left)))
+    read-by (expectCall _) (c .before .before .before .before .before .before .before .tally .ensures) (rw (c .before .before .before .count .given .1, le-ltb _ _ (c .before .if1 .left), le-ltb _ _ (c .if2 .left)))
 
 pub expect-words-spec : {M : Type 1} → statement M
 expect-words-spec =

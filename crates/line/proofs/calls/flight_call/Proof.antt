@@ -1,8 +1,8 @@
 -- `line::calls::flight_call` meets its contract.
 -- Assumes nothing.
 use borrow.Author.Needs.{needs}
-use Rattle.line.specs.Line.{flightAnswer, flightCall}
-use Rattle.line.specs.LineLaws.{answered-by}
+use Rattle.line.specs.Line.{flightReading, flightCall}
+use Rattle.line.specs.LineLaws.{read-by}
 use Rattle.line.proofs.calls.flight_call.Statement.{statement}
 use Rattle.line.proofs.calls.flight_call.Tie as tie
 
@@ -25,17 +25,17 @@ same-length : tie.Need-same-length
 same-length c = search needs
 
 returns : tie.Need-returns
-unfolding flightAnswer flightCall
+unfolding flightReading flightCall
 returns c =
-    answered-by flightCall (rw (c .before .before .before .before .before .before .word-form .ensures) at (c .before .before .before .before .tally .ensures)) (rw (c .enum-told .given .1))
+    read-by flightCall (rw (c .before .before .before .before .before .before .word-form .ensures) at (c .before .before .before .before .tally .ensures)) (rw (c .enum-told .given .1))
 
 same-length-2 : tie.Need-same-length-2
 same-length-2 c = search needs
 
 returns-2 : tie.Need-returns-2
-unfolding flightAnswer
+unfolding flightReading
 returns-2 c =
-    answered-by flightCall (rw (c .before .before .before .before .before .before .before .before .word-form .ensures) at (c .before .before .before .before .before .before .tally .ensures)) (rw (c .before .before .count .given .1) (c .flight-of .ensures))
+    read-by flightCall (rw (c .before .before .before .before .before .before .before .before .word-form .ensures) at (c .before .before .before .before .before .before .tally .ensures)) (rw (c .before .before .count .given .1) (c .flight-of .ensures))
 
 pub flight-call-spec : {M : Type 1} → statement M
 flight-call-spec =

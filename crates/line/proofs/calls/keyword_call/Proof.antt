@@ -8,12 +8,12 @@ use types.Run.{OneOf, miss}
 use denote.Enum.Declared.{tagOf}
 use Rattle.line.specs.declared.Keyword.{Keyword}
 use Rattle.line.proofs.Keyword.{the-type}
-use Rattle.line.specs.Line.{answer, laterAnswer, keywordAnswer}
+use Rattle.line.specs.Line.{reading, laterReading, keywordReading}
 use Rattle.line.proofs.calls.keyword_call.Statement.{statement}
 use Rattle.line.proofs.calls.keyword_call.Tie as tie
 
-others : (k : Keyword) (l : List ℕ) (ws : List (List ℕ)) → OneOf (10 ∷ 11 ∷ 12 ∷ 13 ∷ 14 ∷ 15 ∷ 16 ∷ 17 ∷ 18 ∷ 19 ∷ []) (tagOf the-type k) → laterAnswer k l ws ≡ keywordAnswer k l ws
-unfolding keywordAnswer
+others : (k : Keyword) (l : List ℕ) (ws : List (List ℕ)) → OneOf (10 ∷ 11 ∷ 12 ∷ 13 ∷ 14 ∷ 15 ∷ 16 ∷ 17 ∷ 18 ∷ 19 ∷ []) (tagOf the-type k) → laterReading k l ws ≡ keywordReading k l ws
+unfolding keywordReading
 others Keyword.Item l ws h = absurd (miss (10 ∷ 11 ∷ 12 ∷ 13 ∷ 14 ∷ 15 ∷ 16 ∷ 17 ∷ 18 ∷ 19 ∷ []) 0 tt h)
 others Keyword.Bus l ws h = absurd (miss (10 ∷ 11 ∷ 12 ∷ 13 ∷ 14 ∷ 15 ∷ 16 ∷ 17 ∷ 18 ∷ 19 ∷ []) 1 tt h)
 others Keyword.Tick l ws h = absurd (miss (10 ∷ 11 ∷ 12 ∷ 13 ∷ 14 ∷ 15 ∷ 16 ∷ 17 ∷ 18 ∷ 19 ∷ []) 2 tt h)
@@ -99,62 +99,62 @@ later-call-requires : tie.Need-later-call-requires
 later-call-requires c κs = search needs
 
 returns : tie.Need-returns
-unfolding keywordAnswer
+unfolding keywordReading
 returns c = rw (c .before .enum-told .given .1, ← c .item-call .ensures)
 
 same-length : tie.Need-same-length
 same-length c = search needs
 
 returns-2 : tie.Need-returns-2
-unfolding keywordAnswer
+unfolding keywordReading
 returns-2 c = rw (c .before .before .before .before .enum-told2 .given .1) (c .before .before .bus-call .ensures)
 
 returns-3 : tie.Need-returns-3
-unfolding keywordAnswer
+unfolding keywordReading
 returns-3 c = rw (c .before .enum-told3 .given .1, ← c .decimal-call .ensures)
 
 same-length-2 : tie.Need-same-length-2
 same-length-2 c = search needs
 
 returns-4 : tie.Need-returns-4
-unfolding keywordAnswer
+unfolding keywordReading
 returns-4 c = rw (c .before .before .before .before .enum-told4 .given .1) (c .before .before .flight-call .ensures)
 
 same-length-3 : tie.Need-same-length-3
 same-length-3 c = search needs
 
 returns-5 : tie.Need-returns-5
-unfolding keywordAnswer
+unfolding keywordReading
 returns-5 c = rw (c .before .before .before .before .enum-told5 .given .1) (c .before .before .temperature-call .ensures)
 
 returns-6 : tie.Need-returns-6
-unfolding keywordAnswer
+unfolding keywordReading
 returns-6 c = rw (c .before .enum-told6 .given .1, ← c .alone .ensures)
 
 returns-7 : tie.Need-returns-7
-unfolding keywordAnswer
+unfolding keywordReading
 returns-7 c = rw (c .before .enum-told7 .given .1, ← c .alone2 .ensures)
 
 returns-8 : tie.Need-returns-8
-unfolding keywordAnswer
+unfolding keywordReading
 returns-8 c = rw (c .before .enum-told8 .given .1, ← c .alone3 .ensures)
 
 same-length-4 : tie.Need-same-length-4
 same-length-4 c = search needs
 
 returns-9 : tie.Need-returns-9
-unfolding keywordAnswer
+unfolding keywordReading
 returns-9 c = rw (c .before .before .before .before .enum-told9 .given .1) (c .before .before .expect-call .ensures)
 
 returns-10 : tie.Need-returns-10
-unfolding keywordAnswer
+unfolding keywordReading
 returns-10 c = rw (c .before .enum-told10 .given .1, ← c .alone4 .ensures)
 
 same-length-5 : tie.Need-same-length-5
 same-length-5 c = search needs
 
 returns-11 : tie.Need-returns-11
-unfolding keywordAnswer
+unfolding keywordReading
 returns-11 c = c .before .before .later-call .ensures ∙ others (c .before .before .before .before .before .before .before .args .k) _ _ (c .before .before .before .before .match .keys11)
 
 pub keyword-call-spec : {M : Type 1} → statement M

@@ -7,14 +7,14 @@ use mathlib.Core.Path.{_≡_, refl, sym, _∙_}
 use types.Run.{OneOf, miss}
 use denote.Enum.Declared.{tagOf}
 use Rattle.line.specs.declared.Keyword.{Keyword}
-use Rattle.line.specs.declared.Call.the-variants.{UnknownWord}
+use Rattle.line.specs.declared.Content.the-variants.{UnknownWord}
 use Rattle.line.proofs.Keyword.{the-type}
-use Rattle.line.specs.Line.{answer, laterAnswer}
+use Rattle.line.specs.Line.{reading, laterReading}
 use Rattle.line.proofs.calls.later_call.Statement.{statement}
 use Rattle.line.proofs.calls.later_call.Tie as tie
 
-others : (k : Keyword) (l : List ℕ) (ws : List (List ℕ)) → OneOf (0 ∷ 1 ∷ 2 ∷ 3 ∷ 4 ∷ 5 ∷ 6 ∷ 7 ∷ 8 ∷ 9 ∷ 19 ∷ []) (tagOf the-type k) → answer UnknownWord l ≡ laterAnswer k l ws
-unfolding laterAnswer
+others : (k : Keyword) (l : List ℕ) (ws : List (List ℕ)) → OneOf (0 ∷ 1 ∷ 2 ∷ 3 ∷ 4 ∷ 5 ∷ 6 ∷ 7 ∷ 8 ∷ 9 ∷ 19 ∷ []) (tagOf the-type k) → reading UnknownWord l ≡ laterReading k l ws
+unfolding laterReading
 others Keyword.Item l ws h = refl
 others Keyword.Bus l ws h = refl
 others Keyword.Tick l ws h = refl
@@ -94,52 +94,52 @@ same-length : tie.Need-same-length
 same-length c = search needs
 
 returns : tie.Need-returns
-unfolding laterAnswer
+unfolding laterReading
 returns c = rw (c .before .before .before .before .enum-told .given .1) (c .before .before .set-call .ensures)
 
 returns-2 : tie.Need-returns-2
-unfolding laterAnswer
+unfolding laterReading
 returns-2 c = rw (c .before .enum-told2 .given .1, ← c .decimal-call .ensures)
 
 returns-3 : tie.Need-returns-3
-unfolding laterAnswer
+unfolding laterReading
 returns-3 c = rw (c .before .enum-told3 .given .1, ← c .decimal-call2 .ensures)
 
 returns-4 : tie.Need-returns-4
-unfolding laterAnswer
+unfolding laterReading
 returns-4 c = rw (c .before .enum-told4 .given .1, ← c .alone .ensures)
 
 same-length-2 : tie.Need-same-length-2
 same-length-2 c = search needs
 
 returns-5 : tie.Need-returns-5
-unfolding laterAnswer
+unfolding laterReading
 returns-5 c = rw (c .before .before .before .before .enum-told5 .given .1) (c .before .before .probe-call .ensures)
 
 same-length-3 : tie.Need-same-length-3
 same-length-3 c = search needs
 
 returns-6 : tie.Need-returns-6
-unfolding laterAnswer
+unfolding laterReading
 returns-6 c = rw (c .before .before .before .before .enum-told6 .given .1) (c .before .before .degrees-call .ensures)
 
 same-length-4 : tie.Need-same-length-4
 same-length-4 c = search needs
 
 returns-7 : tie.Need-returns-7
-unfolding laterAnswer
+unfolding laterReading
 returns-7 c = rw (c .before .before .before .before .enum-told7 .given .1) (c .before .before .record-call .ensures)
 
 returns-8 : tie.Need-returns-8
-unfolding laterAnswer
+unfolding laterReading
 returns-8 c = rw (c .before .enum-told8 .given .1, ← c .listing-call .ensures)
 
 returns-9 : tie.Need-returns-9
-unfolding laterAnswer
+unfolding laterReading
 returns-9 c = rw (c .before .enum-told9 .given .1, ← c .decimal-call3 .ensures)
 
 returns-10 : tie.Need-returns-10
-unfolding laterAnswer
+unfolding laterReading
 returns-10 c = others (c .before .before .before .args .k) _ _ (c .match .keys10)
 
 pub later-call-spec : {M : Type 1} → statement M

@@ -2,9 +2,9 @@
 -- Assumes nothing.
 use borrow.Author.Tests.{lt-ltb, le-ltb}
 use borrow.Author.Needs.{needs}
-use Rattle.line.specs.declared.Call.the-variants.{BusOut}
-use Rattle.line.specs.Line.{outAnswer, bytesAnswer, bytesCall}
-use Rattle.line.specs.LineLaws.{answered-by}
+use Rattle.line.specs.declared.Content.the-variants.{BusOut}
+use Rattle.line.specs.Line.{outReading, bytesReading, bytesCall}
+use Rattle.line.specs.LineLaws.{read-by}
 use Rattle.line.proofs.calls.out_call.Statement.{statement}
 use Rattle.line.proofs.calls.out_call.Tie as tie
 
@@ -27,34 +27,34 @@ enum-known-count : tie.Need-enum-known-count
 enum-known-count c = search needs
 
 returns : tie.Need-returns
-unfolding outAnswer bytesAnswer bytesCall
+unfolding outReading bytesReading bytesCall
 returns c = rw (c .enum-told .given .1)
 
 same-length : tie.Need-same-length
 same-length c = search needs
 
 returns-2 : tie.Need-returns-2
-unfolding outAnswer bytesAnswer bytesCall
+unfolding outReading bytesReading bytesCall
 returns-2 c =
-    rw (c .before .before .before .before .before .before .before .before .out .given .1) (answered-by (bytesCall (BusOut _)) (rw (c .before .before .before .before .before .before .byte-form .ensures) at (c .before .before .before .before .tally .ensures)) (rw (c .enum-told2 .given .1)))
+    rw (c .before .before .before .before .before .before .before .before .out .given .1) (read-by (bytesCall (BusOut _)) (rw (c .before .before .before .before .before .before .byte-form .ensures) at (c .before .before .before .before .tally .ensures)) (rw (c .enum-told2 .given .1)))
 
 same-length-2 : tie.Need-same-length-2
 same-length-2 c = search needs
 
 returns-3 : tie.Need-returns-3
-unfolding outAnswer bytesAnswer bytesCall
+unfolding outReading bytesReading bytesCall
 returns-3 c =
     rw (c .before .before .before .before .before .before .before .before .before .before .out .given .1)
-    (answered-by (bytesCall (BusOut _)) (rw (c .before .before .before .before .before .before .before .before .byte-form .ensures) at (c .before .before .before .before .before .before .tally .ensures)) (rw (c .before .before .count .given .1, lt-ltb _ _ (c .if1 .taken))))
+    (read-by (bytesCall (BusOut _)) (rw (c .before .before .before .before .before .before .before .before .byte-form .ensures) at (c .before .before .before .before .before .before .tally .ensures)) (rw (c .before .before .count .given .1, lt-ltb _ _ (c .if1 .taken))))
 
 same-length-3 : tie.Need-same-length-3
 same-length-3 c = search needs
 
 returns-4 : tie.Need-returns-4
-unfolding outAnswer bytesAnswer bytesCall
+unfolding outReading bytesReading bytesCall
 returns-4 c =
     rw (c .before .before .before .before .before .before .before .before .before .before .out .given .1)
-    (answered-by (bytesCall (BusOut _)) (rw (c .before .before .before .before .before .before .before .before .byte-form .ensures) at (c .before .before .before .before .before .before .tally .ensures)) (rw (c .before .before .count .given .1, le-ltb _ _ (c .if1 .left))))
+    (read-by (bytesCall (BusOut _)) (rw (c .before .before .before .before .before .before .before .before .byte-form .ensures) at (c .before .before .before .before .before .before .tally .ensures)) (rw (c .before .before .count .given .1, le-ltb _ _ (c .if1 .left))))
 
 pub out-call-spec : {M : Type 1} → statement M
 out-call-spec =

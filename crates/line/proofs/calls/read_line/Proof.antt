@@ -5,7 +5,7 @@ use mathlib.Core.Path.{sym}
 use lib.Seq.{length-take-le}
 use borrow.Author.Tests.{lt-ltb, le-ltb}
 use Rattle.line.specs.BoundLaws.{with-bounds}
-use Rattle.line.specs.Line.{lineAnswer, lineExpected}
+use Rattle.line.specs.Line.{lineReading, lineExpected}
 use Rattle.line.specs.MarkLaws.{expects-none}
 use Rattle.line.proofs.calls.read_line.Statement.{statement}
 use Rattle.line.proofs.calls.read_line.Tie as tie
@@ -20,7 +20,7 @@ words-call-requires : tie.Need-words-call-requires
 words-call-requires c κs = search needs
 
 returns : tie.Need-returns
-unfolding lineAnswer lineExpected
+unfolding lineReading lineExpected
 returns c =
     let long = lt-ltb _ _ (c .if1 .taken) in
     let n = c .before .content-length .ensures .0 in
@@ -30,7 +30,7 @@ same-length : tie.Need-same-length
 same-length c = search needs
 
 returns-2 : tie.Need-returns-2
-unfolding lineAnswer lineExpected
+unfolding lineReading lineExpected
 returns-2 c =
     let a = c .before .before .before .before .before .before .before .before .before .args in
     let short = le-ltb _ _ (c .before .before .before .before .before .if1 .left) in

@@ -2,8 +2,8 @@
 -- Assumes nothing.
 use borrow.Author.Tests.{lt-ltb, le-ltb}
 use borrow.Author.Needs.{needs}
-use Rattle.line.specs.Line.{temperatureAnswer, temperatureCall}
-use Rattle.line.specs.LineLaws.{answered-by}
+use Rattle.line.specs.Line.{temperatureReading, temperatureCall}
+use Rattle.line.specs.LineLaws.{read-by}
 use Rattle.line.proofs.calls.temperature_call.Statement.{statement}
 use Rattle.line.proofs.calls.temperature_call.Tie as tie
 
@@ -23,25 +23,25 @@ same-length : tie.Need-same-length
 same-length c = search needs
 
 returns : tie.Need-returns
-unfolding temperatureAnswer temperatureCall
+unfolding temperatureReading temperatureCall
 returns c =
-    answered-by temperatureCall (rw (c .before .before .before .before .before .before .word-form .ensures) at (c .before .before .before .before .tally .ensures)) (rw (c .enum-told .given .1))
+    read-by temperatureCall (rw (c .before .before .before .before .before .before .word-form .ensures) at (c .before .before .before .before .tally .ensures)) (rw (c .enum-told .given .1))
 
 same-length-2 : tie.Need-same-length-2
 same-length-2 c = search needs
 
 returns-2 : tie.Need-returns-2
-unfolding temperatureAnswer temperatureCall
+unfolding temperatureReading temperatureCall
 returns-2 c =
-    answered-by temperatureCall (rw (c .before .before .before .before .before .before .before .before .word-form .ensures) at (c .before .before .before .before .before .before .tally .ensures)) (rw (c .before .before .count .given .1, lt-ltb _ _ (c .if1 .taken)))
+    read-by temperatureCall (rw (c .before .before .before .before .before .before .before .before .word-form .ensures) at (c .before .before .before .before .before .before .tally .ensures)) (rw (c .before .before .count .given .1, lt-ltb _ _ (c .if1 .taken)))
 
 same-length-3 : tie.Need-same-length-3
 same-length-3 c = search needs
 
 returns-3 : tie.Need-returns-3
-unfolding temperatureAnswer temperatureCall
+unfolding temperatureReading temperatureCall
 returns-3 c =
-    answered-by temperatureCall (rw (c .before .before .before .before .before .before .before .before .word-form .ensures) at (c .before .before .before .before .before .before .tally .ensures)) (rw (c .before .before .count .given .1, le-ltb _ _ (c .if1 .left)))
+    read-by temperatureCall (rw (c .before .before .before .before .before .before .before .before .word-form .ensures) at (c .before .before .before .before .before .before .tally .ensures)) (rw (c .before .before .count .given .1, le-ltb _ _ (c .if1 .left)))
 
 pub temperature-call-spec : {M : Type 1} → statement M
 temperature-call-spec =

@@ -8,7 +8,7 @@ use lib.ListN.{length, take}
 use lib.Seq.{length-take-le}
 use native.Mathlib.Omega.{arith}
 use borrow.Author.Tests.{eq-eqb, ne-eqb}
-use Rattle.line.specs.Line.{wordsAnswer, wordsExpected}
+use Rattle.line.specs.Line.{wordsReading, wordsExpected}
 use Rattle.line.specs.LineLaws.{part-first}
 use Rattle.line.specs.MarkLaws.{expects-of, expects-none}
 use Rattle.line.proofs.calls.words_call.Statement.{statement}
@@ -21,7 +21,7 @@ next-word-requires : tie.Need-next-word-requires
 next-word-requires c κs = search needs
 
 returns : tie.Need-returns
-unfolding wordsAnswer wordsExpected
+unfolding wordsReading wordsExpected
 returns c =
     let none = c .before .next-word .ensures .none (c .if1 .taken) in
     (rw none, rw none (expects-none _))
@@ -30,7 +30,7 @@ shared-slice-read-if2 : tie.Need-shared-slice-read-if2
 shared-slice-read-if2 c = search needs
 
 returns-2 : tie.Need-returns-2
-unfolding wordsAnswer wordsExpected
+unfolding wordsReading wordsExpected
 returns-2 c =
     let word = c .before .before .if1 .left in
     let some = c .before .before .before .next-word .ensures .some word in
@@ -72,7 +72,7 @@ same-length : tie.Need-same-length
 same-length c = search needs
 
 returns-3 : tie.Need-returns-3
-unfolding wordsAnswer wordsExpected
+unfolding wordsReading wordsExpected
 returns-3 c =
     let word = c .before .before .before .before .before .before .before .before .before .before .before .before .if1 .left in
     let some = c .before .before .before .before .before .before .before .before .before .before .before .before .before .next-word .ensures .some word in

@@ -2,8 +2,8 @@
 -- Assumes nothing.
 use borrow.Author.Needs.{needs}
 use borrow.Author.Tests.{eq-eqb, ne-eqb}
-use Rattle.line.specs.Line.{degreesAnswer, degreesCall}
-use Rattle.line.specs.LineLaws.{answered-by}
+use Rattle.line.specs.Line.{degreesReading, degreesCall}
+use Rattle.line.specs.LineLaws.{read-by}
 use Rattle.line.proofs.later.degrees_call.Statement.{statement}
 use Rattle.line.proofs.later.degrees_call.Tie as tie
 
@@ -20,22 +20,22 @@ same-length : tie.Need-same-length
 same-length c = search needs
 
 returns : tie.Need-returns
-unfolding degreesAnswer degreesCall
-returns c = answered-by degreesCall (c .before .before .before .before .tally .ensures) (rw (c .enum-told .given .1))
+unfolding degreesReading degreesCall
+returns c = read-by degreesCall (c .before .before .before .before .tally .ensures) (rw (c .enum-told .given .1))
 
 same-length-2 : tie.Need-same-length-2
 same-length-2 c = search needs
 
 returns-2 : tie.Need-returns-2
-unfolding degreesAnswer degreesCall
-returns-2 c = answered-by degreesCall (c .before .before .before .before .before .before .tally .ensures) (rw (c .before .before .count .given .1, eq-eqb _ _ (c .if1 .taken)))
+unfolding degreesReading degreesCall
+returns-2 c = read-by degreesCall (c .before .before .before .before .before .before .tally .ensures) (rw (c .before .before .count .given .1, eq-eqb _ _ (c .if1 .taken)))
 
 same-length-3 : tie.Need-same-length-3
 same-length-3 c = search needs
 
 returns-3 : tie.Need-returns-3
-unfolding degreesAnswer degreesCall
-returns-3 c = answered-by degreesCall (c .before .before .before .before .before .before .tally .ensures) (rw (c .before .before .count .given .1, ne-eqb _ _ (c .if1 .left)))
+unfolding degreesReading degreesCall
+returns-3 c = read-by degreesCall (c .before .before .before .before .before .before .tally .ensures) (rw (c .before .before .count .given .1, ne-eqb _ _ (c .if1 .left)))
 
 pub degrees-call-spec : {M : Type 1} → statement M
 degrees-call-spec =

@@ -2,8 +2,8 @@
 -- Assumes nothing.
 use borrow.Author.Needs.{needs}
 use borrow.Author.Tests.{lt-ltb, le-ltb}
-use Rattle.line.specs.Line.{probeAnswer, probeCall}
-use Rattle.line.specs.LineLaws.{answered-by}
+use Rattle.line.specs.Line.{probeReading, probeCall}
+use Rattle.line.specs.LineLaws.{read-by}
 use Rattle.line.proofs.later.probe_call.Statement.{statement}
 use Rattle.line.proofs.later.probe_call.Tie as tie
 
@@ -20,22 +20,22 @@ same-length : tie.Need-same-length
 same-length c = search needs
 
 returns : tie.Need-returns
-unfolding probeAnswer probeCall
-returns c = answered-by probeCall (c .before .before .before .before .decimals .ensures) (rw (c .enum-told .given .1))
+unfolding probeReading probeCall
+returns c = read-by probeCall (c .before .before .before .before .decimals .ensures) (rw (c .enum-told .given .1))
 
 same-length-2 : tie.Need-same-length-2
 same-length-2 c = search needs
 
 returns-2 : tie.Need-returns-2
-unfolding probeAnswer probeCall
-returns-2 c = answered-by probeCall (c .before .before .before .before .before .before .decimals .ensures) (rw (c .before .before .count .given .1, lt-ltb _ _ (c .if1 .taken)))
+unfolding probeReading probeCall
+returns-2 c = read-by probeCall (c .before .before .before .before .before .before .decimals .ensures) (rw (c .before .before .count .given .1, lt-ltb _ _ (c .if1 .taken)))
 
 same-length-3 : tie.Need-same-length-3
 same-length-3 c = search needs
 
 returns-3 : tie.Need-returns-3
-unfolding probeAnswer probeCall
-returns-3 c = answered-by probeCall (c .before .before .before .before .before .before .decimals .ensures) (rw (c .before .before .count .given .1, le-ltb _ _ (c .if1 .left)))
+unfolding probeReading probeCall
+returns-3 c = read-by probeCall (c .before .before .before .before .before .before .decimals .ensures) (rw (c .before .before .count .given .1, le-ltb _ _ (c .if1 .left)))
 
 pub probe-call-spec : {M : Type 1} → statement M
 probe-call-spec =

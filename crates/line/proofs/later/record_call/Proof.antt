@@ -1,8 +1,8 @@
 -- `line::later::record_call` meets its contract.
 -- Assumes nothing.
 use borrow.Author.Needs.{needs}
-use Rattle.line.specs.Line.{recordAnswer, recordCall}
-use Rattle.line.specs.LineLaws.{answered-by}
+use Rattle.line.specs.Line.{recordReading, recordCall}
+use Rattle.line.specs.LineLaws.{read-by}
 use Rattle.line.proofs.later.record_call.Statement.{statement}
 use Rattle.line.proofs.later.record_call.Tie as tie
 
@@ -19,15 +19,15 @@ same-length : tie.Need-same-length
 same-length c = search needs
 
 returns : tie.Need-returns
-unfolding recordAnswer recordCall
-returns c = answered-by recordCall (c .before .before .before .before .decimals .ensures) (rw (c .enum-told .given .1))
+unfolding recordReading recordCall
+returns c = read-by recordCall (c .before .before .before .before .decimals .ensures) (rw (c .enum-told .given .1))
 
 same-length-2 : tie.Need-same-length-2
 same-length-2 c = search needs
 
 returns-2 : tie.Need-returns-2
-unfolding recordAnswer recordCall
-returns-2 c = answered-by recordCall (c .before .before .before .before .before .decimals .ensures) (rw (c .before .count .given .1))
+unfolding recordReading recordCall
+returns-2 c = read-by recordCall (c .before .before .before .before .before .decimals .ensures) (rw (c .before .count .given .1))
 
 pub record-call-spec : {M : Type 1} → statement M
 record-call-spec =

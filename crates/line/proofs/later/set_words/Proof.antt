@@ -3,7 +3,7 @@
 use borrow.Author.Needs.{needs}
 use borrow.Author.Tests.{lt-ltb, le-ltb}
 use Rattle.line.specs.Line.{setWords, setCall}
-use Rattle.line.specs.LineLaws.{answered-by}
+use Rattle.line.specs.LineLaws.{read-by}
 use Rattle.line.proofs.later.set_words.Statement.{statement}
 use Rattle.line.proofs.later.set_words.Tie as tie
 
@@ -22,7 +22,7 @@ same-length c = search needs
 returns : tie.Need-returns
 unfolding setWords setCall
 returns c =
-    answered-by (setCall _) (c .before .before .before .before .before .before .tally .ensures) (rw (c .before .before .count .given .1, lt-ltb _ _ (c .if1 .taken)))
+    read-by (setCall _) (c .before .before .before .before .before .before .tally .ensures) (rw (c .before .before .count .given .1, lt-ltb _ _ (c .if1 .taken)))
 
 same-length-2 : tie.Need-same-length-2
 same-length-2 c = search needs
@@ -30,14 +30,14 @@ same-length-2 c = search needs
 returns-2 : tie.Need-returns-2
 unfolding setWords setCall
 returns-2 c =
-    answered-by (setCall _) (c .before .before .before .before .before .before .before .tally .ensures) (rw (c .before .before .before .count .given .1, le-ltb _ _ (c .before .if1 .left), lt-ltb _ _ (c .if2 .taken)))
+    read-by (setCall _) (c .before .before .before .before .before .before .before .tally .ensures) (rw (c .before .before .before .count .given .1, le-ltb _ _ (c .before .if1 .left), lt-ltb _ _ (c .if2 .taken)))
 
 same-length-3 : tie.Need-same-length-3
 same-length-3 c = search needs
 
 returns-3 : tie.Need-returns-3
 unfolding setWords setCall
-returns-3 c = answered-by (setCall _) (c .before .before .before .before .tally .ensures) (rw (c .enum-told .given .1))
+returns-3 c = read-by (setCall _) (c .before .before .before .before .tally .ensures) (rw (c .enum-told .given .1))
 
 same-length-4 : tie.Need-same-length-4
 same-length-4 c = search needs
@@ -45,7 +45,7 @@ same-length-4 c = search needs
 returns-4 : tie.Need-returns-4
 unfolding setWords setCall
 returns-4 c =
-    answered-by (setCall _) (c .before .before .before .before .before .before .before .tally .ensures) (rw (c .before .before .before .count .given .1, le-ltb _ _ (c .before .if1 .left), le-ltb _ _ (c .if2 .left)))
+    read-by (setCall _) (c .before .before .before .before .before .before .before .tally .ensures) (rw (c .before .before .before .count .given .1, le-ltb _ _ (c .before .if1 .left), le-ltb _ _ (c .if2 .left)))
 
 pub set-words-spec : {M : Type 1} → statement M
 set-words-spec =

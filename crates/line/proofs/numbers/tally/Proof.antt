@@ -37,17 +37,17 @@ returns : tie.Need-returns Inv-loop μ-loop
 returns c =
     passed-on (c .before .before .before .before .clean-numbers .ensures) _ _ (c .before .before .before .before .before .before .before .loop .inv .3) (tally-end _ _ _ _ _ (c .before .next-word .ensures .none (c .if1 .taken)))
 
-sub-kind-of : tie.Need-sub-kind-of Inv-loop μ-loop
-sub-kind-of c = omega arith
+sub-list-word : tie.Need-sub-list-word Inv-loop μ-loop
+sub-list-word c = omega arith
 
-part-kind-of-start : tie.Need-part-kind-of-start Inv-loop μ-loop
-part-kind-of-start c = omega arith
+part-list-word-start : tie.Need-part-list-word-start Inv-loop μ-loop
+part-list-word-start c = omega arith
 
-part-kind-of-end : tie.Need-part-kind-of-end Inv-loop μ-loop
-part-kind-of-end c = c .before .next-word .ensures .high
+part-list-word-end : tie.Need-part-list-word-end Inv-loop μ-loop
+part-list-word-end c = c .before .next-word .ensures .high
 
-kind-of-requires : tie.Need-kind-of-requires Inv-loop μ-loop
-kind-of-requires c κs = tt
+list-word-requires : tie.Need-list-word-requires Inv-loop μ-loop
+list-word-requires c κs = tt
 
 enum-told : tie.Need-enum-told Inv-loop μ-loop
 enum-told c = search needs
@@ -58,7 +58,7 @@ same-length-2 c = c .before .before .before .before .before .before .before .bef
 returns-2 : tie.Need-returns-2 Inv-loop μ-loop
 returns-2 c =
     passed-on (c .before .before .before .before .before .before .before .before .clean-numbers .ensures) _ _ (c .before .before .before .before .before .before .before .before .before .before .before .loop .inv .3)
-    (tally-wrong _ _ _ _ _ (c .before .before .before .before .before .next-word .ensures .some (c .before .before .before .before .if1 .left)) (sym (c .before .before .kind-of .ensures) ∙ c .enum-told .given .1))
+    (tally-wrong _ _ _ _ _ (c .before .before .before .before .before .next-word .ensures .some (c .before .before .before .before .if1 .left)) (sym (c .before .before .list-word .ensures) ∙ c .enum-told .given .1))
 
 enum-told-2 : tie.Need-enum-told-2 Inv-loop μ-loop
 enum-told-2 c = search needs
@@ -96,7 +96,7 @@ loop-again c =
       next .high,
       clean .kept .1 .1 .1 .1 .0 ∙ k .inv .1,
       omega (arith, c .before .before .before .before .before .if1 .left, next .low, clean .ensures .count, k .inv .2),
-      rw (c .first-slash .ensures) (passed-on (clean .ensures) _ _ (k .inv .3) (tally-slash _ _ _ _ _ word (sym (c .before .before .before .kind-of .ensures) ∙ c .before .enum-told2 .given .1))),
+      rw (c .first-slash .ensures) (passed-on (clean .ensures) _ _ (k .inv .3) (tally-slash _ _ _ _ _ word (sym (c .before .before .before .list-word .ensures) ∙ c .before .enum-told2 .given .1))),
     )
 
 loop-less-2 : tie.Need-loop-less-2 Inv-loop μ-loop
@@ -111,7 +111,7 @@ loop-again-2 c =
       next .high,
       clean .kept .1 .1 .1 .1 .0 ∙ k .inv .1,
       omega (arith, c .before .before .before .before .if1 .left, next .low, clean .ensures .count, k .inv .2),
-      (passed-on (clean .ensures) _ _ (k .inv .3) (tally-past _ _ _ _ _ word (sym (c .before .before .kind-of .ensures) ∙ c .enum-told3 .given .1))),
+      (passed-on (clean .ensures) _ _ (k .inv .3) (tally-past _ _ _ _ _ word (sym (c .before .before .list-word .ensures) ∙ c .enum-told3 .given .1))),
     )
 
 loop-less-3 : tie.Need-loop-less-3 Inv-loop μ-loop
@@ -126,7 +126,7 @@ loop-again-3 c =
       next .high,
       c .before .before .store .kept .0 ∙ clean .kept .1 .1 .1 .1 .0 ∙ k .inv .1,
       omega (arith, c .before .before .before .before .before .before .before .before .before .if1 .left, next .low, clean .ensures .count, k .inv .2),
-      rw (c .before .before .store .ensures) (passed-on (clean .ensures) _ _ (k .inv .3) (tally-word _ _ _ _ _ word (sym (c .before .before .before .before .before .before .before .kind-of .ensures) ∙ c .before .before .before .before .before .v .given .1))),
+      rw (c .before .before .store .ensures) (passed-on (clean .ensures) _ _ (k .inv .3) (tally-word _ _ _ _ _ word (sym (c .before .before .before .before .before .before .before .list-word .ensures) ∙ c .before .before .before .before .before .v .given .1))),
     )
 
 same-length-3 : tie.Need-same-length-3 Inv-loop μ-loop
@@ -148,10 +148,10 @@ tally-spec =
     next-word-requires
     same-length
     returns
-    sub-kind-of
-    part-kind-of-start
-    part-kind-of-end
-    kind-of-requires
+    sub-list-word
+    part-list-word-start
+    part-list-word-end
+    list-word-requires
     enum-told
     same-length-2
     returns-2

@@ -1,20 +1,20 @@
--- `line::numbers::kind_of` meets its contract.
+-- `line::numbers::list_word` meets its contract.
 -- Assumes nothing.
 use borrow.Author.Tests.{le-leb, lt-leb}
 use borrow.Author.Needs.{needs}
-use Rattle.line.specs.Numbers.{kindOf}
-use Rattle.line.proofs.numbers.kind_of.Statement.{statement}
-use Rattle.line.proofs.numbers.kind_of.Tie as tie
+use Rattle.line.specs.Numbers.{listWord}
+use Rattle.line.proofs.numbers.list_word.Statement.{statement}
+use Rattle.line.proofs.numbers.list_word.Tie as tie
 
 is-slash-requires : tie.Need-is-slash-requires
 is-slash-requires c κs = search needs
 
 returns : tie.Need-returns
-unfolding kindOf
+unfolding listWord
 returns c = rw (← c .before .is-slash .ensures, c .if1 .taken)
 
 returns-2 : tie.Need-returns-2
-unfolding kindOf
+unfolding listWord
 returns-2 c = rw (← c .before .before .before .is-slash .ensures, c .before .before .if1 .left, le-leb _ _ (c .if2 .taken))
 
 read-hex-requires : tie.Need-read-hex-requires
@@ -27,17 +27,17 @@ enum-told : tie.Need-enum-told
 enum-told c = search needs
 
 returns-3 : tie.Need-returns-3
-unfolding kindOf
+unfolding listWord
 returns-3 c =
     rw (← c .before .before .before .before .before .before .before .is-slash .ensures, c .before .before .before .before .before .before .if1 .left, lt-leb _ _ (c .before .before .before .before .if2 .left), ← c .before .before .before .read-hex .ensures, c .before .v .given .1)
 
 returns-4 : tie.Need-returns-4
-unfolding kindOf
+unfolding listWord
 returns-4 c =
     rw (← c .before .before .before .before .before .before .is-slash .ensures, c .before .before .before .before .before .if1 .left, lt-leb _ _ (c .before .before .before .if2 .left), ← c .before .before .read-hex .ensures, c .enum-told .given .1)
 
-pub kind-of-spec : {M : Type 1} → statement M
-kind-of-spec =
+pub list-word-spec : {M : Type 1} → statement M
+list-word-spec =
     tie.close
     (tie.spec
     is-slash-requires

@@ -1,17 +1,8 @@
 pub mod Words
-pub mod WordLaws
 pub mod Numbers
-pub mod NumberLaws
 pub mod Mark
-pub mod MarkLaws
 pub mod Decimals
 pub mod Clean
-pub mod CleanLaws
 pub mod Line
-pub mod LineLaws
-pub mod BoundLaws
 pub mod Spaced
-pub mod SpacedLaws
 pub mod Held
-pub mod StoredLaws
-pub mod Examples

@@ -1,9 +1,10 @@
 -- The numbers of a line. Assumes nothing.
-use Prim.Native.Nat.{ℕ, _+_}
+use Prim.Native.Nat.{ℕ, _+_, _<_}
+use mathlib.Core.Path.{_≡_}
 use mathlib.Core.Bool.{Bool, false, cond}
 use mathlib.Core.List.{List, [], _∷_}
 use lib.Dec.{leb, eqb}
-use lib.ListN.{set}
+use lib.ListN.{length, getD, set}
 use Rattle.numeral.specs.declared.Number.{Number}
 use Rattle.numeral.specs.declared.Number.the-variants.{Value, Bad}
 use Rattle.numeral.specs.Read.{readHex}
@@ -44,3 +45,9 @@ tallied f n k u l (w ∷ ws) =
     onListWord (listWord f n w) (tallied f n (k + 1) (cond (eqb k 0) n u) l ws) (tallied f (n + 1) k u l ws)
     (λ v. tallied f (n + 1) k u (set l n v) ws)
     (record { tally = Tally.Wrong; numbers = l })
+
+-- From the number n on, c numbers are counted and stored.
+pub record Stored (f : Form) (n : ℕ) (l : List ℕ) (ws : List (List ℕ)) (c : ℕ) (l′ : List ℕ) : Type 0 where
+  pub count : c ≡ n + length ws
+  pub value : (i : ℕ) → i < length ws → readHex (f .least) (f .most) (getD ws i []) ≡ Value (getD l′ (n + i) 0)
+  pub before : (i : ℕ) → i < n → getD l′ i 0 ≡ getD l i 0

@@ -14,8 +14,9 @@ use borrow.Author.Tests.{le-ltb, leb-true, le-leb}
 use Rattle.unit.proofs.Cases.{by-test, by-ltb, fails}
 use Rattle.numeral.specs.Digit.{areDigits, valueOf, glyph, digits}
 use Rattle.numeral.specs.Print.{widthFrom, decimalWidth, decimal, tenThousandths, fourDecimals, nanoseconds}
-use Rattle.numeral.specs.DigitLaws.{length-digits, are-digits, value-digits}
-use Rattle.numeral.specs.PrintLaws.{Nearest, rounded, four-decimals-value, decimal-first, length-decimal}
+use Rattle.numeral.proofs.DigitLaws.{length-digits, are-digits, value-digits}
+use Rattle.numeral.specs.Print.{Nearest}
+use Rattle.numeral.proofs.PrintLaws.{rounded, four-decimals-value, decimal-first, length-decimal}
 use Rattle.listing.specs.declared.Listed.the-variants.{Written}
 use Rattle.listing.specs.Listing.{sign, rightJustified, line, lineLength, lines, lastAbove, Outcome, refused, written, listing}
 use Rattle.listing.specs.Listing.{numberIn, countIn}

@@ -11,8 +11,8 @@ use lib.Seq.{take-all, take-suc, length-take-le}
 use Rattle.numeral.specs.Digit.{digits}
 use Rattle.numeral.specs.Place.{overwrite, Put, Placed, putEach, joined}
 use Rattle.numeral.specs.Print.{nanoseconds}
-use Rattle.numeral.specs.DigitLaws.{length-digits}
-use Rattle.numeral.specs.PlaceLaws.{overwrite-append, put-each, put-each-first}
+use Rattle.numeral.proofs.DigitLaws.{length-digits}
+use Rattle.numeral.proofs.PlaceLaws.{overwrite-append, put-each, put-each-first}
 use Rattle.listing.specs.Listing.{sign, rightJustified, line, lineLength, lines}
 use Rattle.listing.proofs.Time.{time-fits, length-justified}
 

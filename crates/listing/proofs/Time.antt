@@ -9,8 +9,8 @@ use lib.Seq.{take-at, drop-append-le}
 use borrow.Author.Tests.{le-leb}
 use Rattle.numeral.specs.Place.{overwrite, nextPlace, written, Put}
 use Rattle.numeral.specs.Print.{decimalWidth, tenThousandths, fourDecimals, nanoseconds}
-use Rattle.numeral.specs.DigitLaws.{length-digits}
-use Rattle.numeral.specs.PrintLaws.{width-most, length-decimal}
+use Rattle.numeral.proofs.DigitLaws.{length-digits}
+use Rattle.numeral.proofs.PrintLaws.{width-most, length-decimal}
 use Rattle.listing.specs.Listing.{rightJustified}
 
 -- the largest magnitude of a difference has 7 digits before the point

@@ -1,5 +1,5 @@
 -- Numbers as text. Assumes nothing.
-use Prim.Native.Nat.{ℕ, zero, suc, _+_, _-_, _*_, _/_, _%_}
+use Prim.Native.Nat.{ℕ, zero, suc, _+_, _-_, _*_, _/_, _%_, _≤_, _<_}
 use mathlib.Core.Bool.{cond}
 use mathlib.Core.List.{List, [], _∷_, _++_}
 use lib.Dec.{ltb}
@@ -31,6 +31,12 @@ decimal v = digits 10 (decimalWidth v) v
 -- A number of quanta, of 250 / 65,536 nanoseconds each, in ten-thousandths of a nanosecond: rounded to the nearest, halves upward.
 unfoldable pub tenThousandths : ℕ → ℕ
 tenThousandths q = (q * 2500000 + 32768) / 65536
+
+-- Of q quanta, n ten-thousandths of a nanosecond are the nearest number, and the greater one where two are equally near.
+-- In parts of 1 / 65,536 ten-thousandth, q quanta are q * 250 * 10,000, n is n * 65,536, and a half is 32,768.
+pub record Nearest (q n : ℕ) : Type 0 where
+  pub not-above : n * 65536 ≤ q * 250 * 10000 + 32768
+  pub not-below : q * 250 * 10000 < n * 65536 + 32768
 
 -- A number, a point, and the last k digits of another.
 abbrev pub pointed : ℕ → ℕ → ℕ → List ℕ

@@ -2,7 +2,7 @@
 -- Assumes nothing.
 use borrow.Author.Needs.{needs}
 use Rattle.line.specs.Line.{flightReading, flightCall}
-use Rattle.line.specs.LineLaws.{read-by}
+use Rattle.line.proofs.LineLaws.{read-by}
 use Rattle.line.proofs.calls.flight_call.Statement.{statement}
 use Rattle.line.proofs.calls.flight_call.Tie as tie
 

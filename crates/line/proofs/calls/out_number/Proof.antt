@@ -8,7 +8,7 @@ use lib.ListN.{length, drop, length-drop}
 use lib.Seq.{take-all}
 use borrow.Author.Needs.{needs}
 use Rattle.numeral.specs.Read.{readDecimal}
-use Rattle.line.specs.LineLaws.{out-long}
+use Rattle.line.proofs.LineLaws.{out-long}
 use Rattle.line.proofs.calls.out_number.Statement.{statement}
 use Rattle.line.proofs.calls.out_number.Tie as tie
 

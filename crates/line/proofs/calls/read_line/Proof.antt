@@ -4,9 +4,9 @@ use borrow.Author.Needs.{needs}
 use mathlib.Core.Path.{sym}
 use lib.Seq.{length-take-le}
 use borrow.Author.Tests.{lt-ltb, le-ltb}
-use Rattle.line.specs.BoundLaws.{with-bounds}
+use Rattle.line.proofs.BoundLaws.{with-bounds}
 use Rattle.line.specs.Line.{lineReading, lineExpected}
-use Rattle.line.specs.MarkLaws.{expects-none}
+use Rattle.line.proofs.MarkLaws.{expects-none}
 use Rattle.line.proofs.calls.read_line.Statement.{statement}
 use Rattle.line.proofs.calls.read_line.Tie as tie
 

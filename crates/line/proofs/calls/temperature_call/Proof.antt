@@ -3,7 +3,7 @@
 use borrow.Author.Tests.{lt-ltb, le-ltb}
 use borrow.Author.Needs.{needs}
 use Rattle.line.specs.Line.{temperatureReading, temperatureCall}
-use Rattle.line.specs.LineLaws.{read-by}
+use Rattle.line.proofs.LineLaws.{read-by}
 use Rattle.line.proofs.calls.temperature_call.Statement.{statement}
 use Rattle.line.proofs.calls.temperature_call.Tie as tie
 

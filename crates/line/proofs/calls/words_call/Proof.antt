@@ -9,8 +9,8 @@ use lib.Seq.{length-take-le}
 use native.Mathlib.Omega.{arith}
 use borrow.Author.Tests.{eq-eqb, ne-eqb}
 use Rattle.line.specs.Line.{wordsReading, wordsExpected}
-use Rattle.line.specs.LineLaws.{part-first}
-use Rattle.line.specs.MarkLaws.{expects-of, expects-none}
+use Rattle.line.proofs.LineLaws.{part-first}
+use Rattle.line.proofs.MarkLaws.{expects-of, expects-none}
 use Rattle.line.proofs.calls.words_call.Statement.{statement}
 use Rattle.line.proofs.calls.words_call.Tie as tie
 

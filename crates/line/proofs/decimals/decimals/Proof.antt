@@ -5,7 +5,7 @@ use mathlib.Core.Path.{_≡_, refl, sym, _∙_}
 use native.Mathlib.Omega.{arith}
 use lib.ListN.{length, drop}
 use Rattle.line.specs.Words.{words}
-use Rattle.line.specs.WordLaws.{words-end}
+use Rattle.line.proofs.WordLaws.{words-end}
 use Rattle.line.specs.Decimals.{listed}
 use borrow.Author.Needs.{needs}
 use Rattle.line.proofs.decimals.decimals.Statement.{statement}

@@ -2,7 +2,7 @@
 -- Assumes nothing.
 use borrow.Author.Needs.{needs}
 use Rattle.line.specs.Line.{keywordOf}
-use Rattle.line.specs.LineLaws.{here, below}
+use Rattle.line.proofs.LineLaws.{here, below}
 use Rattle.line.proofs.keywords.keyword.Statement.{statement}
 use Rattle.line.proofs.keywords.keyword.Tie as tie
 

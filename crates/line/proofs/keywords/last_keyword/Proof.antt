@@ -2,7 +2,7 @@
 -- Assumes nothing.
 use mathlib.Core.Path.{refl}
 use borrow.Author.Needs.{needs}
-use Rattle.line.specs.LineLaws.{here, below}
+use Rattle.line.proofs.LineLaws.{here, below}
 use Rattle.line.proofs.keywords.last_keyword.Statement.{statement}
 use Rattle.line.proofs.keywords.last_keyword.Tie as tie
 

@@ -1,7 +1,7 @@
 -- `line::keywords::later_keyword` meets its contract.
 -- Assumes nothing.
 use borrow.Author.Needs.{needs}
-use Rattle.line.specs.LineLaws.{here, below}
+use Rattle.line.proofs.LineLaws.{here, below}
 use Rattle.line.proofs.keywords.later_keyword.Statement.{statement}
 use Rattle.line.proofs.keywords.later_keyword.Tie as tie
 

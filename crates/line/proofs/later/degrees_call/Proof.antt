@@ -3,7 +3,7 @@
 use borrow.Author.Needs.{needs}
 use borrow.Author.Tests.{eq-eqb, ne-eqb}
 use Rattle.line.specs.Line.{degreesReading, degreesCall}
-use Rattle.line.specs.LineLaws.{read-by}
+use Rattle.line.proofs.LineLaws.{read-by}
 use Rattle.line.proofs.later.degrees_call.Statement.{statement}
 use Rattle.line.proofs.later.degrees_call.Tie as tie
 

@@ -3,7 +3,7 @@
 use borrow.Author.Needs.{needs}
 use borrow.Author.Tests.{lt-ltb, le-ltb}
 use Rattle.line.specs.Line.{probeReading, probeCall}
-use Rattle.line.specs.LineLaws.{read-by}
+use Rattle.line.proofs.LineLaws.{read-by}
 use Rattle.line.proofs.later.probe_call.Statement.{statement}
 use Rattle.line.proofs.later.probe_call.Tie as tie
 

@@ -2,7 +2,7 @@
 -- Assumes nothing.
 use borrow.Author.Needs.{needs}
 use Rattle.line.specs.Line.{recordReading, recordCall}
-use Rattle.line.specs.LineLaws.{read-by}
+use Rattle.line.proofs.LineLaws.{read-by}
 use Rattle.line.proofs.later.record_call.Statement.{statement}
 use Rattle.line.proofs.later.record_call.Tie as tie
 

@@ -1,7 +1,7 @@
 -- `line::mark::call_part` meets its contract.
 -- Assumes nothing.
 use borrow.Author.Needs.{needs}
-use Rattle.line.specs.MarkLaws.{whole-call}
+use Rattle.line.proofs.MarkLaws.{whole-call}
 use Rattle.line.proofs.mark.call_part.Statement.{statement}
 use Rattle.line.proofs.mark.call_part.Tie as tie
 

@@ -5,8 +5,8 @@ use mathlib.Core.Path.{sym, _∙_}
 use native.Mathlib.Omega.{arith}
 use lib.ListN.{length}
 use Rattle.line.specs.Mark.{isMark}
-use Rattle.line.specs.WordLaws.{words-end}
-use Rattle.line.specs.MarkLaws.{Looked, looked-first, looked-next, looked-mark, looked-all}
+use Rattle.line.proofs.WordLaws.{words-end}
+use Rattle.line.proofs.MarkLaws.{Looked, looked-first, looked-next, looked-mark, looked-all}
 use borrow.Author.Needs.{needs}
 use Rattle.line.proofs.mark.marked_part.Statement.{statement}
 use Rattle.line.proofs.mark.marked_part.Tie as tie

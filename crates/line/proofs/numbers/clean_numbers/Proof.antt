@@ -6,7 +6,7 @@ use native.Mathlib.Omega.{arith}
 use lib.ListN.{length, length-set}
 use borrow.Author.Needs.{needs}
 use Rattle.line.specs.Clean.{Passed}
-use Rattle.line.specs.CleanLaws.{passed-none, passed-more}
+use Rattle.line.proofs.CleanLaws.{passed-none, passed-more}
 use Rattle.line.proofs.numbers.clean_numbers.Statement.{statement}
 use Rattle.line.proofs.numbers.clean_numbers.Tie as tie
 

@@ -3,7 +3,7 @@
 use Prim.Native.Nat.{_-_}
 use native.Mathlib.Omega.{arith}
 use Rattle.line.specs.Clean.{DigitsAt}
-use Rattle.line.specs.CleanLaws.{digits-none, digits-more, digits-fit}
+use Rattle.line.proofs.CleanLaws.{digits-none, digits-more, digits-fit}
 use Rattle.line.proofs.numbers.digits_at.Statement.{statement}
 use Rattle.line.proofs.numbers.digits_at.Tie as tie
 

@@ -2,7 +2,7 @@
 -- Assumes nothing.
 use native.Mathlib.Omega.{arith}
 use borrow.Author.Needs.{needs}
-use Rattle.line.specs.CleanLaws.{pair-digits}
+use Rattle.line.proofs.CleanLaws.{pair-digits}
 use Rattle.line.proofs.numbers.pair_at.Statement.{statement}
 use Rattle.line.proofs.numbers.pair_at.Tie as tie
 

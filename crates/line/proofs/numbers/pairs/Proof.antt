@@ -7,7 +7,7 @@ use lib.ListN.{length, length-set}
 use borrow.Author.Needs.{needs}
 use Rattle.line.specs.declared.Form.{Form}
 use Rattle.line.specs.Clean.{Passed}
-use Rattle.line.specs.CleanLaws.{passed-none, passed-pair}
+use Rattle.line.proofs.CleanLaws.{passed-none, passed-pair}
 use Rattle.line.proofs.numbers.pairs.Statement.{statement}
 use Rattle.line.proofs.numbers.pairs.Tie as tie
 

@@ -7,9 +7,9 @@ use lib.ListN.{length, drop}
 use borrow.Author.Needs.{needs}
 use Rattle.line.specs.Words.{words}
 use Rattle.line.specs.Numbers.{tallied}
-use Rattle.line.specs.WordLaws.{words-end}
-use Rattle.line.specs.NumberLaws.{tally-end, tally-slash, tally-past, tally-word, tally-wrong}
-use Rattle.line.specs.CleanLaws.{passed-on}
+use Rattle.line.proofs.WordLaws.{words-end}
+use Rattle.line.proofs.NumberLaws.{tally-end, tally-slash, tally-past, tally-word, tally-wrong}
+use Rattle.line.proofs.CleanLaws.{passed-on}
 use Rattle.line.proofs.numbers.tally.Statement.{statement}
 use Rattle.line.proofs.numbers.tally.Tie as tie
 

@@ -6,9 +6,9 @@ use native.Mathlib.Omega.{arith}
 use lib.ListN.{length, drop}
 use Rattle.numeral.specs.Place.{putEach}
 use Rattle.line.specs.Words.{words}
-use Rattle.line.specs.WordLaws.{words-end}
+use Rattle.line.proofs.WordLaws.{words-end}
 use Rattle.line.specs.Spaced.{blanked}
-use Rattle.line.specs.SpacedLaws.{blanked-end, blanked-next}
+use Rattle.line.proofs.SpacedLaws.{blanked-end, blanked-next}
 use Rattle.line.proofs.text.put_blanked.Statement.{statement}
 use Rattle.line.proofs.text.put_blanked.Tie as tie
 

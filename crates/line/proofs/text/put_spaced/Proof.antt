@@ -2,7 +2,7 @@
 -- Assumes nothing.
 use mathlib.Core.Path.{_∙_}
 use borrow.Author.Needs.{needs}
-use Rattle.line.specs.SpacedLaws.{spaced-end, spaced-next}
+use Rattle.line.proofs.SpacedLaws.{spaced-end, spaced-next}
 use Rattle.line.proofs.text.put_spaced.Statement.{statement}
 use Rattle.line.proofs.text.put_spaced.Tie as tie
 

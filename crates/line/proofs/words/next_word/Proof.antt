@@ -3,7 +3,7 @@
 use mathlib.Core.Path.{sym, _∙_}
 use native.Mathlib.Omega.{arith}
 use borrow.Author.Needs.{needs}
-use Rattle.line.specs.WordLaws.{words-end}
+use Rattle.line.proofs.WordLaws.{words-end}
 use Rattle.line.proofs.words.next_word.Statement.{statement}
 use Rattle.line.proofs.words.next_word.Tie as tie
 

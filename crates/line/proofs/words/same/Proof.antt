@@ -5,7 +5,7 @@ use mathlib.Core.Path.{_≡_, refl, sym, _∙_}
 use native.Mathlib.Omega.{arith}
 use lib.ListN.{length, drop}
 use Rattle.line.specs.Words.{sameBytes}
-use Rattle.line.specs.WordLaws.{same-goes-on, same-differs, same-longer, same-ends}
+use Rattle.line.proofs.WordLaws.{same-goes-on, same-differs, same-longer, same-ends}
 use Rattle.line.proofs.words.same.Statement.{statement}
 use Rattle.line.proofs.words.same.Tie as tie
 

@@ -5,7 +5,7 @@ use mathlib.Core.Path.{_≡_, refl, sym, _∙_}
 use native.Mathlib.Omega.{arith}
 use lib.ListN.{length, drop}
 use Rattle.line.specs.Words.{words}
-use Rattle.line.specs.WordLaws.{words-blank}
+use Rattle.line.proofs.WordLaws.{words-blank}
 use Rattle.line.proofs.words.skip_blanks.Statement.{statement}
 use Rattle.line.proofs.words.skip_blanks.Tie as tie
 

@@ -5,7 +5,7 @@ use mathlib.Core.Path.{_≡_, sym, _∙_}
 use native.Mathlib.Omega.{arith}
 use lib.ListN.{length, drop}
 use Rattle.line.specs.Words.{words, wordsAfter, part}
-use Rattle.line.specs.WordLaws.{word-begins, word-grows, word-stops, word-ends}
+use Rattle.line.proofs.WordLaws.{word-begins, word-grows, word-stops, word-ends}
 use Rattle.line.proofs.words.word_end.Statement.{statement}
 use Rattle.line.proofs.words.word_end.Tie as tie
 

@@ -6,7 +6,7 @@ use native.Mathlib.Omega.{arith}
 use lib.IntN.{pos, natAbs}
 use lib.ListN.{length, take, getD}
 use borrow.Author.Needs.{needs}
-use Rattle.numeral.specs.PlaceLaws.{overwrite-nil}
+use Rattle.numeral.proofs.PlaceLaws.{overwrite-nil}
 use Rattle.numeral.specs.Place.{overwrite}
 use Rattle.listing.specs.Listing.{lineLength, lines}
 use Rattle.listing.proofs.Signed.{magnitude-most, same}

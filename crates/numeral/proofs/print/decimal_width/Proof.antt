@@ -4,7 +4,7 @@ use Prim.Native.Nat.{ℕ, zero, suc, _+_, _-_, _/_, _^_, _≤_, _<_}
 use mathlib.Core.Path.{_≡_, refl}
 use native.Mathlib.Omega.{arith}
 use Rattle.numeral.specs.Print.{widthFrom, decimalWidth}
-use Rattle.numeral.specs.PrintLaws.{width-one, width-more, tenth}
+use Rattle.numeral.proofs.PrintLaws.{width-one, width-more, tenth}
 use Rattle.numeral.proofs.print.decimal_width.Statement.{statement}
 use Rattle.numeral.proofs.print.decimal_width.Tie as tie
 

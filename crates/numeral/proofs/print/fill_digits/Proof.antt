@@ -8,8 +8,8 @@ use native.Mathlib.Omega.{arith}
 use lib.ListN.{length, set, length-set}
 use Rattle.numeral.specs.Digit.{glyph, digits}
 use Rattle.numeral.specs.Place.{overwrite}
-use Rattle.numeral.specs.DigitLaws.{length-digits}
-use Rattle.numeral.specs.PlaceLaws.{overwrite-nil, overwrite-last}
+use Rattle.numeral.proofs.DigitLaws.{length-digits}
+use Rattle.numeral.proofs.PlaceLaws.{overwrite-nil, overwrite-last}
 use Rattle.numeral.proofs.print.fill_digits.Statement.{statement}
 use Rattle.numeral.proofs.print.fill_digits.Tie as tie
 

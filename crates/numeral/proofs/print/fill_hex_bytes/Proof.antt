@@ -10,8 +10,8 @@ use borrow.Author.Needs.{needs}
 use Rattle.numeral.specs.Digit.{glyph}
 use Rattle.numeral.specs.Place.{overwrite}
 use Rattle.numeral.specs.Print.{hexBytes}
-use Rattle.numeral.specs.PlaceLaws.{overwrite-nil, overwrite-take}
-use Rattle.numeral.specs.PrintLaws.{length-hex-bytes, hex-high, hex-low}
+use Rattle.numeral.proofs.PlaceLaws.{overwrite-nil, overwrite-take}
+use Rattle.numeral.proofs.PrintLaws.{length-hex-bytes, hex-high, hex-low}
 use Rattle.numeral.proofs.print.fill_hex_bytes.Statement.{statement}
 use Rattle.numeral.proofs.print.fill_hex_bytes.Tie as tie
 

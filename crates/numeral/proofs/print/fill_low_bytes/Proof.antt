@@ -9,8 +9,8 @@ use lib.Seq.{take-all}
 use borrow.Author.Needs.{needs}
 use Rattle.numeral.specs.Place.{overwrite}
 use Rattle.numeral.specs.Print.{lowBytes}
-use Rattle.numeral.specs.PlaceLaws.{overwrite-nil, overwrite-take}
-use Rattle.numeral.specs.PrintLaws.{length-low-bytes, low-byte}
+use Rattle.numeral.proofs.PlaceLaws.{overwrite-nil, overwrite-take}
+use Rattle.numeral.proofs.PrintLaws.{length-low-bytes, low-byte}
 use Rattle.numeral.proofs.print.fill_low_bytes.Statement.{statement}
 use Rattle.numeral.proofs.print.fill_low_bytes.Tie as tie
 

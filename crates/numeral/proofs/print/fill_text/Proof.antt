@@ -6,7 +6,7 @@ use native.Mathlib.Omega.{arith}
 use lib.Seq.{take-all}
 use lib.ListN.{length, take, length-set}
 use Rattle.numeral.specs.Place.{overwrite}
-use Rattle.numeral.specs.PlaceLaws.{overwrite-nil, overwrite-take}
+use Rattle.numeral.proofs.PlaceLaws.{overwrite-nil, overwrite-take}
 use Rattle.numeral.proofs.print.fill_text.Statement.{statement}
 use Rattle.numeral.proofs.print.fill_text.Tie as tie
 

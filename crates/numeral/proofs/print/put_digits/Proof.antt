@@ -8,8 +8,8 @@ use lib.Dec.{leb}
 use lib.ListN.{length}
 use borrow.Author.Tests.{leb-true}
 use borrow.Author.Needs.{needs}
-use Rattle.numeral.specs.DigitLaws.{length-digits}
-use Rattle.numeral.specs.PlaceLaws.{put-done, put-refused}
+use Rattle.numeral.proofs.DigitLaws.{length-digits}
+use Rattle.numeral.proofs.PlaceLaws.{put-done, put-refused}
 use Rattle.numeral.proofs.print.put_digits.Statement.{statement}
 use Rattle.numeral.proofs.print.put_digits.Tie as tie
 

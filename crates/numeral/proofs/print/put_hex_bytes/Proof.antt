@@ -8,8 +8,8 @@ use borrow.Author.Tests.{le-leb, lt-leb}
 use borrow.Author.Needs.{needs}
 use Rattle.numeral.specs.Place.{noRoom, Put}
 use Rattle.numeral.specs.Print.{hexBytes}
-use Rattle.numeral.specs.PlaceLaws.{put-done, put-refused}
-use Rattle.numeral.specs.PrintLaws.{length-hex-bytes}
+use Rattle.numeral.proofs.PlaceLaws.{put-done, put-refused}
+use Rattle.numeral.proofs.PrintLaws.{length-hex-bytes}
 use Rattle.numeral.proofs.print.put_hex_bytes.Statement.{statement}
 use Rattle.numeral.proofs.print.put_hex_bytes.Tie as tie
 

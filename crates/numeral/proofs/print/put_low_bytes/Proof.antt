@@ -8,8 +8,8 @@ use lib.Dec.{leb}
 use lib.ListN.{length}
 use borrow.Author.Tests.{leb-true}
 use borrow.Author.Needs.{needs}
-use Rattle.numeral.specs.PrintLaws.{length-low-bytes}
-use Rattle.numeral.specs.PlaceLaws.{put-done, put-refused}
+use Rattle.numeral.proofs.PrintLaws.{length-low-bytes}
+use Rattle.numeral.proofs.PlaceLaws.{put-done, put-refused}
 use Rattle.numeral.proofs.print.put_low_bytes.Statement.{statement}
 use Rattle.numeral.proofs.print.put_low_bytes.Tie as tie
 

@@ -12,9 +12,9 @@ use borrow.Author.Needs.{needs}
 use Rattle.numeral.specs.Digit.{digits}
 use Rattle.numeral.specs.Place.{overwrite}
 use Rattle.numeral.specs.Print.{decimalWidth, decimal, pointed}
-use Rattle.numeral.specs.DigitLaws.{length-digits}
-use Rattle.numeral.specs.PlaceLaws.{overwrite-around, put-done, put-refused}
-use Rattle.numeral.specs.PrintLaws.{length-decimal}
+use Rattle.numeral.proofs.DigitLaws.{length-digits}
+use Rattle.numeral.proofs.PlaceLaws.{overwrite-around, put-done, put-refused}
+use Rattle.numeral.proofs.PrintLaws.{length-decimal}
 use Rattle.numeral.proofs.print.put_pointed.Statement.{statement}
 use Rattle.numeral.proofs.print.put_pointed.Tie as tie
 

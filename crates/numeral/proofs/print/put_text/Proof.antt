@@ -8,7 +8,7 @@ use lib.Dec.{leb}
 use lib.ListN.{length}
 use borrow.Author.Tests.{leb-true}
 use borrow.Author.Needs.{needs}
-use Rattle.numeral.specs.PlaceLaws.{put-done, put-refused}
+use Rattle.numeral.proofs.PlaceLaws.{put-done, put-refused}
 use Rattle.numeral.proofs.print.put_text.Statement.{statement}
 use Rattle.numeral.proofs.print.put_text.Tie as tie
 

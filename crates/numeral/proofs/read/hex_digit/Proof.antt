@@ -2,7 +2,7 @@
 -- Assumes nothing.
 use native.Mathlib.Omega.{arith}
 use borrow.Author.Needs.{needs}
-use Rattle.numeral.specs.DigitLaws.{digit-most}
+use Rattle.numeral.proofs.DigitLaws.{digit-most}
 use Rattle.numeral.proofs.read.hex_digit.Statement.{statement}
 use Rattle.numeral.proofs.read.hex_digit.Tie as tie
 

@@ -9,7 +9,7 @@ use borrow.Author.Tests.{ltb-false}
 use Rattle.numeral.specs.declared.Number.{Number}
 use Rattle.numeral.specs.declared.Number.the-variants.{Value, Bad}
 use Rattle.numeral.specs.Read.{readHex, readDecimal}
-use Rattle.numeral.specs.DigitLaws.{decimal-at-most}
+use Rattle.numeral.proofs.DigitLaws.{decimal-at-most}
 use Rattle.line.specs.declared.Content.{Content}
 use Rattle.line.specs.declared.Content.the-variants.{Bus, BusOut}
 use Rattle.line.specs.declared.Counted.{Counted}

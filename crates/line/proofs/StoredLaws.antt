@@ -13,14 +13,8 @@ use Rattle.numeral.specs.declared.Number.the-variants.{Value, Bad}
 use Rattle.numeral.specs.Read.{readHex}
 use Rattle.line.specs.declared.Form.{Form}
 use Rattle.line.specs.declared.Tally.the-variants.{All}
-use Rattle.line.specs.Numbers.{isSlash, listWord, ofNumber, tallied, Outcome}
-use Rattle.line.specs.NumberLaws.{tally-end, tally-word, tally-wrong}
-
--- From the number n on, c numbers are counted and stored.
-pub record Stored (f : Form) (n : ℕ) (l : List ℕ) (ws : List (List ℕ)) (c : ℕ) (l′ : List ℕ) : Type 0 where
-  pub count : c ≡ n + length ws
-  pub value : (i : ℕ) → i < length ws → readHex (f .least) (f .most) (getD ws i []) ≡ Value (getD l′ (n + i) 0)
-  pub before : (i : ℕ) → i < n → getD l′ i 0 ≡ getD l i 0
+use Rattle.line.specs.Numbers.{isSlash, listWord, ofNumber, tallied, Outcome, Stored}
+use Rattle.line.proofs.NumberLaws.{tally-end, tally-word, tally-wrong}
 
 number-read : (f : Form) (n : ℕ) (w : List ℕ) → f .slash ≡ false → n < f .looked → listWord f n w ≡ ofNumber (readHex (f .least) (f .most) w)
 unfolding listWord isSlash

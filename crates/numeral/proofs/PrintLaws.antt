@@ -11,8 +11,8 @@ use borrow.Author.Tests.{lt-ltb, le-ltb}
 use Rattle.numeral.specs.declared.Number.the-variants.{Value}
 use Rattle.numeral.specs.Digit.{glyph, valueOf, digits}
 use Rattle.numeral.specs.Read.{readDecimal}
-use Rattle.numeral.specs.Print.{lowBytes, hexBytes, widthFrom, decimalWidth, decimal, tenThousandths, nanoseconds, signedNanoseconds}
-use Rattle.numeral.specs.DigitLaws.{length-digits, value-append, value-digits, value-in-digits}
+use Rattle.numeral.specs.Print.{lowBytes, hexBytes, widthFrom, decimalWidth, decimal, tenThousandths, nanoseconds, signedNanoseconds, Nearest}
+use Rattle.numeral.proofs.DigitLaws.{length-digits, value-append, value-digits, value-in-digits}
 
 pub length-low-bytes : (ws : List ℕ) → length (lowBytes ws) ≡ length ws
 unfolding lowBytes
@@ -121,12 +121,6 @@ decimal-reads-back limit v low h =
     let ten : widthFrom 19 v ≤ 10 = width-most 19 9 v (omega arith) in
     rw (length-digits 10 (widthFrom 19 v) v, le-ltb (widthFrom 19 v) 1 (width-some 19 v), le-ltb 10 (widthFrom 19 v) ten)
     (value-in-digits 10 (omega arith) (omega arith) limit (widthFrom 19 v) v (width-holds 19 v (omega arith)) low)
-
--- Of q quanta, n ten-thousandths of a nanosecond are the nearest number, and the greater one where two are equally near.
--- In parts of 1 / 65,536 ten-thousandth, q quanta are q * 250 * 10,000, n is n * 65,536, and a half is 32,768.
-pub record Nearest (q n : ℕ) : Type 0 where
-  pub not-above : n * 65536 ≤ q * 250 * 10000 + 32768
-  pub not-below : q * 250 * 10000 < n * 65536 + 32768
 
 pub rounded : (q : ℕ) → Nearest q (tenThousandths q)
 unfolding tenThousandths

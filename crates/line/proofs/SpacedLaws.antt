@@ -3,7 +3,7 @@ use Prim.Native.Nat.{ℕ}
 use mathlib.Core.Path.{_≡_, _∙_}
 use mathlib.Core.List.{List, [], _∷_}
 use Rattle.numeral.specs.Place.{Put, Placed, putEach}
-use Rattle.numeral.specs.PlaceLaws.{put-each-first}
+use Rattle.numeral.proofs.PlaceLaws.{put-each-first}
 use Rattle.line.specs.Spaced.{blanked, spaced}
 
 module _ (l : List ℕ) (at : ℕ) {xs : List (List ℕ)} where

@@ -10,13 +10,13 @@ use lib.ListN.{length, getD, set, drop, length-drop}
 use lib.Seq.{take-suc, getD-drop}
 use borrow.Author.Tests.{lt-ltb, lt-leb, ne-eqb}
 use Rattle.numeral.specs.Digit.{digitOf, areDigits, valueOf}
-use Rattle.numeral.specs.DigitLaws.{value-append, are-append, hex-reads}
+use Rattle.numeral.proofs.DigitLaws.{value-append, are-append, hex-reads}
 use Rattle.line.specs.declared.Form.{Form}
 use Rattle.line.specs.declared.ListWord.the-variants.{Word}
 use Rattle.line.specs.Words.{isBlank, wordsAfter, words, part, sameBytes}
-use Rattle.line.specs.WordLaws.{length-part, words-blank, word-grows, word-stops, word-ends, same-equal}
+use Rattle.line.proofs.WordLaws.{length-part, words-blank, word-grows, word-stops, word-ends, same-equal}
 use Rattle.line.specs.Numbers.{isSlash, listWord, tallied, Outcome}
-use Rattle.line.specs.NumberLaws.{tally-word}
+use Rattle.line.proofs.NumberLaws.{tally-word}
 use Rattle.line.specs.Clean.{DigitsAt, WholeAt, PairAt, Passed}
 
 -- A digit is no blank.

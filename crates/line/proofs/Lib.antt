@@ -1,0 +1,10 @@
+pub mod WordLaws
+pub mod NumberLaws
+pub mod MarkLaws
+pub mod CleanLaws
+pub mod LineLaws
+pub mod BoundLaws
+pub mod SpacedLaws
+pub mod HeldLaws
+pub mod StoredLaws
+pub mod Examples

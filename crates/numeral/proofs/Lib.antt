@@ -1,0 +1,4 @@
+pub mod PlaceLaws
+pub mod DigitLaws
+pub mod PrintLaws
+pub mod Examples

@@ -230,7 +230,7 @@ module _ (m : Model) (f o x : List ℕ) (s : isSound m ≡ true) (z : eqb (lengt
         -- a flash frame that decoding lets pass
         flash-answers :
             eqb (further f) (flashFurther (opcode f)) ≡ true →
-            pick (eqb (opcode f) 0x90) (ltb (length o) 2) false ≡ false →
+            both (eqb (opcode f) 0x90) (ltb (length o) 2) ≡ false →
             decodeFrame f (length o) ≡ Flash (opcode f) →
             Answers m f o x (decodeFrame f (length o))
         unfolding replyOf reply replyBy output outputBy bufferOf memory memoryBy memoryOf verdict table firstOf noFrame notCarried wrongLength pastRegisters shortOutput whileBusy supplyOff unreachable unerased badCalendar notInitialised badSetup notAwaited miscounted tooLong acceptedAnswer acceptedModel acceptedOutput acceptedMemory wordsReply flashFrameReply flashFrameOutput flashFrameMemory flashReply eraseReply eraseLeft programReply programLeft loadReply loadOut flashOut flashLeft flashUnreachable flashUnerased flashModel flashOutput flashMemory
@@ -263,7 +263,7 @@ module _ (m : Model) (f o x : List ℕ) (s : isSound m ≡ true) (z : eqb (lengt
 
         decoded :
             eqb (further f) (flashFurther (opcode f)) ≡ true →
-            pick (eqb (opcode f) 0x90) (ltb (length o) 2) false ≡ false →
+            both (eqb (opcode f) 0x90) (ltb (length o) 2) ≡ false →
             decodeFrame f (length o) ≡ Flash (opcode f)
         unfolding decodeFrame flashFrame
         decoded l =
@@ -271,7 +271,7 @@ module _ (m : Model) (f o x : List ℕ) (s : isSound m ≡ true) (z : eqb (lengt
 
         short-answers :
             eqb (further f) (flashFurther (opcode f)) ≡ true →
-            pick (eqb (opcode f) 0x90) (ltb (length o) 2) false ≡ true →
+            both (eqb (opcode f) 0x90) (ltb (length o) 2) ≡ true →
             Answers m f o x (decodeFrame f (length o))
         unfolding replyOf decodeFrame flashFrame reply replyBy output outputBy bufferOf memory memoryBy memoryOf verdict table firstOf noFrame notCarried wrongLength pastRegisters shortOutput wordsReply flashFrameReply flashFrameOutput flashFrameMemory readReply readOutput
         short-answers l =
@@ -295,7 +295,7 @@ answers m f o x s =
     (λ c. by-test (isWrite (opcode f)) (write-answers m f o x s z c)
     (λ w. by-test (isFlash (opcode f))
     (λ u. by-test (eqb (further f) (flashFurther (opcode f)))
-    (λ l. by-test (pick (eqb (opcode f) 0x90) (ltb (length o) 2) false) (short-answers m f o x s z c w u l)
+    (λ l. by-test (both (eqb (opcode f) 0x90) (ltb (length o) 2)) (short-answers m f o x s z c w u l)
     (λ t. flash-answers m f o x s z c w u l t (decoded m f o x s z c w u l t)))
     (long-answers m f o x s z c w u))
     (read-answers m f o x s z c w))))

@@ -120,15 +120,15 @@ unset-means m f t e x y z = rw (x, y, z) (computed f t e)
   where
     computed :
         (f t e : Bool) →
-        pick f true false ∷
-        pick f true false ∷
-        pick f true false ∷
+        either f false ∷
+        either f false ∷
+        either f false ∷
         t ∷
         false ∷
         false ∷
-        pick e true (pick f true t) ∷
-        pick e true (pick f true false) ∷
-        pick e true t ∷
+        either e (either f t) ∷
+        either e (either f false) ∷
+        either e t ∷
         false ∷
         false ∷
         false ∷

@@ -1,5 +1,5 @@
 -- Soundness as plain bounds; a fresh model is sound, and every call keeps a model so.
-use Prim.Native.Nat.{ℕ, zero, suc, _+_, _*_, _≤_, _<_}
+use Prim.Native.Nat.{ℕ, zero, suc, _+_, _*_, _^_, _≤_, _<_}
 use native.Mathlib.Omega.{arith}
 use mathlib.Core.Bool.{Bool, true, false}
 use mathlib.Core.List.{List}
@@ -12,7 +12,7 @@ use Rattle.unit.proofs.Cases.{by-test, by-ltb, by-eqb}
 use Rattle.unit.specs.declared.Ticks.{Ticks}
 use Rattle.calendar.specs.Calendar.{clockValid}
 use Rattle.calendar.specs.Words.{minuteIn, twelveIn, hourNamed, hourIn, clockFrom, timeDigits, hourFits, digitsFit, wordsValid, alarmValid}
-use Rattle.unit.proofs.Joined.{both-true, neither, passed, held}
+use Rattle.unit.proofs.Joined.{both-true, neither, held}
 use Rattle.calendar.proofs.Laws.{tick-valid}
 use Rattle.calendar.proofs.Facts.{start-valid}
 use Rattle.setup.specs.Setup.{factory, alarmWord}
@@ -98,12 +98,6 @@ pub record Bounds (m : Model) : Type 0 where
 chosen : {A : Type 0} (P : A → Type 0) (t : Bool) {x y : A} → P x → P y → P (pick t x y)
 chosen P t p q = picked P t (λ e. p) (λ e. q)
 
--- Where either would do and none held, neither does.
-pub neither-picked : (t : Bool) {r : Bool} → pick t true r ≡ false → (t ≡ false) × (r ≡ false)
-neither-picked true e = (e, cc)
-neither-picked false e = (refl, e)
-
--- Where a test had to hold, it did.
 -- The test and the bounds say the same.
 counts-of :
     (k : Schedule) →
@@ -111,67 +105,60 @@ counts-of :
     (k .planned ≤ 32) × (k .started ≤ k .planned) × (k .settled ≤ k .started) × (k .good ≤ k .settled)
 unfolding countsSound
 counts-of k e =
-    let (p, e1) = passed (ltb 32 (k .planned)) e in
-    let (q, e2) = passed (ltb (k .planned) (k .started)) e1 in
-    let (s, e3) = passed (ltb (k .started) (k .settled)) e2 in
-    let (g, _) = passed (ltb (k .settled) (k .good)) e3 in
-    omega (arith, ltb-false)
+    let (p, e1) = both-true (leb (k .planned) 32) _ e in
+    let (q, e2) = both-true (leb (k .started) (k .planned)) _ e1 in
+    let (s, g) = both-true (leb (k .settled) (k .started)) _ e2 in
+    omega (arith, leb-true)
 
 spaced-of :
     (left wait period : ℕ) →
-    pick (ltb period 16384) false
-    (pick (ltb period wait) false
-    (pick (ltb 0 left) (pick (ltb wait (left + 8192)) false true) (pick (ltb 0 wait) true false)))
+    both (leb 16384 period)
+    (both (leb wait period) (pick (ltb 0 left) (leb (left + 8192) wait) (ltb 0 wait)))
     ≡ true →
     Spaced left wait period
 spaced-of left wait period e =
-    let (l, e1) = passed (ltb period 16384) e in
-    let (w, e2) = passed (ltb period wait) e1 in
-    let a = ltb-false period 16384 l in
-    let b = ltb-false period wait w in
+    let (l, e1) = both-true (leb 16384 period) _ e in
+    let (w, e2) = both-true (leb wait period) _ e1 in
+    let a = leb-true 16384 period l in
+    let b = leb-true wait period w in
     by-ltb 0 left
     (λ x f.
-    let c = ltb-false wait (left + 8192) (passed (ltb wait (left + 8192)) (rw f at e2) .0) in
+    let c = leb-true (left + 8192) wait (rw f at e2) in
     record { long = a; within = b; some = omega arith; apart = λ _. c })
     (λ x f.
-    let c = ltb-true 0 wait (held (ltb 0 wait) (rw f at e2) .0) in
+    let c = ltb-true 0 wait (rw f at e2) in
     record { long = a; within = b; some = c; apart = λ y. absurd (omega arith) })
 
 spaced-test :
     (left wait period : ℕ) →
     Spaced left wait period →
-    pick (ltb period 16384) false
-    (pick (ltb period wait) false
-    (pick (ltb 0 left) (pick (ltb wait (left + 8192)) false true) (pick (ltb 0 wait) true false)))
+    both (leb 16384 period)
+    (both (leb wait period) (pick (ltb 0 left) (leb (left + 8192) wait) (ltb 0 wait)))
     ≡ true
 spaced-test left wait period s =
-    rw (le-ltb period 16384 (s .long), le-ltb period wait (s .within))
+    rw (le-leb 16384 period (s .long), le-leb wait period (s .within))
     (by-ltb 0 left
-    (λ x f. rw (f, le-ltb wait (left + 8192) (s .apart x)))
+    (λ x f. rw (f, le-leb (left + 8192) wait (s .apart x)))
     (λ x f. rw (f, lt-ltb 0 wait (s .some))))
 
 balanced-of :
     (left started settled : ℕ) →
-    pick (ltb 0 left) (pick (eqb (settled + 1) started) true false)
-    (pick (ltb 0 started) (pick (eqb settled started) true false) false)
-    ≡ true →
+    pick (ltb 0 left) (eqb (settled + 1) started) (both (ltb 0 started) (eqb settled started)) ≡ true →
     Balanced left started settled
 balanced-of left started settled e =
     by-ltb 0 left
     (λ x f.
-    let c = eqb-true (settled + 1) started (held (eqb (settled + 1) started) (rw f at e) .0) in
+    let c = eqb-true (settled + 1) started (rw f at e) in
     record { some = omega arith; busy = λ _. c; idle = λ y. absurd (omega arith) })
     (λ x f.
-    let (a, d) = held (ltb 0 started) (rw f at e) in
-    let c = eqb-true settled started (held (eqb settled started) d .0) in
+    let (a, d) = both-true (ltb 0 started) (eqb settled started) (rw f at e) in
+    let c = eqb-true settled started d in
     record { some = ltb-true 0 started a; busy = λ y. absurd (omega arith); idle = λ _. c })
 
 balanced-test :
     (left started settled : ℕ) →
     Balanced left started settled →
-    pick (ltb 0 left) (pick (eqb (settled + 1) started) true false)
-    (pick (ltb 0 started) (pick (eqb settled started) true false) false)
-    ≡ true
+    pick (ltb 0 left) (eqb (settled + 1) started) (both (ltb 0 started) (eqb settled started)) ≡ true
 balanced-test left started settled b =
     by-ltb 0 left
     (λ x f. rw (f, eq-eqb (settled + 1) started (b .busy x)))
@@ -180,16 +167,16 @@ balanced-test left started settled b =
 pub schedule-of : (k : Schedule) → scheduleSound k ≡ true → ScheduleBounds k
 unfolding scheduleSound waitSound balanceSound
 schedule-of k e =
-    let (c, e1) = held (countsSound k) e in
-    let (w, r) = held (waitSound k) e1 in
+    let (c, e1) = both-true (countsSound k) _ e in
+    let (w, r) = both-true (waitSound k) _ e1 in
     let (p, q, s, g) = counts-of k c in
-    let (l, v) = passed (ltb 8192 (k .left .0)) w in
+    let (l, v) = both-true (leb (k .left .0) 8192) _ w in
     record {
       planned = p;
       started = q;
       settled = s;
       good = g;
-      left = ltb-false 8192 (k .left .0) l;
+      left = leb-true (k .left .0) 8192 l;
       wait = λ t. spaced-of (k .left .0) (k .wait .0) (k .period .0) (rw t at v);
       balance = λ t. balanced-of (k .left .0) (k .started) (k .settled) (rw t at r);
     }
@@ -198,11 +185,11 @@ schedule-sound : (k : Schedule) → ScheduleBounds k → scheduleSound k ≡ tru
 unfolding scheduleSound countsSound waitSound balanceSound
 schedule-sound k b =
     rw (
-      le-ltb 32 (k .planned) (b .planned),
-      le-ltb (k .planned) (k .started) (b .started),
-      le-ltb (k .started) (k .settled) (b .settled),
-      le-ltb (k .settled) (k .good) (b .good),
-      le-ltb 8192 (k .left .0) (b .left),
+      le-leb (k .planned) 32 (b .planned),
+      le-leb (k .started) (k .planned) (b .started),
+      le-leb (k .settled) (k .started) (b .settled),
+      le-leb (k .good) (k .settled) (b .good),
+      le-leb (k .left .0) 8192 (b .left),
     )
     (by-test (startsLeft k)
     (λ t. rw (t, spaced-test (k .left .0) (k .wait .0) (k .period .0) (b .wait t)) (rest k b))
@@ -212,8 +199,8 @@ schedule-sound k b =
         (k : Schedule) →
         ScheduleBounds k →
         pick (inEvent k)
-        (pick (ltb 0 (k .left .0)) (pick (eqb (k .settled + 1) (k .started)) true false)
-        (pick (ltb 0 (k .started)) (pick (eqb (k .settled) (k .started)) true false) false))
+        (pick (ltb 0 (k .left .0)) (eqb (k .settled + 1) (k .started))
+        (both (ltb 0 (k .started)) (eqb (k .settled) (k .started))))
         true
         ≡ true
     rest k b =
@@ -230,8 +217,8 @@ sum-fits s g most h = le-leb s (g * most) h
 pub flight-of : (f : Flight) → flightSound f ≡ true → FlightBounds f
 unfolding flightSound
 flight-of f e =
-    let (k, s) = held (scheduleSound (f .schedule)) e in
-    record { schedule = schedule-of (f .schedule) k; sum = sum-of (f .sum) (f .schedule .good) 4294967296 s }
+    let (k, s) = both-true (scheduleSound (f .schedule)) _ e in
+    record { schedule = schedule-of (f .schedule) k; sum = sum-of (f .sum) (f .schedule .good) (2 ^ 32) s }
 
 flight-sound : (f : Flight) → FlightBounds f → flightSound f ≡ true
 unfolding flightSound
@@ -241,18 +228,18 @@ pub temperature-of : (t : Temperature) → temperatureSound t ≡ true → Tempe
 unfolding temperatureSound
 temperature-of t e =
     let g : ℕ = t .schedule .good in
-    let (k, e0) = held (scheduleSound (t .schedule)) e in
-    let (a, e1) = held (sumFits (getD (t .sums) 0 0) g 2147483648) e0 in
-    let (b, e2) = held (sumFits (getD (t .sums) 1 0) g 2147483648) e1 in
-    let (c, d) = held (sumFits (getD (t .sums) 2 0) g 2147483648) e2 in
+    let (k, e0) = both-true (scheduleSound (t .schedule)) _ e in
+    let (a, e1) = both-true (sumFits (getD (t .sums) 0 0) g (2 ^ 31)) _ e0 in
+    let (b, e2) = both-true (sumFits (getD (t .sums) 1 0) g (2 ^ 31)) _ e1 in
+    let (c, d) = both-true (sumFits (getD (t .sums) 2 0) g (2 ^ 31)) _ e2 in
     record {
       schedule = schedule-of (t .schedule) k;
       sums =
           record {
-            first = sum-of (getD (t .sums) 0 0) g 2147483648 a;
-            second = sum-of (getD (t .sums) 1 0) g 2147483648 b;
-            third = sum-of (getD (t .sums) 2 0) g 2147483648 c;
-            fourth = sum-of (getD (t .sums) 3 0) g 2147483648 d;
+            first = sum-of (getD (t .sums) 0 0) g (2 ^ 31) a;
+            second = sum-of (getD (t .sums) 1 0) g (2 ^ 31) b;
+            third = sum-of (getD (t .sums) 2 0) g (2 ^ 31) c;
+            fourth = sum-of (getD (t .sums) 3 0) g (2 ^ 31) d;
           };
     }
 
@@ -265,9 +252,9 @@ temperature-sound t b =
 pub bounds-of : (m : Model) → isSound m ≡ true → Bounds m
 unfolding isSound
 bounds-of m e =
-    let (c, e1) = held (clockValid (m .clock)) e in
-    let (a, e2) = held (alarmValid (alarmWord (m .setup))) e1 in
-    let (f, t) = held (flightSound (m .flight)) e2 in
+    let (c, e1) = both-true (clockValid (m .clock)) _ e in
+    let (a, e2) = both-true (alarmValid (alarmWord (m .setup))) _ e1 in
+    let (f, t) = both-true (flightSound (m .flight)) _ e2 in
     record { clock = c; alarm = a; flight = flight-of (m .flight) f; temperature = temperature-of (m .temperature) t }
 
 pub sound-of : (m : Model) → Bounds m → isSound m ≡ true
@@ -305,7 +292,7 @@ none-left k c l = rw (c, le-ltb (k .started) (k .planned) l)
 pub single-bounds : (k : Schedule) → kindBusy k ≡ false → ScheduleBounds k → ScheduleBounds (startSingle k)
 unfolding startSingle kindBusy startsLeft inEvent
 single-bounds k i b =
-    let e = neither-picked (isAwaited k) i .1 in
+    let e = neither (isAwaited k) (inEvent k) i .1 in
     let (c, l) = idle-all k e in
     record {
       planned = b .planned;
@@ -720,7 +707,7 @@ unfolding singleStarted flightStarted isBusy
 single-started-bounds m op i b =
     let f = b .flight in
     let t = b .temperature in
-    let (j, k) = neither-picked (kindBusy (m .flight .schedule)) i in
+    let (j, k) = neither (kindBusy (m .flight .schedule)) (kindBusy (m .temperature .schedule)) i in
     chosen Bounds (eqb op 3)
     (record {
       clock = b .clock;
@@ -934,10 +921,6 @@ pub record Ready (m : Model) (u d : List ℕ) : Type 0 where
   pub sound-model : isSound m ≡ true
   pub counted : miscounted m (flight u d) ≡ false
 
-both-hold : (a b : Bool) → both a b ≡ true → (a ≡ true) × (b ≡ true)
-both-hold true b e = (refl, e)
-both-hold false b e = (e, cc)
-
 not-holds : (b : Bool) → negate b ≡ true → b ≡ false
 not-holds true e = sym e
 not-holds false e = refl
@@ -946,7 +929,7 @@ pub ready-of : (m : Model) (u d : List ℕ) → flightFits m u d ≡ true → Re
 unfolding flightFits miscounted
 ready-of m u d e =
     let (s, n) =
-    both-hold (isSound m) (negate (flightMiscounted (m .flight) (hitCount (m .setup)) (length u) (length d))) e
+    both-true (isSound m) (negate (flightMiscounted (m .flight) (hitCount (m .setup)) (length u) (length d))) e
     in
     record {
       sound-model = s;

@@ -13,6 +13,7 @@ use Rattle.device.specs.declared.Flight.{Flight}
 use Rattle.device.specs.declared.Temperature.{Temperature}
 use Rattle.device.specs.declared.Model.{Model}
 use Rattle.device.specs.declared.Answer.the-variants.{Ticked, Stretched}
+use Rattle.unit.proofs.Joined.{neither}
 use Rattle.device.specs.Event.{isAwaited, inEvent, startsLeft, begins, beginsGroup, fails, startSingle, settle, haltSchedule}
 use Rattle.device.specs.Event.{tickSchedule, leftAfter, startedAfter, settledAfter, goodAfter}
 use Rattle.device.specs.Model.{isSound, kindBusy, isBusy, withFlight}
@@ -26,7 +27,7 @@ use Rattle.device.specs.Bus.{flightStarted, isEvent, startedEvent, initi
 use Rattle.device.specs.Call.{tick, flight, temperature, stretch, notAwaited}
 use Rattle.device.specs.Reply.{anyLate, portFault, acceptedModel, acceptedAnswer}
 use Rattle.device.specs.Terms.{FlightStarts, TemperatureStarts}
-use Rattle.device.proofs.Sound.{ScheduleBounds, bounds-of, neither-picked}
+use Rattle.device.proofs.Sound.{ScheduleBounds, bounds-of}
 
 -- No event runs: all that were planned are started and settled, and none is continuous.
 pub record Ended (k : Schedule) : Type 0 where
@@ -464,30 +465,30 @@ idle-left k =
 
 pub idle-ended : (k : Schedule) → ScheduleBounds k → kindBusy k ≡ false → Ended k
 unfolding kindBusy
-idle-ended k b i = ended-of k b (neither-picked (isAwaited k) i .1)
+idle-ended k b i = ended-of k b (neither (isAwaited k) (inEvent k) i .1)
 
 pub idle-rests : (k : Schedule) → kindBusy k ≡ false → k .left .0 ≡ 0
 unfolding kindBusy
-idle-rests k i = idle-left k (neither-picked (isAwaited k) i .0)
+idle-rests k i = idle-left k (neither (isAwaited k) (inEvent k) i .0)
 
 module _ (m : Model) (s : isSound m ≡ true) (i : isBusy m ≡ false) where
   ended-flight : Ended (m .flight .schedule)
   unfolding isBusy
   ended-flight =
       idle-ended (m .flight .schedule) (bounds-of m s .flight .schedule)
-      (neither-picked (kindBusy (m .flight .schedule)) i .0)
+      (neither (kindBusy (m .flight .schedule)) (kindBusy (m .temperature .schedule)) i .0)
 
   ended-temperature : Ended (m .temperature .schedule)
   unfolding isBusy
   ended-temperature =
       idle-ended (m .temperature .schedule) (bounds-of m s .temperature .schedule)
-      (neither-picked (kindBusy (m .flight .schedule)) i .1)
+      (neither (kindBusy (m .flight .schedule)) (kindBusy (m .temperature .schedule)) i .1)
 
   -- Where nothing is awaited and no event runs, no tick reports a start or a failure.
   idle-silent : (k : Schedule) → Ended k → kindBusy k ≡ false → (n : ℕ) → Silent (scheduleTicked n k)
   unfolding kindBusy
   idle-silent k e b n =
-      let l = none-left-ticked n k e (idle-left k (neither-picked (isAwaited k) b .0)) in
+      let l = none-left-ticked n k e (idle-left k (neither (isAwaited k) (inEvent k) b .0)) in
       record {
         starts = ended-none (scheduleTicked n k) (ended-ticked n k e);
         left = l;
@@ -500,7 +501,7 @@ module _ (m : Model) (s : isSound m ≡ true) (i : isBusy m ≡ false) where
       ≡ Ticked (record { started = false; failed = false }) (record { started = false; failed = false })
   unfolding acceptedAnswer reportOf isBusy
   idle-ticks n =
-      let (x, y) = neither-picked (kindBusy (m .flight .schedule)) i in
+      let (x, y) = neither (kindBusy (m .flight .schedule)) (kindBusy (m .temperature .schedule)) i in
       let f = idle-silent (m .flight .schedule) ended-flight x n in
       let t = idle-silent (m .temperature .schedule) ended-temperature y n in
       rw (flight-schedule n m, temperature-schedule n m, f .starts, f .expires, t .starts, t .expires)

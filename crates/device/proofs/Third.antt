@@ -10,7 +10,7 @@ use mathlib.Core.Logic.{_⊎_, inl, inr, ⊎-elim}
 use lib.Dec.{ltb, leb, eqb}
 use borrow.Author.Tests.{leb-true, le-leb, lt-ltb, le-ltb}
 use Rattle.unit.specs.Choice.{pick, both}
-use Rattle.unit.proofs.Joined.{both-true}
+use Rattle.unit.proofs.Joined.{both-true, neither}
 use Rattle.unit.proofs.Cases.{by-test, by-ltb, by-eqb}
 use Rattle.calendar.specs.declared.Clock.{Clock}
 use Rattle.calendar.specs.Calendar.{clockValid, tickClock}
@@ -45,7 +45,7 @@ use Rattle.device.specs.History.{startReported, beginning, runs, isRefus
 use Rattle.device.specs.Claim.{ticksIn, tickCount}
 use Rattle.device.specs.Claim.{command, toldOf, settledOf, StillBusy, NotBusy, Silent, EventClaim, ThirdDemand}
 use Rattle.device.proofs.Table.{none-holds, picked}
-use Rattle.device.proofs.Sound.{neither-picked, bounds-of, fresh-sound, keeps-sound}
+use Rattle.device.proofs.Sound.{bounds-of, fresh-sound, keeps-sound}
 use Rattle.device.proofs.Stretch.{scheduleOf}
 use Rattle.device.proofs.StartMeaning.{idle-ended, idle-rests, not-awaiting}
 use Rattle.device.proofs.Going.{Going, going-start}
@@ -133,7 +133,7 @@ clock-runs :
 unfolding badSetup commandUnset eventSideUnset
 clock-runs m op o x e v =
     let u = rw (event-command op e, e) at (none-holds m (command op o x) v .row9) in
-    neither-picked (clockStands (m .setup)) u .0
+    neither (clockStands (m .setup)) _ u .0
 
 -- the kinds that 01 names are the kinds that the command starts
 runs-flight : (op : ℕ) → runs differences op ≡ true → startsFlight op ≡ true
@@ -344,7 +344,7 @@ other-start :
 unfolding beginning startReported startedEvent eventFlight eventTemperature isBusy
 other-start differences m op e s b r =
     let k : Schedule = m .flight .schedule in
-    let i = neither-picked (kindBusy k) b .0 in
+    let i = neither (kindBusy k) _ b .0 in
     rw (rests-flight op e r)
     (record {
       ended = idle-ended k (bounds-of m s .flight .schedule) i;
@@ -357,7 +357,7 @@ other-start differences m op e s b r =
     })
 other-start temperatures m op e s b r =
     let k : Schedule = m .temperature .schedule in
-    let i = neither-picked (kindBusy (m .flight .schedule)) b .1 in
+    let i = neither (kindBusy (m .flight .schedule)) _ b .1 in
     rw (rests-temperature op e r)
     (record {
       ended = idle-ended k (bounds-of m s .temperature .schedule) i;

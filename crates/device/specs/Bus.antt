@@ -29,27 +29,27 @@ isEvent op = both (leb 0x07 op) (leb op 0x09)
 
 -- Number 6, busy: "a command but HALT and Reset, while a measurement is awaited or an event runs"
 unfoldable pub commandBusy : Model → ℕ → Bool
-commandBusy m op = pick (mustBeIdle op) (isBusy m) false
+commandBusy m op = both (mustBeIdle op) (isBusy m)
 
 -- Number 8, not initialised: "00h to 03h, 07h to 09h before Initialize"
 unfoldable pub beforeInitialize : Model → ℕ → Bool
-beforeInitialize m op = pick (m .initialised) false (pick (startsFlight op) true (startsTemperature op))
+beforeInitialize m op = both (negate (m .initialised)) (either (startsFlight op) (startsTemperature op))
 
 -- "Number 9: for flight, PL .. or DPL .. zero; for temperature, TP .. not 11b." "Number 9 also: .. EOSC is 1; only the kinds run are
 -- judged for PL, DPL and TP." "Number 9 no longer occurs for ET_CONT." (Note 5)
 unfoldable pub flightSideUnset : List ℕ → ℕ → Bool
-flightSideUnset setup op = pick (startsFlight op) (flightUnset setup) false
+flightSideUnset setup op = both (startsFlight op) (flightUnset setup)
 
 unfoldable pub temperatureSideUnset : List ℕ → ℕ → Bool
-temperatureSideUnset setup op = pick (startsTemperature op) (temperatureUnset setup) false
+temperatureSideUnset setup op = both (startsTemperature op) (temperatureUnset setup)
 
 unfoldable pub eventSideUnset : List ℕ → ℕ → Bool
-eventSideUnset setup op = pick (isEvent op) (clockStands setup) false
+eventSideUnset setup op = both (isEvent op) (clockStands setup)
 
 unfoldable pub commandUnset : Model → ℕ → Bool
 commandUnset m op =
-    pick (eventSideUnset (m .setup) op) true
-    (pick (flightSideUnset (m .setup) op) true (temperatureSideUnset (m .setup) op))
+    either (eventSideUnset (m .setup) op)
+    (either (flightSideUnset (m .setup) op) (temperatureSideUnset (m .setup) op))
 
 unfoldable pub flightStarted : Flight → ℕ → Flight
 flightStarted f op =

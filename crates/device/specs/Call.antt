@@ -4,7 +4,7 @@ use mathlib.Core.Bool.{Bool, false}
 use mathlib.Core.List.{List, [], _∷_}
 use lib.ListN.{length, getD, drop}
 use lib.Dec.{ltb, eqb}
-use Rattle.unit.specs.Choice.{pick, negate}
+use Rattle.unit.specs.Choice.{pick, both, negate}
 use Rattle.setup.specs.Setup.{hitCount}
 use Rattle.frame.specs.Frame.{isCommand, isWrite, isRead, isFlash, flashFurther, notWhole, pastEnd}
 use Rattle.device.specs.declared.Model.{Model}
@@ -74,7 +74,7 @@ pastRegisters c =
 unfoldable pub shortOutput : Call → Bool
 shortOutput c =
     onFrame c
-    (λ f o x. bySort f false false (pick (eqb (opcode f) 0x90) (ltb (length o) 2) false) (ltb (length o) (2 * words f)))
+    (λ f o x. bySort f false false (both (eqb (opcode f) 0x90) (ltb (length o) 2)) (ltb (length o) (2 * words f)))
 
 -- 6 "a write, or a command but HALT and Reset, while a measurement is awaited or an event runs"; "6 to all five, the flash read
 -- too" (Note 8)

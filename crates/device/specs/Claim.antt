@@ -68,7 +68,7 @@ Whole s w =
 
 -- no word is late: "at least 512 × 2^k × 65,536, k = TIMOUT (2:0 of 39h), or no hit"; "2^31 or more means no hit"
 abbrev pub InTime : List ℕ → List ℕ → Type 0
-InTime s w = (i : ℕ) → i < length w → getD w i 0 < min (512 * 2 ^ (wordOf s 0x39 % 8) * 65536) 2147483648
+InTime s w = (i : ℕ) → i < length w → getD w i 0 < min (512 * 2 ^ (wordOf s 0x39 % 8) * 65536) (2 ^ 31)
 
 -- A good delivery had all its words, and none at fault: "an up list and a down list, each of H words"; "four words, T1 to T4". "For users the mean
 -- of a port runs from then on over cycles where all four words are neither short nor open." (Note 3)

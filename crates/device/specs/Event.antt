@@ -123,29 +123,27 @@ haltSchedule k =
 -- Part of soundness: what the schedules are that the calls make. The counts are in order, and at most 32, the largest N.
 unfoldable pub countsSound : Schedule → Bool
 countsSound k =
-    pick (ltb 32 (k .planned)) false
-    (pick (ltb (k .planned) (k .started)) false
-    (pick (ltb (k .started) (k .settled)) false (pick (ltb (k .settled) (k .good)) false true)))
+    both (leb (k .planned) 32)
+    (both (leb (k .started) (k .planned)) (both (leb (k .settled) (k .started)) (leb (k .good) (k .settled))))
 
 -- The awaited one has at most 8,192 ticks left; a start to come is at most a period away, the period is 16,384 ticks or more, the
 -- least P, and the awaited one fails at least 8,192 ticks before that start.
 unfoldable pub waitSound : Schedule → Bool
 waitSound k =
-    pick (ltb 8192 (k .left .0)) false
+    both (leb (k .left .0) 8192)
     (pick (startsLeft k)
-    (pick (ltb (k .period .0) 16384) false
-    (pick (ltb (k .period .0) (k .wait .0)) false
-    (pick (ltb 0 (k .left .0)) (pick (ltb (k .wait .0) (k .left .0 + 8192)) false true) (pick (ltb 0 (k .wait .0)) true false))))
+    (both (leb 16384 (k .period .0))
+    (both (leb (k .wait .0) (k .period .0))
+    (pick (ltb 0 (k .left .0)) (leb (k .left .0 + 8192) (k .wait .0)) (ltb 0 (k .wait .0)))))
     true)
 
 -- While an event runs, one is started, and all that are started but the awaited one are settled.
 unfoldable pub balanceSound : Schedule → Bool
 balanceSound k =
     pick (inEvent k)
-    (pick (ltb 0 (k .left .0))
-    (pick (eqb (k .settled + 1) (k .started)) true false)
-    (pick (ltb 0 (k .started)) (pick (eqb (k .settled) (k .started)) true false) false))
+    (pick (ltb 0 (k .left .0)) (eqb (k .settled + 1) (k .started))
+    (both (ltb 0 (k .started)) (eqb (k .settled) (k .started))))
     true
 
 unfoldable pub scheduleSound : Schedule → Bool
-scheduleSound k = pick (countsSound k) (pick (waitSound k) (balanceSound k) false) false
+scheduleSound k = both (countsSound k) (both (waitSound k) (balanceSound k))

@@ -4,7 +4,7 @@ use Prim.Native.Nat.{ℕ}
 use mathlib.Core.Bool.{Bool, true, false}
 use mathlib.Core.List.{List}
 use lib.Dec.{eqb}
-use Rattle.unit.specs.Choice.{pick}
+use Rattle.unit.specs.Choice.{pick, both}
 use Rattle.frame.specs.Frame.{wordAt}
 use Rattle.flash.specs.Flash.{flashWord, flashWritten, flashErased, firstWord, addressRefused, eraseRefused, notErased}
 use Rattle.device.specs.declared.Model.{Model}
@@ -24,7 +24,7 @@ flashUnreachable op size a = pick (eqb op 0x13) (eraseRefused size a) (addressRe
 
 -- "17 not erased for a write on another word"; "A write lands only on FFFFh."
 unfoldable pub flashUnerased : ℕ → List ℕ → ℕ → Bool
-flashUnerased op x a = pick (eqb op 0x10) (notErased x a) false
+flashUnerased op x a = both (eqb op 0x10) (notErased x a)
 
 -- "a write or erase sets bit 7"
 unfoldable pub flashModel : Model → ℕ → Model

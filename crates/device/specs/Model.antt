@@ -1,10 +1,10 @@
 -- The model: fresh, sound, busy.
-use Prim.Native.Nat.{ℕ, _*_}
+use Prim.Native.Nat.{ℕ, _*_, _^_}
 use mathlib.Core.Bool.{Bool, true, false}
 use mathlib.Core.List.{List, [], _∷_}
 use lib.ListN.{getD}
 use lib.Dec.{leb}
-use Rattle.unit.specs.Choice.{pick}
+use Rattle.unit.specs.Choice.{either, both}
 use Rattle.calendar.specs.declared.Clock.{Clock}
 use Rattle.calendar.specs.Calendar.{clockValid, start}
 use Rattle.calendar.specs.Words.{alarmValid}
@@ -103,36 +103,31 @@ freshModel = freshWith porBit
 unfoldable pub resetModel : Model
 resetModel = freshWith noBits
 
--- Sound: the clock and the alarm are valid, the schedule of each kind is one that the calls make, and each sum is at most the count times the
--- largest value. The calls need it so that no field leaves its range.
+-- Sound: the clock and the alarm are valid, the schedule of each kind is one that the calls make, and each sum is at most the count
+-- times the largest value. The calls need it so that no field leaves its range.
 unfoldable pub sumFits : ℕ → ℕ → ℕ → Bool
 sumFits sum good most = leb sum (good * most)
 
 unfoldable pub flightSound : Flight → Bool
 flightSound f =
-    pick (scheduleSound (f .schedule)) (sumFits (f .sum) (f .schedule .good) 4294967296) false
+    both (scheduleSound (f .schedule)) (sumFits (f .sum) (f .schedule .good) (2 ^ 32))
 
 unfoldable pub temperatureSound : Temperature → Bool
 temperatureSound t =
-    pick (scheduleSound (t .schedule))
-    (pick (sumFits (getD (t .sums) 0 0) (t .schedule .good) 2147483648)
-    (pick (sumFits (getD (t .sums) 1 0) (t .schedule .good) 2147483648)
-    (pick (sumFits (getD (t .sums) 2 0) (t .schedule .good) 2147483648)
-    (sumFits (getD (t .sums) 3 0) (t .schedule .good) 2147483648)
-    false)
-    false)
-    false)
-    false
+    both (scheduleSound (t .schedule))
+    (both (sumFits (getD (t .sums) 0 0) (t .schedule .good) (2 ^ 31))
+    (both (sumFits (getD (t .sums) 1 0) (t .schedule .good) (2 ^ 31))
+    (both (sumFits (getD (t .sums) 2 0) (t .schedule .good) (2 ^ 31))
+    (sumFits (getD (t .sums) 3 0) (t .schedule .good) (2 ^ 31)))))
 
 unfoldable pub isSound : Model → Bool
 isSound m =
-    pick (clockValid (m .clock))
-    (pick (alarmValid (alarmWord (m .setup))) (pick (flightSound (m .flight)) (temperatureSound (m .temperature)) false) false)
-    false
+    both (clockValid (m .clock))
+    (both (alarmValid (alarmWord (m .setup))) (both (flightSound (m .flight)) (temperatureSound (m .temperature))))
 
 -- "while a measurement is awaited or an event runs"
 unfoldable pub kindBusy : Schedule → Bool
-kindBusy k = pick (isAwaited k) true (inEvent k)
+kindBusy k = either (isAwaited k) (inEvent k)
 
 unfoldable pub isBusy : Model → Bool
-isBusy m = pick (kindBusy (m .flight .schedule)) true (kindBusy (m .temperature .schedule))
+isBusy m = either (kindBusy (m .flight .schedule)) (kindBusy (m .temperature .schedule))

@@ -174,8 +174,8 @@ pub record FlightClaim (m : Model) (u d : List ℕ) : Type 0 where
   -- "A word is late when it is at least 512 × 2^k × 65,536, k = TIMOUT (2:0 of 39h), or no hit"; "2^31 or more means no hit"
   pub late :
       (acceptedAnswer m (flight u d) ≡ Failed)
-      ↔ (Some (min (512 * 2 ^ (wordOf (m .setup) 0x39 % 8) * 65536) 2147483648) u ⊎
-      Some (min (512 * 2 ^ (wordOf (m .setup) 0x39 % 8) * 65536) 2147483648) d)
+      ↔ (Some (min (512 * 2 ^ (wordOf (m .setup) 0x39 % 8) * 65536) (2 ^ 31)) u ⊎
+      Some (min (512 * 2 ^ (wordOf (m .setup) 0x39 % 8) * 65536) (2 ^ 31)) d)
   -- "No word late: HIT pairs 1 to H hold the words, later HIT pairs 0"; "Up results stand at C5h to D2h, down at D4h to E1h (HIT 1 to
   -- 6, then AVG; Int before Frac as in every pair)"
   pub ups :
@@ -193,7 +193,7 @@ pub record FlightClaim (m : Model) (u d : List ℕ) : Type 0 where
       m .flight .up ≡ true →
       m .flight .down ≡ true →
       let h : ℕ = min (wordOf (m .setup) 0x39 / 8192 % 8 + 1) 6 in
-      (w : ℕ) × (Holds (acceptedModel m (flight u d)) 0xE2 w) × (w < 4294967296) × ((w + sum d / h) % 4294967296 ≡ sum u / h)
+      (w : ℕ) × (Holds (acceptedModel m (flight u d)) 0xE2 w) × (w < 2 ^ 32) × ((w + sum d / h) % 2 ^ 32 ≡ sum u / h)
   -- "A word late: the measurement fails, every HIT and AVG of the measured directions and, for a difference, TOF_DIFF become FFFFh"
   pub failed-ups :
       acceptedAnswer m (flight u d) ≡ Failed →
@@ -232,9 +232,9 @@ pub record MeansClaim : Type 0 where
   -- "A difference is a 32-bit two's complement word"
   pub words :
       (z : ℤ) →
-      negsuc 2147483647 ≤ℤ z →
-      z <ℤ pos 2147483648 →
-      (differenceBits z < 4294967296) × (toZ w32 (differenceBits z) ≡ z)
+      negsuc (2 ^ 31 - 1) ≤ℤ z →
+      z <ℤ pos (2 ^ 31) →
+      (differenceBits z < 2 ^ 32) × (toZ w32 (differenceBits z) ≡ z)
   -- "÷ count, rounded toward minus infinity"
   pub means :
       (ds : List ℤ) →

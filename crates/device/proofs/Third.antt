@@ -384,7 +384,7 @@ all-others k m s (c ∷ cs) n h v p i =
 
 -- No transaction of the list reports a start.
 step-silent : (m : Model) {c : Call} {r : Reply} → Step m c r → Silent (record { call = c; answer = r .answer })
-unfolding isTransaction startReported
+unfolding startReported
 step-silent m (refusal c n t) k e = refl
 step-silent m (reading f o x s) differences e = refl
 step-silent m (reading f o x s) temperatures e = refl

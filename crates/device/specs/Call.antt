@@ -45,6 +45,22 @@ onFrame (flight u d) holds = false
 onFrame (temperature w) holds = false
 onFrame (stretch n) holds = false
 
+-- What holds of a delivery, of flight words or of temperature words; of another call, the value given first
+abbrev pub onDelivery : {A : Type 0} → Call → A → (List ℕ → List ℕ → A) → (List ℕ → A) → A
+onDelivery (transaction f o x) other byFlight byTemperature = other
+onDelivery tick other byFlight byTemperature = other
+onDelivery (flight u d) other byFlight byTemperature = byFlight u d
+onDelivery (temperature w) other byFlight byTemperature = byTemperature w
+onDelivery (stretch n) other byFlight byTemperature = other
+
+-- What holds of a tick, and of a stretch; of another call, the value given first
+abbrev pub onTime : {A : Type 0} → Call → A → A → (ℕ → A) → A
+onTime (transaction f o x) other byTick byStretch = other
+onTime tick other byTick byStretch = byTick
+onTime (flight u d) other byTick byStretch = other
+onTime (temperature w) other byTick byStretch = other
+onTime (stretch n) other byTick byStretch = byStretch n
+
 -- The conditions of the table, one for each number.
 
 -- 1 "no bytes"
@@ -109,27 +125,18 @@ badSetup m c = onFrame c (λ f o x. bySort f (commandUnset m (opcode f)) false f
 
 -- 10 "a delivery of a kind that is not awaited"
 unfoldable pub notAwaited : Model → Call → Bool
-notAwaited m (transaction f o x) = false
-notAwaited m tick = false
-notAwaited m (flight u d) = negate (isAwaited (m .flight .schedule))
-notAwaited m (temperature w) = negate (isAwaited (m .temperature .schedule))
-notAwaited m (stretch n) = false
+notAwaited m c =
+    onDelivery c false (λ u d. negate (isAwaited (m .flight .schedule))) (λ w. negate (isAwaited (m .temperature .schedule)))
 
 -- 11 "a delivery with another number of words"
 unfoldable pub miscounted : Model → Call → Bool
-miscounted m (transaction f o x) = false
-miscounted m tick = false
-miscounted m (flight u d) = flightMiscounted (m .flight) (hitCount (m .setup)) (length u) (length d)
-miscounted m (temperature w) = negate (eqb (length w) 4)
-miscounted m (stretch n) = false
+miscounted m c =
+    onDelivery c false (λ u d. flightMiscounted (m .flight) (hitCount (m .setup)) (length u) (length d))
+    (λ w. negate (eqb (length w) 4))
 
 -- 12 "span, for a larger n" than 16,384, "after number 0" (Note 1)
 unfoldable pub tooLong : Call → Bool
-tooLong (transaction f o x) = false
-tooLong tick = false
-tooLong (flight u d) = false
-tooLong (temperature w) = false
-tooLong (stretch n) = ltb 16384 n
+tooLong c = onTime c false false (λ n. ltb 16384 n)
 
 -- The table: a number and whether its condition holds. Numbers 15 to 17 stand "after number 6, in this order" (Note 8).
 pub record Row : Type 0 where

@@ -12,10 +12,11 @@ use Rattle.frame.specs.Frame.{isRead}
 use Rattle.hit.specs.Limit.{lateFrom, openFrom, anyFrom, anyFault}
 use Rattle.hit.specs.Mean.{sum, Averages}
 use Rattle.device.specs.declared.Model.{Model}
+use Rattle.device.specs.declared.Report.{Report}
 use Rattle.device.specs.declared.StretchReport.{StretchReport}
 use Rattle.device.specs.declared.Answer.{Answer}
 use Rattle.device.specs.declared.Answer.the-variants.{Refused, Accepted, Ticked, Stretched, Good, Failed}
-use Rattle.device.specs.Call.{Call, transaction, tick, flight, temperature, stretch, opcode}
+use Rattle.device.specs.Call.{Call, opcode, onFrame, onDelivery, onTime}
 use Rattle.device.specs.Reply.{reply}
 
 -- "Both its lists run on one model: each call is handed the model that the call before it returned or left".
@@ -32,21 +33,37 @@ unfoldable pub log : Model → List Call → List Entry
 log m [] = []
 log m (c ∷ cs) = record { call = c; answer = reply m c .answer } ∷ log (reply m c .model) cs
 
--- "After acceptance an accepted transaction stands in the list only if it is a register read."
-unfoldable pub isRefusal : Answer → Bool
-isRefusal (Refused n) = true
-isRefusal (Accepted f t) = false
-isRefusal (Ticked f t) = false
-isRefusal (Stretched f t) = false
-isRefusal Good = false
-isRefusal Failed = false
+-- What an answer without a report says: refused, good or failed; of another answer, nothing
+abbrev pub onOutcome : Answer → Bool → Bool → Bool → Bool
+onOutcome (Refused n) byRefused byGood byFailed = byRefused
+onOutcome (Accepted f t) byRefused byGood byFailed = false
+onOutcome (Ticked f t) byRefused byGood byFailed = false
+onOutcome (Stretched f t) byRefused byGood byFailed = false
+onOutcome Good byRefused byGood byFailed = byGood
+onOutcome Failed byRefused byGood byFailed = byFailed
 
+unfoldable pub isRefusal : Answer → Bool
+isRefusal a = onOutcome a true false false
+
+unfoldable pub isGood : Answer → Bool
+isGood a = onOutcome a false true false
+
+unfoldable pub isFailed : Answer → Bool
+isFailed a = onOutcome a false false true
+
+abbrev pub isTransaction : Call → Bool
+isTransaction c = onFrame c (λ f o x. true)
+
+unfoldable pub isTick : Call → Bool
+isTick c = onTime c false true (λ n. false)
+
+-- The ticks of a stretch; no other call has any.
+unfoldable pub spanOf : Call → ℕ
+spanOf c = onTime c 0 0 (λ n. n)
+
+-- "After acceptance an accepted transaction stands in the list only if it is a register read."
 unfoldable pub mayFollow : Call → Bool
-mayFollow (transaction f o x) = isRead (opcode f)
-mayFollow tick = true
-mayFollow (flight u d) = true
-mayFollow (temperature w) = true
-mayFollow (stretch n) = true
+mayFollow c = either (negate (isTransaction c)) (onFrame c (λ f o x. isRead (opcode f)))
 
 unfoldable pub onlyReads : List Entry → Bool
 onlyReads [] = true
@@ -57,13 +74,15 @@ pub data Kind : Type 0 where
   differences : Kind
   temperatures : Kind
 
+abbrev pub byKind : {A : Type 0} → Kind → A → A → A
+byKind differences d t = d
+byKind temperatures d t = t
+
 unfoldable pub periodOf : Kind → List ℕ → ℕ
-periodOf differences s = differencePeriod s .0
-periodOf temperatures s = temperaturePeriod s .0
+periodOf k s = byKind k (differencePeriod s .0) (temperaturePeriod s .0)
 
 unfoldable pub countOf : Kind → List ℕ → ℕ
-countOf differences s = differenceCount s
-countOf temperatures s = temperatureCount s
+countOf k s = byKind k (differenceCount s) (temperatureCount s)
 
 -- P, N and the sort of the event, by the set-up at acceptance.
 pub record Plan : Type 0 where
@@ -76,112 +95,53 @@ planOf k s = record { period = periodOf k s; count = countOf k s; continuous = e
 
 -- "07h runs both kinds, 08h differences, 09h temperatures."
 unfoldable pub runs : Kind → ℕ → Bool
-runs differences op = either (eqb op 0x07) (eqb op 0x08)
-runs temperatures op = either (eqb op 0x07) (eqb op 0x09)
+runs k op = either (eqb op 0x07) (eqb op (byKind k 0x08 0x09))
+
+-- What an answer with reports says: of a command's starts, of a tick, of a stretch; of another answer, the value given first
+abbrev pub onReport : {A : Type 0} → Answer → A → (Bool → Bool → A) → (Report → Report → A) → (StretchReport → StretchReport → A) → A
+onReport (Refused n) other byCommand byTick byStretch = other
+onReport (Accepted f t) other byCommand byTick byStretch = byCommand f t
+onReport (Ticked f t) other byCommand byTick byStretch = byTick f t
+onReport (Stretched f t) other byCommand byTick byStretch = byStretch f t
+onReport Good other byCommand byTick byStretch = other
+onReport Failed other byCommand byTick byStretch = other
 
 -- What an answer reports of a kind: "The start at 0 is reported by the command's answer, later ones by their tick."
 unfoldable pub startReported : Kind → Answer → Bool
-startReported k (Refused n) = false
-startReported differences (Accepted f t) = f
-startReported temperatures (Accepted f t) = t
-startReported differences (Ticked f t) = f .started
-startReported temperatures (Ticked f t) = t .started
-startReported k (Stretched f t) = false
-startReported k Good = false
-startReported k Failed = false
+startReported k a = onReport a false (byKind k) (λ f t. byKind k (f .started) (t .started)) (λ f t. false)
 
 unfoldable pub failureReported : Kind → Answer → Bool
-failureReported k (Refused n) = false
-failureReported k (Accepted f t) = false
-failureReported differences (Ticked f t) = f .failed
-failureReported temperatures (Ticked f t) = t .failed
-failureReported k (Stretched f t) = false
-failureReported k Good = false
-failureReported k Failed = false
+failureReported k a = onReport a false (λ f t. false) (λ f t. byKind k (f .failed) (t .failed)) (λ f t. false)
 
 -- What a stretch names of a kind.
+abbrev noneNamed : StretchReport
+noneNamed = record { started = 0; failed = 0 }
+
 unfoldable pub named : Kind → Answer → StretchReport
-named k (Refused n) = record { started = 0; failed = 0 }
-named k (Accepted f t) = record { started = 0; failed = 0 }
-named k (Ticked f t) = record { started = 0; failed = 0 }
-named differences (Stretched f t) = f
-named temperatures (Stretched f t) = t
-named k Good = record { started = 0; failed = 0 }
-named k Failed = record { started = 0; failed = 0 }
-
-unfoldable pub isGood : Answer → Bool
-isGood (Refused n) = false
-isGood (Accepted f t) = false
-isGood (Ticked f t) = false
-isGood (Stretched f t) = false
-isGood Good = true
-isGood Failed = false
-
-unfoldable pub isFailed : Answer → Bool
-isFailed (Refused n) = false
-isFailed (Accepted f t) = false
-isFailed (Ticked f t) = false
-isFailed (Stretched f t) = false
-isFailed Good = false
-isFailed Failed = true
-
-unfoldable pub isTransaction : Call → Bool
-isTransaction (transaction f o x) = true
-isTransaction tick = false
-isTransaction (flight u d) = false
-isTransaction (temperature w) = false
-isTransaction (stretch n) = false
-
-unfoldable pub isTick : Call → Bool
-isTick (transaction f o x) = false
-isTick tick = true
-isTick (flight u d) = false
-isTick (temperature w) = false
-isTick (stretch n) = false
-
--- The ticks of a stretch; no other call has any.
-unfoldable pub spanOf : Call → ℕ
-spanOf (transaction f o x) = 0
-spanOf tick = 0
-spanOf (flight u d) = 0
-spanOf (temperature w) = 0
-spanOf (stretch n) = n
+named k a = onReport a noneNamed (λ f t. noneNamed) (λ f t. noneNamed) (byKind k)
 
 unfoldable pub isDelivery : Kind → Call → Bool
-isDelivery k (transaction f o x) = false
-isDelivery k tick = false
-isDelivery differences (flight u d) = true
-isDelivery temperatures (flight u d) = false
-isDelivery differences (temperature w) = false
-isDelivery temperatures (temperature w) = true
-isDelivery k (stretch n) = false
+isDelivery k c = onDelivery c false (λ u d. byKind k true false) (λ w. byKind k false true)
 
 -- "By the set-up at acceptance, an accepted flight delivery is answered good exactly when none of its words is late, a
 -- temperature one exactly when none is open." And none short: "its delivery .. is answered failed, and the third demand's good
 -- is read so" (Note 3).
 unfoldable pub wordsGood : List ℕ → Call → Bool
-wordsGood s (transaction f o x) = false
-wordsGood s tick = false
-wordsGood s (flight u d) =
-    negate (either (anyFrom (lateFrom (timeout s)) u) (anyFrom (lateFrom (timeout s)) d))
-wordsGood s (temperature w) = negate (anyFault (openFrom (portCycle s)) w)
-wordsGood s (stretch n) = false
+wordsGood s c =
+    onDelivery c false (λ u d. negate (either (anyFrom (lateFrom (timeout s)) u) (anyFrom (lateFrom (timeout s)) d)))
+    (λ w. negate (anyFault (openFrom (portCycle s)) w))
 
 -- "A flight delivery's difference is the up list's sum ÷ H rounded down, less the same of the down list"
+abbrev noAverages : Averages
+noAverages = record { up = 0; down = 0 }
+
 unfoldable pub averagesOf : List ℕ → Call → Averages
-averagesOf s (transaction f o x) = record { up = 0; down = 0 }
-averagesOf s tick = record { up = 0; down = 0 }
-averagesOf s (flight u d) = record { up = sum u / hitCount s; down = sum d / hitCount s }
-averagesOf s (temperature w) = record { up = 0; down = 0 }
-averagesOf s (stretch n) = record { up = 0; down = 0 }
+averagesOf s c =
+    onDelivery c noAverages (λ u d. record { up = sum u / hitCount s; down = sum d / hitCount s }) (λ w. noAverages)
 
 -- "a temperature delivery's port words are the four delivered, each port with a mean of its own": port 0 to 3
 unfoldable pub portWord : ℕ → Call → ℕ
-portWord i (transaction f o x) = 0
-portWord i tick = 0
-portWord i (flight u d) = 0
-portWord i (temperature w) = getD w i 0
-portWord i (stretch n) = 0
+portWord i c = onDelivery c 0 (λ u d. 0) (λ w. getD w i 0)
 
 -- A failure that a tick reports: the kind's last start before it, and the tick.
 pub record Expiry : Type 0 where

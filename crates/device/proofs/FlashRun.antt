@@ -23,7 +23,7 @@ use Rattle.device.specs.History.{isRefusal}
 use Rattle.device.specs.FlashRun.{lent, memoryLeft, memoryThrough, flashOperation, operationOf, operations, FlashClaim}
 use Rattle.device.proofs.Table.{NoneHolds, none-holds}
 use Rattle.device.proofs.Sound.{fresh-sound, keeps-sound}
-use Rattle.device.proofs.Calls.{no-refusal}
+use Rattle.device.proofs.CallSteps.{no-refusal}
 
 -- 16 bits of a word are what a write stores
 low-bits : (x : List ℕ) (a w : ℕ) → flashWritten x a (w % 65536) ≡ flashWritten x a w

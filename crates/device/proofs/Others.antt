@@ -26,8 +26,8 @@ use Rattle.device.specs.Claim.{awaitedNow, registersOf, OtherClaim}
 use Rattle.device.proofs.Table.{NoneHolds}
 use Rattle.device.proofs.Stretch.{scheduleOf, schedule-ticked}
 use Rattle.device.proofs.StartMeaning.{Ended, ended-none, ended-group, ended-tick, ended-ticked, none-left, none-left-ticked, not-failing, not-awaiting}
-use Rattle.device.proofs.Calls.{Step, refusal, reading, ticking, flight-failed, flight-good, ports-failed, ports-good, stretching}
-use Rattle.device.proofs.Held.{note-refused}
+use Rattle.device.proofs.CallSteps.{Step, refusal, reading, ticking, flight-failed, flight-good, ports-failed, ports-good, stretching}
+use Rattle.device.proofs.EventSums.{note-refused}
 use Rattle.device.proofs.NumberTen.{now-means}
 
 -- what the registers of the kind hold is the same

@@ -12,7 +12,7 @@ use Rattle.device.specs.Registers.{flightWord, registerWord}
 use Rattle.device.specs.Call.{Call, table, Verdict, accepted, refused, firstOf, verdict}
 use Rattle.device.specs.Reply.{refuse, replyBy, reply}
 use Rattle.device.specs.Probes.{OtherProbes, OtherProbesIn, none, next, flowRegisters, Flow, flowOf, flowThrough, ProbesClaim}
-use Rattle.device.proofs.Blank.{blank, model-alike, reported, report-alike, otherRows, rows-alike}
+use Rattle.device.proofs.ProbesBlanked.{blank, model-alike, reported, report-alike, otherRows, rows-alike}
 use Rattle.device.proofs.Sound.{keeps-sound}
 
 -- A call of two sound models: the same number or none, and then the rest.

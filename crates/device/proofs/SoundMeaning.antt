@@ -36,8 +36,8 @@ use Rattle.device.proofs.Awaited.{halt-idle}
 use Rattle.device.proofs.CommandMeaning.{run-others}
 use Rattle.device.proofs.StartMeaning.{halt-ticks}
 use Rattle.device.proofs.Stretch.{scheduleOf, schedule-ticked, Apart, start-named, failure-named}
-use Rattle.device.proofs.Calls.{tick-accepted}
-use Rattle.device.proofs.Third.{sound-after, write-idle}
+use Rattle.device.proofs.CallSteps.{tick-accepted}
+use Rattle.device.proofs.ThirdDemand.{sound-after, write-idle}
 
 -- "a fresh model is sound and every call keeps it so": so is every model that only the calls made,
 pub made-sound : (cs : List Call) → isSound (after freshModel cs) ≡ true

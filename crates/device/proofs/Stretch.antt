@@ -23,7 +23,7 @@ use Rattle.device.specs.Stretch.{modelTicked, scheduleTicked, lastTick}
 use Rattle.device.specs.History.{Kind, differences, temperatures, Plan, History}
 use Rattle.device.proofs.Table.{picked}
 use Rattle.device.proofs.TickCases.{by-begins, left-before}
-use Rattle.device.proofs.Going.{Going, none-awaited}
+use Rattle.device.proofs.EventSchedule.{Going, none-awaited}
 
 -- The schedule of a kind.
 abbrev pub scheduleOf : Kind → Model → Schedule

@@ -14,7 +14,7 @@ use Rattle.device.specs.SetupTold.{setupTold}
 use Rattle.device.specs.Claim.{command, toldOf, EventClaim}
 use Rattle.worked_examples.proofs.Witness.{setUp, overGroups, continuous-accepted, plan-is, groups-read, groups-held}
 use Rattle.device.proofs.SetupTold.{setup-told}
-use Rattle.device.proofs.Third.{third-demand}
+use Rattle.device.proofs.ThirdDemand.{third-demand}
 
 runs-differences : runs differences 8 ≡ true
 unfolding runs

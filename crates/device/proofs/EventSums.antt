@@ -45,10 +45,10 @@ use Rattle.device.specs.Claim.{countRegister, InTime, Complete, KindClai
 use Rattle.device.proofs.Table.{NoneHolds, negated, picked}
 use Rattle.device.proofs.Sound.{left-some, hits-counted, hits-below}
 use Rattle.device.proofs.Sound
-use Rattle.device.proofs.Going.{Going, all-append, group-told, going-tick, going-good, going-failed, unsettled, all-reached, in-group, balanced, recent}
+use Rattle.device.proofs.EventSchedule.{Going, all-append, group-told, going-tick, going-good, going-failed, unsettled, all-reached, in-group, balanced, recent}
 use Rattle.device.proofs.Stretch.{scheduleOf, schedule-ticked, setup-ticked, Apart, apart, start-named, failure-named}
-use Rattle.device.proofs.Calls.{Step, refusal, reading, ticking, flight-failed, flight-good, ports-failed, ports-good}
-use Rattle.device.proofs.Calls.{stretching}
+use Rattle.device.proofs.CallSteps.{Step, refusal, reading, ticking, flight-failed, flight-good, ports-failed, ports-good}
+use Rattle.device.proofs.CallSteps.{stretching}
 use Rattle.device.proofs.NumberTen.{now-means, now-any}
 
 pub record FlightHeld (s : List ℕ) (h : History) (f : Flight) : Type 0 where

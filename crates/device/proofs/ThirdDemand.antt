@@ -48,9 +48,9 @@ use Rattle.device.proofs.Table.{none-holds, picked}
 use Rattle.device.proofs.Sound.{bounds-of, fresh-sound, keeps-sound}
 use Rattle.device.proofs.Stretch.{scheduleOf}
 use Rattle.device.proofs.StartMeaning.{idle-ended, idle-rests, not-awaiting}
-use Rattle.device.proofs.Going.{Going, going-start}
-use Rattle.device.proofs.Calls.{Step, refusal, reading, ticking, flight-failed, flight-good, ports-failed, ports-good, stretching, stepped, setup-kept, clock-step}
-use Rattle.device.proofs.Held.{KindHeld, held-step, held-claim}
+use Rattle.device.proofs.EventSchedule.{Going, going-start}
+use Rattle.device.proofs.CallSteps.{Step, refusal, reading, ticking, flight-failed, flight-good, ports-failed, ports-good, stretching, stepped, setup-kept, clock-step}
+use Rattle.device.proofs.EventSums.{KindHeld, held-step, held-claim}
 use Rattle.device.proofs.Others.{OtherHeld, other-step, other-claim}
 use Rattle.device.proofs.SetupTold.{setup-told}
 

@@ -3,7 +3,6 @@ use Prim.Native.Nat.{ℕ, _+_, _%_}
 use mathlib.Core.Bool.{Bool, false}
 use lib.Dec.{ltb, leb, eqb}
 use Rattle.unit.specs.Choice.{pick, negate}
-use Rattle.unit.specs.declared.Ticks.{Ticks}
 use Rattle.calendar.specs.declared.Clock.{Clock}
 
 -- "each year divisible by 4 is a leap year"; years count from 2000

@@ -1,16 +1,15 @@
 -- What one call of a sound model does, where an accepted transaction may only be a read.
 use Prim.Native.Nat.{ℕ, _+_, _≤_}
-use native.Mathlib.Omega.{arith}
 use mathlib.Core.Path.{_≡_, refl}
 use mathlib.Core.Bool.{true, false}
 use mathlib.Core.List.{List}
 use lib.Dec.{ltb, leb}
-use borrow.Author.Tests.{ltb-false, lt-ltb, le-ltb}
-use Rattle.unit.specs.Choice.{pick, either}
+use borrow.Author.Tests.{ltb-false}
+use Rattle.unit.specs.Choice.{either}
 use Rattle.unit.proofs.Cases.{by-test}
 use Rattle.calendar.specs.Bounds.{afterTicks}
 use Rattle.setup.specs.Setup.{clockStands, hitCount, portCycle}
-use Rattle.frame.specs.Frame.{isCommand, isWrite, isRead, isFlash}
+use Rattle.frame.specs.Frame.{isCommand, isWrite, isFlash}
 use Rattle.frame.proofs.Laws.{read-alone}
 use Rattle.hit.specs.Limit.{openFrom}
 use Rattle.hit.specs.Words.{sixWords, fourWords}

@@ -8,7 +8,7 @@ use lib.ListN.{length, getD, take, drop, length-drop}
 use lib.Seq.{take-all}
 use lib.Dec.{ltb, leb, eqb}
 use borrow.Author.Tests.{ltb-false, le-leb, leb-true, eqb-true, eq-eqb, ne-eqb}
-use Rattle.unit.specs.Choice.{pick, both}
+use Rattle.unit.specs.Choice.{both}
 use Rattle.unit.proofs.Cases.{by-test}
 use Rattle.frame.specs.Frame.{isCommand, isWrite, isRead, isFlash, flashFurther, notWhole, pastEnd}
 use Rattle.frame.specs.Decoding.{writeFrame, readFrame, flashFrame, decodeFrame}

@@ -1,16 +1,16 @@
 -- What a kind holds after each call of an event: its schedule, and the sums of what was good so far.
 use Prim.Native.Nat.{ℕ, zero, suc, _+_, _*_, _/_, _%_, _^_, _≤_, _<_, min}
 use native.Mathlib.Omega.{arith}
-use mathlib.Core.Path.{_≡_, refl, ap, sym, subst, _∙_}
+use mathlib.Core.Path.{_≡_, refl, ap, subst}
 use mathlib.Core.Bool.{Bool, true, false}
 use mathlib.Core.List.{List, [], _∷_, _++_, map, map-append}
 use lib.ListN.{length, length-map, getD}
-use lib.Dec.{ltb, eqb}
-use borrow.Author.Tests.{ltb-true, lt-ltb, eqb-true}
-use Rattle.unit.specs.Choice.{pick, both, negate}
+use lib.Dec.{eqb}
+use borrow.Author.Tests.{lt-ltb, eqb-true}
+use Rattle.unit.specs.Choice.{both, negate}
 use Rattle.unit.proofs.Cases.{by-test, by-ltb}
-use Rattle.unit.proofs.Joined.{neither, held}
-use Rattle.setup.specs.Setup.{wordOf, hitCount, timeout, portCycle, differencePeriod, differenceCount, temperaturePeriod, temperatureCount}
+use Rattle.unit.proofs.Joined.{neither}
+use Rattle.setup.specs.Setup.{wordOf, hitCount, timeout, portCycle}
 use Rattle.setup.proofs.Laws.{hits-bounds}
 use Rattle.hit.specs.Limit.{lateFrom, openFrom, anyFrom}
 use Rattle.hit.specs.Words.{sixWords, fourWords, average, plusEach}
@@ -32,12 +32,12 @@ use Rattle.device.specs.Model.{isSound}
 use Rattle.device.specs.Registers.{half, flightWord, temperatureWord, registerWord}
 use Rattle.device.specs.Tick.{sumAfter, sumsAfter, flightTicked, flightAfter, temperatureAfter, tickModel, reportOf}
 use Rattle.device.specs.Results.{failedFlight}
-use Rattle.device.specs.Stretch.{modelTicked, scheduleTicked, lastTick, stretchReport}
+use Rattle.device.specs.Stretch.{modelTicked, scheduleTicked, stretchReport}
 use Rattle.device.specs.Delivery.{sameCount, flightMiscounted, goodFlightModel, failedFlightModel, goodTemperatureModel, failedTemperatureModel}
 use Rattle.device.specs.Results.{goodSum, goodFlight, goodSums}
 use Rattle.device.specs.Call.{Call, flight, temperature, notAwaited, miscounted}
 use Rattle.device.specs.Reply.{anyLate, portFault}
-use Rattle.device.specs.History.{Kind, differences, temperatures, periodOf, countOf, Plan, planOf, History, opensGroup, noteTick, noteGood, noteFailed, note}
+use Rattle.device.specs.History.{Kind, differences, temperatures, periodOf, countOf, Plan, planOf, History, noteTick, noteGood, noteFailed, note}
 use Rattle.device.specs.History.{isTick, isDelivery, isGood, isFailed, startReported, failureReported, wordsGood}
 use Rattle.device.specs.History.{isRefusal, spanOf, stretchIn, named, noteTicks}
 use Rattle.device.specs.History.{averagesOf, portWord}

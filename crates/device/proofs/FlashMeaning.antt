@@ -1,29 +1,28 @@
 -- What the commands of the regulator and the frames of the user flash mean: each field and byte, and each number.
-use Prim.Native.Nat.{ℕ, zero, suc, _+_, _-_, _*_, _/_, _%_, _≤_, _<_}
+use Prim.Native.Nat.{ℕ, _+_, _-_, _*_, _/_, _%_, _≤_, _<_}
 use native.Mathlib.Omega.{arith}
 use mathlib.Core.Bool.{Bool, true, false}
 use mathlib.Core.List.{List, [], _∷_, map}
 use mathlib.Core.Logic.{_↔_}
-use mathlib.Core.Path.{_≡_, refl, sym, _∙_}
-use lib.ListN.{length, getD, drop}
+use mathlib.Core.Path.{_≡_, refl, _∙_}
+use lib.ListN.{length, getD}
 use lib.Dec.{ltb, eqb}
 use borrow.Author.Tests.{ne-eqb}
-use Rattle.unit.specs.Choice.{pick, negate}
+use Rattle.unit.specs.Choice.{pick}
 use Rattle.unit.proofs.Cases.{by-test}
-use Rattle.frame.specs.Frame.{isCommand, isWrite, isRead, isFlash, flashFurther, notWhole, pastEnd, wordAt}
+use Rattle.frame.specs.Frame.{isCommand, isWrite, isRead, isFlash, flashFurther, wordAt}
 use Rattle.frame.proofs.Laws.{flash-alone}
-use Rattle.flash.specs.Flash.{flashWord, flashWritten, flashErased, firstWord, wrongSize, oddAddress, beyond, addressRefused, eraseRefused, notErased}
+use Rattle.flash.specs.Flash.{flashWord, flashWritten, flashErased, addressRefused, eraseRefused, notErased}
 use Rattle.flash.proofs.Bytes.{written-high, written-low, written-kept, erased-block, kept-blocks, first-written}
 use Rattle.device.specs.declared.Status.{Status}
 use Rattle.device.specs.declared.Model.{Model}
 use Rattle.device.specs.declared.Told.the-variants.{Value}
-use Rattle.device.specs.Event.{isAwaited, inEvent, noSchedule}
-use Rattle.device.specs.Status.{joined, ldoBit, flashBit, withoutLdo, porBit, noBits}
-use Rattle.device.specs.Model.{isSound, isBusy, kindBusy, freshModel, freshWith, noFlight, noTemperature, resetModel}
+use Rattle.device.specs.Status.{joined, ldoBit, flashBit, withoutLdo}
+use Rattle.device.specs.Model.{isSound, isBusy, freshModel, freshWith, resetModel}
 use Rattle.device.specs.FlashFrame.{flashAddress, flashData, flashUnreachable, flashUnerased, flashModel, flashOutput, flashMemory}
 use Rattle.device.specs.Bus.{mustBeIdle, startsFlight, startsTemperature, isEvent, commandBusy, beforeInitialize, commandUnset, eventSideUnset, flightSideUnset, temperatureSideUnset}
 use Rattle.device.specs.Bus.{initialisedModel, haltedModel, supplied, unsupplied, runModel}
-use Rattle.device.specs.Call.{Call, transaction, opcode, Verdict, refused, accepted, verdict, table, firstOf}
+use Rattle.device.specs.Call.{transaction, opcode, Verdict, refused, accepted, verdict, table, firstOf}
 use Rattle.device.specs.Question.{regulatorOn}
 use Rattle.device.specs.Call.{noFrame, notCarried, wrongLength, pastRegisters, shortOutput, whileBusy, supplyOff, unreachable, unerased, badCalendar, notInitialised, badSetup, notAwaited, miscounted, tooLong}
 use Rattle.device.specs.Reply.{reply, replyBy, acceptedAnswer, acceptedModel, output, outputBy, acceptedOutput, bufferOf, memory, memoryBy, memoryOf, acceptedMemory}

@@ -1,28 +1,25 @@
 -- What a run on one user flash reads back.
-use Prim.Native.Nat.{ℕ, _+_, _/_, _%_, _≤_, _<_}
+use Prim.Native.Nat.{ℕ, _+_, _/_, _%_}
 use native.Mathlib.Omega.{arith}
 use mathlib.Core.Bool.{Bool, true, false}
 use mathlib.Core.List.{List, [], _∷_, _++_}
 use mathlib.Core.Path.{_≡_, refl, ap, sym, _∙_}
 use lib.ListN.{length, drop}
-use lib.Dec.{eqb}
 use Rattle.unit.specs.Choice.{pick}
 use Rattle.unit.proofs.Cases.{by-test, by-eqb}
 use Rattle.frame.specs.Frame.{isCommand, isWrite, isFlash}
 use Rattle.flash.specs.Flash.{flashWord, flashWritten}
-use Rattle.flash.specs.Operation.{Operation, write, erase, afterOne, afterAll, lastWord, InRange, AllInRange}
+use Rattle.flash.specs.Operation.{Operation, afterOne, afterAll, lastWord, AllInRange}
 use Rattle.flash.proofs.Refusal.{address-accepted, erase-accepted}
 use Rattle.flash.proofs.Words.{reads-last, length-after}
 use Rattle.device.specs.declared.Model.{Model}
-use Rattle.device.specs.declared.Answer.the-variants.{Refused}
-use Rattle.device.specs.Model.{isSound, freshModel}
+use Rattle.device.specs.Model.{freshModel}
 use Rattle.device.specs.FlashFrame.{flashAddress, flashData, flashUnreachable, flashMemory}
 use Rattle.device.specs.Call.{Call, transaction, tick, flight, temperature, stretch, opcode, unreachable, Verdict, accepted, refused, verdict}
-use Rattle.device.specs.Reply.{acceptedAnswer, acceptedMemory, reply, replyBy, memory, memoryBy, memoryOf}
+use Rattle.device.specs.Reply.{acceptedMemory, reply, replyBy, memory, memoryBy, memoryOf}
 use Rattle.device.specs.History.{isRefusal}
 use Rattle.device.specs.FlashRun.{lent, memoryLeft, memoryThrough, flashOperation, operationOf, operations, FlashClaim}
-use Rattle.device.proofs.Table.{NoneHolds, none-holds}
-use Rattle.device.proofs.Sound.{fresh-sound, keeps-sound}
+use Rattle.device.proofs.Table.{none-holds}
 use Rattle.device.proofs.CallSteps.{no-refusal}
 
 -- 16 bits of a word are what a write stores

@@ -1,30 +1,27 @@
 -- A kind that the event command does not run: nothing is told of it, and its registers stay.
-use Prim.Native.Nat.{ℕ, zero, suc, _+_, _≤_, _<_}
+use Prim.Native.Nat.{ℕ, zero, suc, _+_}
 use native.Mathlib.Omega.{arith}
-use mathlib.Core.Bool.{Bool, true, false}
-use mathlib.Core.List.{List, [], _∷_, map}
-use mathlib.Core.Path.{_≡_, refl, ap, sym, subst, _∙_}
-use lib.Dec.{eqb}
+use mathlib.Core.Bool.{true, false}
+use mathlib.Core.List.{List, [], map}
+use mathlib.Core.Path.{_≡_, refl, ap, sym, _∙_}
 use borrow.Author.Tests.{ne-eqb}
 use Rattle.unit.specs.Choice.{pick, negate}
-use Rattle.unit.proofs.Cases.{by-test}
 use Rattle.device.specs.declared.Schedule.{Schedule}
 use Rattle.device.specs.declared.Flight.{Flight}
 use Rattle.device.specs.declared.Temperature.{Temperature}
 use Rattle.device.specs.declared.Model.{Model}
 use Rattle.device.specs.declared.Reply.{Reply}
-use Rattle.device.specs.Event.{begins, beginsGroup, fails, isAwaited, tickSchedule, goodAfter}
+use Rattle.device.specs.Event.{begins, fails, isAwaited, tickSchedule, goodAfter}
 use Rattle.device.specs.Model.{isSound}
-use Rattle.device.specs.Registers.{flightWord, temperatureWord, registerWord, upwards}
+use Rattle.device.specs.Registers.{flightWord, temperatureWord, registerWord}
 use Rattle.device.specs.Tick.{sumAfter, sumsAfter, flightTicked, flightAfter, temperatureAfter, tickModel, reportOf}
 use Rattle.device.specs.Stretch.{modelTicked, scheduleTicked, lastTick, stretchReport}
 use Rattle.device.specs.Delivery.{goodFlightModel, failedFlightModel, goodTemperatureModel, failedTemperatureModel}
 use Rattle.device.specs.Call.{Call, notAwaited}
 use Rattle.device.specs.History.{Kind, differences, temperatures, Plan, planOf, History, noteTick, noteTicks, note}
 use Rattle.device.specs.History.{isTick, isDelivery, isGood, isFailed, startReported, failureReported, isRefusal, spanOf, stretchIn, named}
-use Rattle.device.specs.Claim.{awaitedNow, registersOf, OtherClaim}
-use Rattle.device.proofs.Table.{NoneHolds}
-use Rattle.device.proofs.Stretch.{scheduleOf, schedule-ticked}
+use Rattle.device.specs.Claim.{registersOf, OtherClaim}
+use Rattle.device.proofs.Stretch.{scheduleOf}
 use Rattle.device.proofs.StartMeaning.{Ended, ended-none, ended-group, ended-tick, ended-ticked, none-left, none-left-ticked, not-failing, not-awaiting}
 use Rattle.device.proofs.CallSteps.{Step, refusal, reading, ticking, flight-failed, flight-good, ports-failed, ports-good, stretching}
 use Rattle.device.proofs.EventSums.{note-refused}

@@ -1,7 +1,7 @@
 -- A change of probes leaves the flow: two runs stay alike but for what temperature words may touch.
 use Prim.Native.Nat.{ℕ}
 use mathlib.Core.Bool.{Bool, true, false}
-use mathlib.Core.List.{List, [], _∷_, map}
+use mathlib.Core.List.{List, _∷_, map}
 use mathlib.Core.Path.{_≡_, refl, ap, sym, _∙_}
 use Rattle.unit.proofs.Cases.{by-test}
 use Rattle.device.specs.declared.Flight.{Flight}

@@ -20,7 +20,7 @@ use Rattle.device.specs.Status.{noBits}
 use Rattle.device.specs.Model.{kindBusy, isBusy, withTemperature}
 use Rattle.device.specs.Registers.{calendarWord}
 use Rattle.device.specs.Write.{ticksAfter, clockAfter, writeInvalid, writeModel}
-use Rattle.device.specs.Tick.{sumsAfter, temperatureAfter, clockTicked, tickModel}
+use Rattle.device.specs.Tick.{temperatureAfter, clockTicked, tickModel}
 use Rattle.device.specs.Stretch.{modelTicked}
 use Rattle.device.specs.Delivery.{goodFlightModel, failedFlightModel, goodTemperatureModel, failedTemperatureModel}
 use Rattle.device.specs.Bus.{startsTemperature, isEvent, commandBusy, beforeInitialize, commandUnset, temperatureEvent, eventFlight, eventTemperature}

@@ -3,14 +3,13 @@ use Prim.Native.Nat.{ℕ, zero, suc, _+_, _-_, _≤_, _<_}
 use native.Mathlib.Omega.{arith}
 use native.Mathlib.Numerals.{add-one}
 use mathlib.Core.Path.{_≡_, refl, ap, sym, _∙_}
-use mathlib.Core.Bool.{Bool, true, false}
+use mathlib.Core.Bool.{false}
 use mathlib.Core.Logic.{_⊎_, inl, inr, ⊎-elim}
 use lib.Dec.{ltb, leb}
-use borrow.Author.Tests.{le-leb, lt-leb, lt-ltb, le-ltb, ne-eqb}
+use borrow.Author.Tests.{le-leb, lt-leb, ne-eqb}
 use Rattle.unit.specs.Choice.{pick}
 use Rattle.unit.proofs.Cases.{by-test, by-ltb, by-eqb}
-use Rattle.unit.specs.declared.Ticks.{Ticks}
-use Rattle.calendar.specs.Calendar.{withTime, tickClock}
+use Rattle.calendar.specs.Calendar.{tickClock}
 use Rattle.calendar.proofs.AlarmModes.{same-time}
 use Rattle.setup.specs.Setup.{clockStands, alarmWord, alarmMode}
 use Rattle.device.specs.declared.Schedule.{Schedule}

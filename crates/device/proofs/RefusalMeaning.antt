@@ -1,21 +1,18 @@
 -- What stands in the way of a command, in plain arithmetic: a busy model, no Initialize before it, a set-up that is not made
 -- (numbers 6, 8 and 9).
-use Prim.Native.Nat.{ℕ, _+_, _-_, _≤_, _<_}
+use Prim.Native.Nat.{ℕ, _-_, _≤_, _<_}
 use native.Mathlib.Omega.{arith}
 use mathlib.Core.Bool.{Bool, true, false}
-use mathlib.Core.List.{List, [], _∷_, map}
+use mathlib.Core.List.{[], _∷_, map}
 use mathlib.Core.Logic.{_↔_, _⊎_, inl, inr, ⊎-elim}
 use mathlib.Core.Path.{_≡_, refl}
-use lib.Dec.{ltb, leb}
-use borrow.Author.Tests.{leb-true, leb-false, lt-ltb, le-ltb, le-leb, lt-leb}
-use Rattle.unit.specs.Choice.{pick, either}
+use borrow.Author.Tests.{le-leb, lt-leb}
+use Rattle.unit.specs.Choice.{either}
 use Rattle.unit.proofs.Cases.{by-test, by-ltb, by-eqb, holds, fails}
-use Rattle.unit.specs.declared.Ticks.{Ticks}
 use Rattle.setup.specs.Setup.{flightUnset, temperatureUnset, clockStands}
 use Rattle.device.specs.declared.Schedule.{Schedule}
 use Rattle.device.specs.declared.Model.{Model}
-use Rattle.device.specs.Event.{isAwaited, inEvent, startsLeft, begins, beginsGroup, startSingle, startEvent, settle}
-use Rattle.device.specs.Event.{tickSchedule, leftAfter, waitAfter, startedAfter, settledAfter, goodAfter}
+use Rattle.device.specs.Event.{isAwaited, inEvent}
 use Rattle.device.specs.Model.{kindBusy, isBusy}
 use Rattle.device.specs.Bus.{mustBeIdle, startsFlight, startsTemperature, isEvent, commandBusy, beforeInitialize}
 use Rattle.device.specs.Bus.{flightSideUnset, temperatureSideUnset, eventSideUnset, commandUnset}

@@ -2,23 +2,16 @@
 use Prim.Native.Nat.{ℕ, _+_, _-_, _≤_, _<_}
 use native.Mathlib.Omega.{arith}
 use mathlib.Core.Bool.{Bool, true, false}
-use mathlib.Core.List.{List, [], _∷_, map}
 use mathlib.Core.Logic.{_↔_, _⊎_, inl, inr, ⊎-elim}
 use mathlib.Core.Path.{_≡_, refl}
-use lib.Dec.{ltb, leb}
+use lib.Dec.{leb}
 use borrow.Author.Tests.{leb-true, leb-false, lt-ltb, le-ltb, le-leb, lt-leb}
-use Rattle.unit.specs.Choice.{pick, either}
-use Rattle.unit.proofs.Cases.{by-test, by-ltb, by-eqb, holds, fails}
+use Rattle.unit.specs.Choice.{pick}
+use Rattle.unit.proofs.Cases.{by-test, by-ltb, holds, fails}
 use Rattle.unit.specs.declared.Ticks.{Ticks}
-use Rattle.setup.specs.Setup.{flightUnset, temperatureUnset, clockStands}
 use Rattle.device.specs.declared.Schedule.{Schedule}
-use Rattle.device.specs.declared.Model.{Model}
-use Rattle.device.specs.Event.{isAwaited, inEvent, startsLeft, begins, beginsGroup, startSingle, startEvent, settle}
+use Rattle.device.specs.Event.{startsLeft, begins, beginsGroup, startSingle, startEvent, settle}
 use Rattle.device.specs.Event.{tickSchedule, leftAfter, waitAfter, startedAfter, settledAfter, goodAfter}
-use Rattle.device.specs.Model.{kindBusy, isBusy}
-use Rattle.device.specs.Bus.{mustBeIdle, startsFlight, startsTemperature, isEvent, commandBusy, beforeInitialize}
-use Rattle.device.specs.Bus.{flightSideUnset, temperatureSideUnset, eventSideUnset, commandUnset}
-use Rattle.device.specs.Terms.{commands}
 
 -- A measurement starts, and an event: "A kind is awaited from its start"; 8,192 ticks are left to it. "Acceptance zeroes cycle
 -- counts"

@@ -1,7 +1,7 @@
 -- Over every list of calls each register of the set-up has the word last written to it since Reset.
 use Prim.Native.Nat.{ℕ, zero, suc, _+_, _-_, _≤_, _<_}
 use native.Mathlib.Omega.{arith}
-use mathlib.Core.Bool.{Bool, true, false}
+use mathlib.Core.Bool.{false}
 use mathlib.Core.List.{List, [], _∷_, map}
 use mathlib.Core.Path.{_≡_, refl, ap, sym, _∙_}
 use lib.ListN.{length, getD, drop}
@@ -13,9 +13,8 @@ use Rattle.frame.specs.Frame.{isCommand, isWrite, isFlash}
 use Rattle.device.specs.declared.Model.{Model}
 use Rattle.device.specs.Model.{freshModel, freshWith, resetModel}
 use Rattle.device.specs.Registers.{upwards}
-use Rattle.device.specs.Write.{covers, written, setupAfter, writeModel}
+use Rattle.device.specs.Write.{written, writeModel}
 use Rattle.device.specs.Tick.{tickModel}
-use Rattle.device.specs.Stretch.{modelTicked}
 use Rattle.device.specs.Delivery.{goodFlightModel, failedFlightModel, goodTemperatureModel, failedTemperatureModel}
 use Rattle.device.specs.FlashFrame.{flashModel}
 use Rattle.device.specs.Bus.{supplied, unsupplied, isEvent, startedEvent, initialisedModel, haltedModel, singleStarted, runModel, readModel}

@@ -6,8 +6,8 @@ use mathlib.Core.List.{List}
 use mathlib.Core.Path.{_≡_, refl, sym}
 use lib.ListN.{length, getD, drop}
 use lib.Dec.{ltb, leb, eqb}
-use borrow.Author.Tests.{ltb-true, ltb-false, leb-true, lt-ltb, le-ltb, le-leb, lt-leb, eqb-true, eq-eqb}
-use Rattle.unit.specs.Choice.{pick, either, both, negate}
+use borrow.Author.Tests.{ltb-true, leb-true, lt-ltb, le-ltb, le-leb, lt-leb, eqb-true, eq-eqb}
+use Rattle.unit.specs.Choice.{pick, both, negate}
 use Rattle.unit.proofs.Cases.{by-test, by-ltb, by-eqb}
 use Rattle.unit.specs.declared.Ticks.{Ticks}
 use Rattle.calendar.specs.Calendar.{clockValid}

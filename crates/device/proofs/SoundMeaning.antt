@@ -1,14 +1,13 @@
 -- What holds of every sound model, and that the calls make no other.
 use Prim.Native.Nat.{ℕ, _+_, _≤_, _<_}
 use native.Mathlib.Omega.{arith}
-use mathlib.Core.Bool.{Bool, true, false}
+use mathlib.Core.Bool.{true, false}
 use mathlib.Core.List.{List, [], _∷_}
 use mathlib.Core.Logic.{_⊎_, inl, inr, ⊎-elim}
 use mathlib.Core.Path.{_≡_, refl, ap, sym, _∙_}
 use lib.Dec.{eqb}
 use Rattle.unit.specs.Choice.{negate}
 use Rattle.unit.proofs.Cases.{by-test}
-use Rattle.calendar.specs.Words.{alarmValid}
 use Rattle.calendar.proofs.Validity.{AlarmValid, alarm-means}
 use Rattle.setup.specs.Setup.{wordOf, alarmWord}
 use Rattle.frame.specs.Frame.{isCommand}
@@ -16,13 +15,13 @@ use Rattle.hit.specs.Mean.{All}
 use Rattle.device.specs.declared.Schedule.{Schedule}
 use Rattle.device.specs.declared.Model.{Model}
 use Rattle.device.specs.declared.Answer.the-variants.{Ticked}
-use Rattle.device.specs.Event.{startsLeft, begins, fails}
+use Rattle.device.specs.Event.{begins, fails}
 use Rattle.device.specs.Model.{isSound, freshModel}
 use Rattle.device.specs.Tick.{reportOf}
-use Rattle.device.specs.Stretch.{modelTicked, scheduleTicked, lastTick, stretchReport}
+use Rattle.device.specs.Stretch.{modelTicked, scheduleTicked, stretchReport}
 use Rattle.device.specs.Bus.{mustBeIdle, startsFlight, startsTemperature, isEvent, commandBusy, beforeInitialize}
 use Rattle.device.specs.Bus.{flightSideUnset, temperatureSideUnset, eventSideUnset, commandUnset, runModel}
-use Rattle.device.specs.Call.{Call, Row, transaction, tick, stretch, noFrame, notCarried, wrongLength, pastRegisters, shortOutput, whileBusy}
+use Rattle.device.specs.Call.{Call, Row, tick, stretch, noFrame, notCarried, wrongLength, pastRegisters, shortOutput, whileBusy}
 use Rattle.device.specs.Call.{supplyOff, unreachable, unerased, badCalendar, notInitialised, badSetup, notAwaited, miscounted, tooLong}
 use Rattle.device.specs.Call.{table, firstOf, accepted, refused, verdict}
 use Rattle.device.specs.Reply.{acceptedAnswer, acceptedModel, reply, replyBy}

@@ -7,11 +7,9 @@ use mathlib.Core.Bool.{Bool, true, false}
 use mathlib.Core.Logic.{_⊎_, inl, inr, ⊎-elim}
 use lib.Dec.{eqb}
 use borrow.Author.Tests.{le-leb, lt-leb, eq-eqb, ne-eqb, eqb-true}
-use Rattle.unit.specs.Choice.{pick}
 use Rattle.unit.proofs.Cases.{by-test, by-ltb, by-eqb}
 use Rattle.calendar.specs.Calendar.{tickClock}
 use Rattle.calendar.specs.Bounds.{afterTicks}
-use Rattle.unit.proofs.Joined.{held}
 use Rattle.setup.specs.Setup.{clockStands}
 use Rattle.unit.specs.declared.Ticks.{Ticks}
 use Rattle.device.specs.declared.Schedule.{Schedule}

@@ -2,14 +2,13 @@
 use Prim.Native.Nat.{ℕ, zero, suc, _+_, _*_, _/_, _%_, _≤_, _<_}
 use native.Mathlib.Nat.{zero-add}
 use native.Mathlib.Omega.{arith}
-use native.Mathlib.Numerals.{add-one}
 use mathlib.Core.Path.{_≡_, refl, ap, sym, subst, _∙_}
-use mathlib.Core.Bool.{Bool, true, false}
+use mathlib.Core.Bool.{true, false}
 use mathlib.Core.List.{List, [], _∷_}
 use mathlib.Core.Logic.{_⊎_, inl, inr, ⊎-elim}
 use lib.Dec.{ltb, leb, eqb}
 use borrow.Author.Tests.{leb-true, le-leb, lt-ltb, le-ltb}
-use Rattle.unit.specs.Choice.{pick, both}
+use Rattle.unit.specs.Choice.{both}
 use Rattle.unit.proofs.Joined.{both-true, neither}
 use Rattle.unit.proofs.Cases.{by-test, by-ltb, by-eqb}
 use Rattle.calendar.specs.declared.Clock.{Clock}
@@ -20,7 +19,7 @@ use Rattle.calendar.specs.Words.{clockFrom}
 use Rattle.calendar.proofs.Laws.{bounds, after-moment, after-weekday, after-form}
 use Rattle.calendar.proofs.RoundTrip.{round-trip}
 use Rattle.calendar.proofs.Places.{seconds-shown}
-use Rattle.setup.specs.Setup.{wordOf, clockStands, eventContinuous, differencePeriod, differenceCount, temperaturePeriod, temperatureCount}
+use Rattle.setup.specs.Setup.{clockStands, eventContinuous, differencePeriod, differenceCount, temperaturePeriod, temperatureCount}
 use Rattle.setup.proofs.Laws.{difference-period-bounds, difference-count-bounds, temperature-period-bounds, temperature-count-bounds}
 use Rattle.frame.specs.Frame.{isCommand, isWrite, notWhole, pastEnd}
 use Rattle.hit.specs.Mean.{All, sum}
@@ -41,7 +40,7 @@ use Rattle.device.specs.Call.{table, firstOf, accepted, refused, verdict
 use Rattle.device.specs.Reply.{acceptedAnswer, acceptedModel, replyBy, reply}
 use Rattle.device.specs.Parts.{accept}
 use Rattle.device.specs.History.{Kind, differences, temperatures, Plan, planOf, periodOf, countOf, Entry, History, note, noteTick, noteGood, noteFailed, history, after, log, onlyReads, isTick, isDelivery, isGood, isFailed}
-use Rattle.device.specs.History.{startReported, beginning, runs, isRefusal, isTransaction, spanOf, stretchIn, named, noteTicks}
+use Rattle.device.specs.History.{startReported, beginning, runs, isRefusal, spanOf, stretchIn, named, noteTicks}
 use Rattle.device.specs.Claim.{ticksIn, tickCount}
 use Rattle.device.specs.Claim.{command, toldOf, settledOf, StillBusy, NotBusy, Silent, EventClaim, ThirdDemand}
 use Rattle.device.proofs.Table.{none-holds, picked}

@@ -8,7 +8,7 @@ use mathlib.Core.Logic.{_↔_, _⊎_, inl, inr, ⊎-elim}
 use mathlib.Core.Path.{_≡_, refl, sym, _∙_}
 use lib.ListN.{length}
 use borrow.Author.Tests.{le-leb, lt-leb}
-use Rattle.unit.specs.Choice.{pick, both, negate}
+use Rattle.unit.specs.Choice.{both, negate}
 use Rattle.unit.proofs.Cases.{by-ltb}
 use Rattle.calendar.specs.Words.{ticksIn, hundredthsOf, clockFrom, wordsValid, alarmValid}
 use Rattle.calendar.proofs.Laws.{bounds}

@@ -1,7 +1,7 @@
 -- The frames of the user flash. Quotations are from Note 8 of the change requests. `b` is the frame from its second byte, `x` the
 -- memory that the call is lent.
 use Prim.Native.Nat.{ℕ}
-use mathlib.Core.Bool.{Bool, true, false}
+use mathlib.Core.Bool.{Bool}
 use mathlib.Core.List.{List}
 use lib.Dec.{eqb}
 use Rattle.unit.specs.Choice.{pick, both}

@@ -1,7 +1,6 @@
 -- A run on one user flash: each transaction is lent the memory that the one before it left. Quotations are from Note 8 of the
 -- change requests.
 use Prim.Native.Nat.{ℕ, _%_}
-use mathlib.Core.Bool.{Bool, true, false}
 use mathlib.Core.List.{List, [], _∷_, _++_}
 use mathlib.Core.Path.{_≡_}
 use lib.ListN.{length, drop}

@@ -1,6 +1,6 @@
 -- The model: fresh, sound, busy.
 use Prim.Native.Nat.{ℕ, _*_, _^_}
-use mathlib.Core.Bool.{Bool, true, false}
+use mathlib.Core.Bool.{Bool, false}
 use mathlib.Core.List.{List, [], _∷_}
 use lib.ListN.{getD}
 use lib.Dec.{leb}

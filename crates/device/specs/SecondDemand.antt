@@ -2,7 +2,7 @@
 -- interrupt bits are those of the MAX35101 data sheet as 01 condenses it, for words going in over the bus and for words coming out."
 -- Quotations are from 01. `registerWord m a` is what a read of address a gives; `wordOf (m .setup) a` the word of 34h to 43h.
 use Prim.Native.Nat.{ℕ, _+_, _-_, _*_, _/_, _%_, _^_, _≤_, _<_, min}
-use mathlib.Core.Bool.{Bool, true, false}
+use mathlib.Core.Bool.{true, false}
 use mathlib.Core.List.{List, [], _∷_, map}
 use mathlib.Core.Logic.{_↔_, _⊎_}
 use mathlib.Core.Path.{_≡_}

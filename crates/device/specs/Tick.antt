@@ -1,13 +1,13 @@
 -- One tick.
 use Prim.Native.Nat.{ℕ}
-use mathlib.Core.Bool.{Bool, true, false}
+use mathlib.Core.Bool.{Bool}
 use mathlib.Core.List.{List, [], _∷_}
 use Rattle.unit.specs.Choice.{pick}
 use Rattle.calendar.specs.declared.Clock.{Clock}
 use Rattle.calendar.specs.Calendar.{tickClock}
 use Rattle.calendar.specs.Alarm.{alarmRings}
 use Rattle.setup.specs.Setup.{clockStands, alarmWord, alarmMode, eachInterrupt}
-use Rattle.hit.specs.Words.{failedPairs, failedPorts}
+use Rattle.hit.specs.Words.{failedPorts}
 use Rattle.device.specs.declared.Schedule.{Schedule}
 use Rattle.device.specs.declared.Status.{Status}
 use Rattle.device.specs.declared.Flight.{Flight}

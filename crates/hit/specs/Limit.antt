@@ -1,6 +1,6 @@
 -- Words that are late, open or short.
 use Prim.Native.Nat.{ℕ, _+_, _-_, _*_, _^_, min}
-use mathlib.Core.Bool.{Bool, true, false}
+use mathlib.Core.Bool.{Bool, false}
 use mathlib.Core.List.{List, [], _∷_}
 use lib.Dec.{leb, ltb}
 use Rattle.unit.specs.Choice.{either}

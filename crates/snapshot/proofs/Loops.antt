@@ -1,13 +1,13 @@
 -- Numbers of two, four and eight bytes, and what the loops over them keep.
 use Prim.Native.Nat.{ℕ, zero, suc, _+_, _-_, _*_, _/_, _%_, _≤_, _<_}
-use native.Mathlib.Nat.{zero-add, add-zero, add-suc, suc-add, mul-zero, mul-suc, mod-lt, mod-add-div, mod-eq-of-lt}
+use native.Mathlib.Nat.{zero-add, add-zero, add-suc, suc-add, mul-zero, mod-lt, mod-add-div, mod-eq-of-lt}
 use native.Mathlib.Numerals.{add-one}
 use native.Mathlib.Omega.{arith}
 use mathlib.Core.Bool.{Bool, true, false}
 use mathlib.Core.List.{List, [], _∷_, _++_, append-nil}
 use mathlib.Core.Path.{_≡_, refl, sym, ap, _∙_}
 use lib.ListN.{length, getD, set, take, drop, length-drop, length-append, drop-of-length-le}
-use lib.Seq.{sets, sets-eq, take-at, drop-append-add, drop-cons, drop-drop, drop-length, take-add, take-suc-set, take-all, length-take-le}
+use lib.Seq.{sets, sets-eq, take-at, drop-append-add, drop-cons, drop-drop, take-add, take-suc-set, take-all, length-take-le}
 use borrow.Author.Tests.{lt-ltb, le-ltb}
 use Rattle.unit.specs.Choice.{both}
 use Rattle.snapshot.specs.Number.{bound, bytesOf, value, allBytes, numbers}

@@ -1,27 +1,14 @@
 -- Numbers and models survive being stored and loaded, and bytes that load are those that `store` writes.
 use Prim.Native.Nat.{ℕ, zero, suc, _+_, _-_, _*_, _/_, _%_, _≤_, _<_}
-use native.Mathlib.Nat.{mul-suc, mul-zero, add-zero, suc-add}
+use native.Mathlib.Nat.{mul-zero}
 use native.Mathlib.Omega.{arith}
-use mathlib.Core.Bool.{Bool, true, false}
 use mathlib.Core.List.{List, [], _∷_, _++_, append-assoc}
 use mathlib.Core.Path.{_≡_, refl, sym, ap, _∙_}
-use lib.ListN.{length, getD, take, drop, length-append, length-drop}
-use lib.Dec.{ltb, eqb}
-use lib.Seq.{take-at, drop-at, drop-drop, take-add, take-all, take-append-seam, length-take-le}
-use mir.Val.{boolByte}
-use borrow.Author.Tests.{ltb-true}
-use Rattle.unit.specs.Choice.{pick, both}
-use Rattle.unit.proofs.Cases.{by-test, by-eqb}
-use Rattle.calendar.specs.declared.Clock.{Clock}
-use Rattle.device.specs.declared.Status.{Status}
-use Rattle.device.specs.declared.Flight.{Flight}
-use Rattle.device.specs.declared.Temperature.{Temperature}
-use Rattle.device.specs.declared.Model.{Model}
+use lib.ListN.{length, take, drop, length-drop}
+use lib.Seq.{take-at, drop-at, take-add, length-take-le}
 use Rattle.snapshot.specs.Number.{bound, bytesOf, value, allBytes, numbers}
-use Rattle.snapshot.specs.Layout.{bit, flag, flagsFit, formed, single, double, quadruple, octuple, clockWords, waits, stored, part, clockOf, statusOf, flightOf, temperatureOf, modelOf, restored, loaded}
-use Rattle.snapshot.specs.Fits.{Below, none, more, Fits}
-use Rattle.snapshot.proofs.Loops.{length-bytes, length-all}
-use Rattle.snapshot.proofs.Parts.{whole, double-parts, quadruple-parts, octuple-parts}
+use Rattle.snapshot.specs.Fits.{Below, none, more}
+use Rattle.snapshot.proofs.Loops.{length-bytes}
 
 -- A number below the bound of its width is read back, ..
 value-bytes : (k x : ℕ) → x < bound k → value (bytesOf k x) ≡ x

@@ -1,26 +1,22 @@
 -- `load (store m)` is m for every model, and bytes that load to a sound model are what `store` writes of it.
-use Prim.Native.Nat.{ℕ, zero, suc, _+_, _≤_, _<_}
+use Prim.Native.Nat.{ℕ, zero, suc, _+_, _<_}
 use native.Mathlib.Omega.{arith}
 use mathlib.Core.Bool.{Bool, true, false}
-use mathlib.Core.List.{List, [], _∷_, _++_, append-assoc, append-nil}
+use mathlib.Core.List.{List, [], _++_, append-assoc, append-nil}
 use mathlib.Core.Logic.{_↔_}
 use mathlib.Core.Path.{_≡_, refl, sym, ap, _∙_}
 use lib.ListN.{length, getD, take, drop, length-append, length-drop}
 use lib.Dec.{ltb, eqb}
 use lib.Seq.{drop-at, drop-drop, take-add, take-all}
 use mir.Val.{boolByte}
-use borrow.Author.Tests.{ltb-true, eqb-true, eq-eqb}
-use Rattle.unit.specs.Choice.{pick, both}
+use borrow.Author.Tests.{ltb-true, eq-eqb}
+use Rattle.unit.specs.Choice.{both}
 use Rattle.unit.proofs.Cases.{by-test, by-eqb}
-use Rattle.calendar.specs.declared.Clock.{Clock}
 use Rattle.calendar.specs.Calendar.{clockValid, dateFits}
-use Rattle.device.specs.declared.Status.{Status}
-use Rattle.device.specs.declared.Flight.{Flight}
-use Rattle.device.specs.declared.Temperature.{Temperature}
 use Rattle.device.specs.declared.Model.{Model}
 use Rattle.device.specs.Model.{isSound}
 use Rattle.snapshot.specs.Number.{allBytes, numbers, value}
-use Rattle.snapshot.specs.Layout.{flag, flagsFit, formed, single, double, quadruple, octuple, clockWords, waits, stored, part, clockOf, statusOf, flightOf, temperatureOf, modelOf, restored, nothing, loaded}
+use Rattle.snapshot.specs.Layout.{flagsFit, formed, single, double, quadruple, octuple, clockWords, waits, stored, part, clockOf, statusOf, flightOf, temperatureOf, modelOf, restored, nothing, loaded}
 use Rattle.snapshot.specs.Fits.{Below, Fits}
 use Rattle.snapshot.proofs.Loops.{length-all}
 use Rattle.snapshot.proofs.Parts.{whole, part-taken, double-parts, quadruple-parts, octuple-parts, formed-length}

@@ -4,7 +4,6 @@ use Prim.Native.Nat.{ℕ}
 use mathlib.Core.Bool.{true, false}
 use mathlib.Core.List.{List, [], _∷_, _++_, map}
 use mathlib.Core.Path.{_≡_, refl}
-use Rattle.device.specs.declared.Model.{Model}
 use Rattle.calendar.specs.Calendar.{leap, monthLength, dateFits, timeFits, clockValid, start}
 use Rattle.calendar.specs.Calendar.{tickClock}
 use Rattle.calendar.specs.Words.{bcd, hundredthsOf, word30, word31, hourDigits, word32, word33, minuteIn, twelveIn, hourNamed, hourIn, ticksIn, clockFrom}

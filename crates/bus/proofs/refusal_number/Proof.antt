@@ -5,7 +5,7 @@ use Rattle.frame.specs.declared.Decoded.{Decoded}
 use Rattle.frame.specs.declared.Decoded.the-variants.{Command, Read, Write, Flash, Refusal}
 use types.Run.{OneOf, miss}
 use denote.Enum.Declared.{tagOf}
-use mathlib.Core.List.{List, [], _∷_}
+use mathlib.Core.List.{[], _∷_}
 use mathlib.Core.Path.{_≡_, refl}
 use Prim.Native.Nat.{ℕ}
 use borrow.Author.Needs.{needs}

@@ -2,7 +2,7 @@
 use Rattle.device.specs.Call.{tick}
 use Rattle.device.proofs.Decode.{reply-unsound}
 use Rattle.device.specs.Model.{isSound}
-use mathlib.Core.Bool.{true, false}
+use mathlib.Core.Bool.{false}
 use mathlib.Core.Path.{_≡_, sym, _∙_}
 use borrow.Author.Needs.{needs}
 use borrow.Author.Tests.{ltb-true}

@@ -8,7 +8,6 @@ use Rattle.device.proofs.Sound.{good-hits}
 use Rattle.device.proofs.Sound.{flight-ready}
 use Rattle.device.specs.Parts.{flightReply}
 use Rattle.device.specs.Reply.{acceptedAnswer, acceptedModel, anyLate}
-use Rattle.device.specs.Parts.{flightReply}
 use borrow.Author.Needs.{needs}
 use Rattle.delivery.proofs.flight_reply.Statement.{statement}
 use Rattle.delivery.proofs.flight_reply.Tie as tie

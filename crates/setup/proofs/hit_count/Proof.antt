@@ -1,5 +1,4 @@
 -- `setup::hit_count` meets its contract.
-use mathlib.Core.Path.{_∙_, sym}
 use borrow.Author.Needs.{needs}
 use Rattle.setup.proofs.Rows.{hits-row}
 use Rattle.setup.proofs.hit_count.Statement.{statement}

@@ -1,5 +1,4 @@
 -- `registers::write::write_model` meets its contract.
-use native.Mathlib.Omega.{arith}
 use Rattle.device.specs.Write.{writeModel}
 use Rattle.device.proofs.WriteTogether.{keeps-clock}
 use borrow.Author.Needs.{needs}

@@ -4,7 +4,7 @@ use Rattle.snapshot.proofs.Loops.{put-halves}
 use native.Mathlib.Omega.{arith}
 use Prim.Native.Nat.{ℕ, _+_, _/_, _%_}
 use mathlib.Core.List.{List}
-use mathlib.Core.Path.{_≡_, ap, _∙_}
+use mathlib.Core.Path.{ap, _∙_}
 use lib.Seq.{sets}
 use Rattle.snapshot.specs.Number.{bound, bytesOf}
 use borrow.Author.Needs.{needs}

@@ -69,7 +69,7 @@ unfoldable pub onlyReads : List Entry → Bool
 onlyReads [] = true
 onlyReads (e ∷ es) = both (either (isRefusal (e .answer)) (mayFollow (e .call))) (onlyReads es)
 
--- The two kinds of measurement.
+-- The two kinds of measurement, and a choice by the kind.
 pub data Kind : Type 0 where
   differences : Kind
   temperatures : Kind
@@ -113,10 +113,10 @@ startReported k a = onReport a false (byKind k) (λ f t. byKind k (f .started) (
 unfoldable pub failureReported : Kind → Answer → Bool
 failureReported k a = onReport a false (λ f t. false) (λ f t. byKind k (f .failed) (t .failed)) (λ f t. false)
 
--- What a stretch names of a kind.
 abbrev noneNamed : StretchReport
 noneNamed = record { started = 0; failed = 0 }
 
+-- What a stretch names of a kind.
 unfoldable pub named : Kind → Answer → StretchReport
 named k a = onReport a noneNamed (λ f t. noneNamed) (λ f t. noneNamed) (byKind k)
 
@@ -131,10 +131,10 @@ wordsGood s c =
     onDelivery c false (λ u d. negate (either (anyFrom (lateFrom (timeout s)) u) (anyFrom (lateFrom (timeout s)) d)))
     (λ w. negate (anyFault (openFrom (portCycle s)) w))
 
--- "A flight delivery's difference is the up list's sum ÷ H rounded down, less the same of the down list"
 abbrev noAverages : Averages
 noAverages = record { up = 0; down = 0 }
 
+-- "A flight delivery's difference is the up list's sum ÷ H rounded down, less the same of the down list"
 unfoldable pub averagesOf : List ℕ → Call → Averages
 averagesOf s c =
     onDelivery c noAverages (λ u d. record { up = sum u / hitCount s; down = sum d / hitCount s }) (λ w. noAverages)

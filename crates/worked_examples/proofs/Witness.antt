@@ -1,7 +1,7 @@
 -- The third demand's hypotheses can be met: a list of calls after which each event command is accepted, and calls that may
 -- follow it; a continuous event over more than one group. Two lists that differ in their probes alone, and what they leave.
 use Prim.Native.Nat.{ℕ}
-use mathlib.Core.Bool.{true, false}
+use mathlib.Core.Bool.{Bool, true, false}
 use mathlib.Core.List.{List, [], _∷_, _++_, map}
 use mathlib.Core.Path.{_≡_, refl}
 use Rattle.calendar.specs.Calendar.{leap, monthLength, dateFits, timeFits, clockValid, start}
@@ -41,6 +41,11 @@ use Rattle.device.specs.History.{Entry, after, log, isRefusal, mayFollow, onlyR
 use Rattle.device.specs.Claim.{command}
 use Rattle.device.specs.Probes.{OtherProbesIn, same, values, none, next, Flow, flowOf, flowThrough}
 
+-- Every definition that the facts below compute with, named once: to unfold this one is to unfold them all.
+computed : Bool
+unfolding after reply replyBy verdict firstOf table noFrame notCarried wrongLength pastRegisters shortOutput whileBusy supplyOff unreachable unerased badCalendar notInitialised badSetup notAwaited miscounted tooLong acceptedModel freshModel freshWith porBit noFlight noTemperature noSchedule start factory isSound sumFits flightSound temperatureSound scheduleSound clockValid dateFits timeFits leap monthLength kindBusy isBusy isAwaited inEvent isCommand isWrite isFlash isRead notWhole pastEnd wordAt calendarWord word30 word31 hourDigits word32 word33 bcd hundredthsOf minuteIn twelveIn hourNamed hourIn ticksIn clockFrom timeDigits hourFits digitsFit wordsValid alarmValid alarmWord covers written withWord setupAfter ticksAfter clockAfter writeInvalid writeModel mustBeIdle startsFlight startsTemperature isEvent commandBusy beforeInitialize flightSideUnset temperatureSideUnset eventSideUnset commandUnset flightUnset temperatureUnset eventContinuous startsLeft beginsGroup goodAfter countsSound waitSound balanceSound sumAfter sumsAfter flightTicked clockStands runModel initialisedModel joined modelTicked begins leftAfter waitAfter startedAfter log onlyReads isRefusal mayFollow acceptedAnswer startedEvent eventFlight flightEvent startEvent differenceCount eventTemperature temperatureEvent temperatureCount tickModel clockTicked tickClock flightAfter fails tickSchedule settledAfter temperatureAfter startReported named stretchReport lastTick scheduleTicked reportOf registerWord flightWord temperatureWord half settle goodFlight goodSum goodDifference goodFlightModel goodTemperatureModel failedTemperatureModel goodSums sixWords fourWords average sixTotal filled portPairs portPair plusEach wordOrZero biased differenceWord differenceMean differenceBits portMean anyLate anyOpen portFault anyFault anyFrom anyBelow anyWord shortBelow lateFrom openFrom hitCount timeout portCycle flightMiscounted sameCount differencePeriod temperaturePeriod flowThrough flowOf isTick stretchIn spanOf failedFlight failedDifference failedFlightModel periodOf countOf ticksCounted tickCount
+computed = true
+
 -- PL and DPL, TP, Initialize
 abbrev pub before : List Call
 before =
@@ -56,7 +61,7 @@ later = tick ∷ stretch 2 ∷ transaction (0xFE ∷ 0 ∷ 0 ∷ []) (0 ∷ 0 �
 pub events-accepted :
     map (λ (op : ℕ). verdict (after freshModel before) (command op [] [])) (7 ∷ 8 ∷ 9 ∷ [])
     ≡ accepted ∷ accepted ∷ accepted ∷ []
-unfolding after reply replyBy verdict firstOf table noFrame notCarried wrongLength pastRegisters shortOutput whileBusy supplyOff unreachable unerased badCalendar notInitialised badSetup notAwaited miscounted tooLong acceptedModel freshModel freshWith porBit noFlight noTemperature noSchedule start factory isSound sumFits flightSound temperatureSound scheduleSound clockValid dateFits timeFits leap monthLength kindBusy isBusy isAwaited inEvent isCommand isWrite isFlash isRead notWhole pastEnd wordAt calendarWord word30 word31 hourDigits word32 word33 bcd hundredthsOf minuteIn twelveIn hourNamed hourIn ticksIn clockFrom timeDigits hourFits digitsFit wordsValid alarmValid alarmWord covers written withWord setupAfter ticksAfter clockAfter writeInvalid writeModel mustBeIdle startsFlight startsTemperature isEvent commandBusy beforeInitialize flightSideUnset temperatureSideUnset eventSideUnset commandUnset flightUnset temperatureUnset eventContinuous startsLeft beginsGroup goodAfter countsSound waitSound balanceSound sumAfter sumsAfter flightTicked clockStands runModel initialisedModel joined
+unfolding computed
 events-accepted = refl
 
 -- such a list, and none of its calls is refused
@@ -65,7 +70,7 @@ pub later-read :
     ≡ true ∷ true ∷ true ∷ []) ×
     (map (λ (e : Entry). isRefusal (e .answer)) (log (reply (after freshModel before) (command 7 [] []) .model) later)
     ≡ false ∷ false ∷ false ∷ [])
-unfolding modelTicked begins leftAfter waitAfter startedAfter log onlyReads isRefusal mayFollow acceptedAnswer startedEvent eventFlight flightEvent startEvent differenceCount eventTemperature temperatureEvent temperatureCount tickModel clockTicked tickClock flightAfter fails tickSchedule settledAfter temperatureAfter after reply replyBy verdict firstOf table noFrame notCarried wrongLength pastRegisters shortOutput whileBusy supplyOff unreachable unerased badCalendar notInitialised badSetup notAwaited miscounted tooLong acceptedModel freshModel freshWith porBit noFlight noTemperature noSchedule start factory isSound sumFits flightSound temperatureSound scheduleSound clockValid dateFits timeFits leap monthLength kindBusy isBusy isAwaited inEvent isCommand isWrite isFlash isRead notWhole pastEnd wordAt calendarWord word30 word31 hourDigits word32 word33 bcd hundredthsOf minuteIn twelveIn hourNamed hourIn ticksIn clockFrom timeDigits hourFits digitsFit wordsValid alarmValid alarmWord covers written withWord setupAfter ticksAfter clockAfter writeInvalid writeModel mustBeIdle startsFlight startsTemperature isEvent commandBusy beforeInitialize flightSideUnset temperatureSideUnset eventSideUnset commandUnset flightUnset temperatureUnset eventContinuous startsLeft beginsGroup goodAfter countsSound waitSound balanceSound sumAfter sumsAfter flightTicked clockStands runModel initialisedModel joined
+unfolding computed
 later-read = (refl, refl)
 
 -- An event of both kinds, with a delivery of each.
@@ -95,14 +100,14 @@ pub probes-seen :
     map (λ (w : List ℕ). map (registerWord (after freshModel (withProbes w))) (0xC5 ∷ 0xD4 ∷ 0xE2 ∷ 0xE4 ∷ 0xE5 ∷ 0xE7 ∷ 0xEF ∷ []))
     (whole ∷ cut ∷ [])
     ≡ (305 ∷ 289 ∷ 15 ∷ 1 ∷ 15 ∷ 61 ∷ 1 ∷ []) ∷ (305 ∷ 289 ∷ 15 ∷ 1 ∷ 15 ∷ 0xFFFF ∷ 0 ∷ []) ∷ []
-unfolding startReported named stretchReport lastTick scheduleTicked reportOf registerWord flightWord temperatureWord half settle goodFlight goodSum goodDifference goodFlightModel goodTemperatureModel failedTemperatureModel goodSums sixWords fourWords average sixTotal filled portPairs portPair plusEach wordOrZero biased differenceWord differenceMean differenceBits portMean anyLate anyOpen portFault anyFault anyFrom anyBelow anyWord shortBelow lateFrom openFrom hitCount timeout portCycle flightMiscounted sameCount differencePeriod temperaturePeriod modelTicked begins leftAfter waitAfter startedAfter log onlyReads isRefusal mayFollow acceptedAnswer startedEvent eventFlight flightEvent startEvent differenceCount eventTemperature temperatureEvent temperatureCount tickModel clockTicked tickClock flightAfter fails tickSchedule settledAfter temperatureAfter after reply replyBy verdict firstOf table noFrame notCarried wrongLength pastRegisters shortOutput whileBusy supplyOff unreachable unerased badCalendar notInitialised badSetup notAwaited miscounted tooLong acceptedModel freshModel freshWith porBit noFlight noTemperature noSchedule start factory isSound sumFits flightSound temperatureSound scheduleSound clockValid dateFits timeFits leap monthLength kindBusy isBusy isAwaited inEvent isCommand isWrite isFlash isRead notWhole pastEnd wordAt calendarWord word30 word31 hourDigits word32 word33 bcd hundredthsOf minuteIn twelveIn hourNamed hourIn ticksIn clockFrom timeDigits hourFits digitsFit wordsValid alarmValid alarmWord covers written withWord setupAfter ticksAfter clockAfter writeInvalid writeModel mustBeIdle startsFlight startsTemperature isEvent commandBusy beforeInitialize flightSideUnset temperatureSideUnset eventSideUnset commandUnset flightUnset temperatureUnset eventContinuous startsLeft beginsGroup goodAfter countsSound waitSound balanceSound sumAfter sumsAfter flightTicked clockStands runModel initialisedModel joined
+unfolding computed
 probes-seen = refl
 
 -- and the command's answer reports a start
 pub start-seen :
     map (λ (f : Flow). f .started) (flowThrough freshModel (withProbes cut))
     ≡ false ∷ false ∷ false ∷ true ∷ false ∷ false ∷ false ∷ false ∷ []
-unfolding flowThrough flowOf startReported named stretchReport lastTick scheduleTicked reportOf registerWord flightWord temperatureWord half settle goodFlight goodSum goodDifference goodFlightModel goodTemperatureModel failedTemperatureModel goodSums sixWords fourWords average sixTotal filled portPairs portPair plusEach wordOrZero biased differenceWord differenceMean differenceBits portMean anyLate anyOpen portFault anyFault anyFrom anyBelow anyWord shortBelow lateFrom openFrom hitCount timeout portCycle flightMiscounted sameCount differencePeriod temperaturePeriod modelTicked begins leftAfter waitAfter startedAfter log onlyReads isRefusal mayFollow acceptedAnswer startedEvent eventFlight flightEvent startEvent differenceCount eventTemperature temperatureEvent temperatureCount tickModel clockTicked tickClock flightAfter fails tickSchedule settledAfter temperatureAfter after reply replyBy verdict firstOf table noFrame notCarried wrongLength pastRegisters shortOutput whileBusy supplyOff unreachable unerased badCalendar notInitialised badSetup notAwaited miscounted tooLong acceptedModel freshModel freshWith porBit noFlight noTemperature noSchedule start factory isSound sumFits flightSound temperatureSound scheduleSound clockValid dateFits timeFits leap monthLength kindBusy isBusy isAwaited inEvent isCommand isWrite isFlash isRead notWhole pastEnd wordAt calendarWord word30 word31 hourDigits word32 word33 bcd hundredthsOf minuteIn twelveIn hourNamed hourIn ticksIn clockFrom timeDigits hourFits digitsFit wordsValid alarmValid alarmWord covers written withWord setupAfter ticksAfter clockAfter writeInvalid writeModel mustBeIdle startsFlight startsTemperature isEvent commandBusy beforeInitialize flightSideUnset temperatureSideUnset eventSideUnset commandUnset flightUnset temperatureUnset eventContinuous startsLeft beginsGroup goodAfter countsSound waitSound balanceSound sumAfter sumsAfter flightTicked clockStands runModel initialisedModel joined
+unfolding computed
 start-seen = refl
 
 -- A continuous event of differences, N = 1, so that each start begins a group: a delivery with a late word, and a good one in the
@@ -115,24 +120,24 @@ overGroups =
     flight (33554432 ∷ []) (19000000 ∷ []) ∷ stretch 16384 ∷ flight (20000000 ∷ []) (18000000 ∷ []) ∷ []
 
 pub continuous-accepted : verdict (after freshModel setUp) (command 8 [] []) ≡ accepted
-unfolding startReported named stretchReport lastTick scheduleTicked reportOf registerWord flightWord temperatureWord half settle goodFlight goodSum goodDifference goodFlightModel goodTemperatureModel failedTemperatureModel goodSums sixWords fourWords average sixTotal filled portPairs portPair plusEach wordOrZero biased differenceWord differenceMean differenceBits portMean anyLate anyOpen portFault anyFault anyFrom anyBelow anyWord shortBelow lateFrom openFrom hitCount timeout portCycle flightMiscounted sameCount differencePeriod temperaturePeriod modelTicked begins leftAfter waitAfter startedAfter log onlyReads isRefusal mayFollow acceptedAnswer startedEvent eventFlight flightEvent startEvent differenceCount eventTemperature temperatureEvent temperatureCount tickModel clockTicked tickClock flightAfter fails tickSchedule settledAfter temperatureAfter after reply replyBy verdict firstOf table noFrame notCarried wrongLength pastRegisters shortOutput whileBusy supplyOff unreachable unerased badCalendar notInitialised badSetup notAwaited miscounted tooLong acceptedModel freshModel freshWith porBit noFlight noTemperature noSchedule start factory isSound sumFits flightSound temperatureSound scheduleSound clockValid dateFits timeFits leap monthLength kindBusy isBusy isAwaited inEvent isCommand isWrite isFlash isRead notWhole pastEnd wordAt calendarWord word30 word31 hourDigits word32 word33 bcd hundredthsOf minuteIn twelveIn hourNamed hourIn ticksIn clockFrom timeDigits hourFits digitsFit wordsValid alarmValid alarmWord covers written withWord setupAfter ticksAfter clockAfter writeInvalid writeModel mustBeIdle startsFlight startsTemperature isEvent commandBusy beforeInitialize flightSideUnset temperatureSideUnset eventSideUnset commandUnset flightUnset temperatureUnset eventContinuous startsLeft beginsGroup goodAfter countsSound waitSound balanceSound sumAfter sumsAfter flightTicked clockStands runModel initialisedModel joined isTick stretchIn spanOf failedFlight failedDifference failedFlightModel
+unfolding computed
 continuous-accepted = refl
 
 pub plan-is :
     planOf differences ((after freshModel setUp) .setup) ≡ record { period = 16384; count = 1; continuous = true }
-unfolding startReported named stretchReport lastTick scheduleTicked reportOf registerWord flightWord temperatureWord half settle goodFlight goodSum goodDifference goodFlightModel goodTemperatureModel failedTemperatureModel goodSums sixWords fourWords average sixTotal filled portPairs portPair plusEach wordOrZero biased differenceWord differenceMean differenceBits portMean anyLate anyOpen portFault anyFault anyFrom anyBelow anyWord shortBelow lateFrom openFrom hitCount timeout portCycle flightMiscounted sameCount differencePeriod temperaturePeriod modelTicked begins leftAfter waitAfter startedAfter log onlyReads isRefusal mayFollow acceptedAnswer startedEvent eventFlight flightEvent startEvent differenceCount eventTemperature temperatureEvent temperatureCount tickModel clockTicked tickClock flightAfter fails tickSchedule settledAfter temperatureAfter after reply replyBy verdict firstOf table noFrame notCarried wrongLength pastRegisters shortOutput whileBusy supplyOff unreachable unerased badCalendar notInitialised badSetup notAwaited miscounted tooLong acceptedModel freshModel freshWith porBit noFlight noTemperature noSchedule start factory isSound sumFits flightSound temperatureSound scheduleSound clockValid dateFits timeFits leap monthLength kindBusy isBusy isAwaited inEvent isCommand isWrite isFlash isRead notWhole pastEnd wordAt calendarWord word30 word31 hourDigits word32 word33 bcd hundredthsOf minuteIn twelveIn hourNamed hourIn ticksIn clockFrom timeDigits hourFits digitsFit wordsValid alarmValid alarmWord covers written withWord setupAfter ticksAfter clockAfter writeInvalid writeModel mustBeIdle startsFlight startsTemperature isEvent commandBusy beforeInitialize flightSideUnset temperatureSideUnset eventSideUnset commandUnset flightUnset temperatureUnset eventContinuous startsLeft beginsGroup goodAfter countsSound waitSound balanceSound sumAfter sumsAfter flightTicked clockStands runModel initialisedModel joined isTick stretchIn spanOf failedFlight failedDifference failedFlightModel periodOf countOf
+unfolding computed
 plan-is = refl
 
 -- The calls of `overGroups` are accepted, and hold 16,384 ticks.
 pub groups-read :
     (onlyReads (log (reply (after freshModel setUp) (command 8 [] []) .model) overGroups) ≡ true) ×
     (tickCount (log (reply (after freshModel setUp) (command 8 [] []) .model) overGroups) ≡ 16384)
-unfolding startReported named stretchReport lastTick scheduleTicked reportOf registerWord flightWord temperatureWord half settle goodFlight goodSum goodDifference goodFlightModel goodTemperatureModel failedTemperatureModel goodSums sixWords fourWords average sixTotal filled portPairs portPair plusEach wordOrZero biased differenceWord differenceMean differenceBits portMean anyLate anyOpen portFault anyFault anyFrom anyBelow anyWord shortBelow lateFrom openFrom hitCount timeout portCycle flightMiscounted sameCount differencePeriod temperaturePeriod modelTicked begins leftAfter waitAfter startedAfter log onlyReads isRefusal mayFollow acceptedAnswer startedEvent eventFlight flightEvent startEvent differenceCount eventTemperature temperatureEvent temperatureCount tickModel clockTicked tickClock flightAfter fails tickSchedule settledAfter temperatureAfter after reply replyBy verdict firstOf table noFrame notCarried wrongLength pastRegisters shortOutput whileBusy supplyOff unreachable unerased badCalendar notInitialised badSetup notAwaited miscounted tooLong acceptedModel freshModel freshWith porBit noFlight noTemperature noSchedule start factory isSound sumFits flightSound temperatureSound scheduleSound clockValid dateFits timeFits leap monthLength kindBusy isBusy isAwaited inEvent isCommand isWrite isFlash isRead notWhole pastEnd wordAt calendarWord word30 word31 hourDigits word32 word33 bcd hundredthsOf minuteIn twelveIn hourNamed hourIn ticksIn clockFrom timeDigits hourFits digitsFit wordsValid alarmValid alarmWord covers written withWord setupAfter ticksAfter clockAfter writeInvalid writeModel mustBeIdle startsFlight startsTemperature isEvent commandBusy beforeInitialize flightSideUnset temperatureSideUnset eventSideUnset commandUnset flightUnset temperatureUnset eventContinuous startsLeft beginsGroup goodAfter countsSound waitSound balanceSound sumAfter sumsAfter flightTicked clockStands runModel initialisedModel joined isTick stretchIn spanOf failedFlight failedDifference failedFlightModel ticksCounted tickCount
+unfolding computed
 groups-read = (refl, refl)
 
 -- E4h to E6h of the second group: one good difference of 2,000,000 quanta
 pub groups-held :
     map (registerWord (after (reply (after freshModel setUp) (command 8 [] []) .model) overGroups)) (0xE4 ∷ 0xE5 ∷ 0xE6 ∷ [])
     ≡ 1 ∷ 0x001E ∷ 0x8480 ∷ []
-unfolding startReported named stretchReport lastTick scheduleTicked reportOf registerWord flightWord temperatureWord half settle goodFlight goodSum goodDifference goodFlightModel goodTemperatureModel failedTemperatureModel goodSums sixWords fourWords average sixTotal filled portPairs portPair plusEach wordOrZero biased differenceWord differenceMean differenceBits portMean anyLate anyOpen portFault anyFault anyFrom anyBelow anyWord shortBelow lateFrom openFrom hitCount timeout portCycle flightMiscounted sameCount differencePeriod temperaturePeriod modelTicked begins leftAfter waitAfter startedAfter log onlyReads isRefusal mayFollow acceptedAnswer startedEvent eventFlight flightEvent startEvent differenceCount eventTemperature temperatureEvent temperatureCount tickModel clockTicked tickClock flightAfter fails tickSchedule settledAfter temperatureAfter after reply replyBy verdict firstOf table noFrame notCarried wrongLength pastRegisters shortOutput whileBusy supplyOff unreachable unerased badCalendar notInitialised badSetup notAwaited miscounted tooLong acceptedModel freshModel freshWith porBit noFlight noTemperature noSchedule start factory isSound sumFits flightSound temperatureSound scheduleSound clockValid dateFits timeFits leap monthLength kindBusy isBusy isAwaited inEvent isCommand isWrite isFlash isRead notWhole pastEnd wordAt calendarWord word30 word31 hourDigits word32 word33 bcd hundredthsOf minuteIn twelveIn hourNamed hourIn ticksIn clockFrom timeDigits hourFits digitsFit wordsValid alarmValid alarmWord covers written withWord setupAfter ticksAfter clockAfter writeInvalid writeModel mustBeIdle startsFlight startsTemperature isEvent commandBusy beforeInitialize flightSideUnset temperatureSideUnset eventSideUnset commandUnset flightUnset temperatureUnset eventContinuous startsLeft beginsGroup goodAfter countsSound waitSound balanceSound sumAfter sumsAfter flightTicked clockStands runModel initialisedModel joined isTick stretchIn spanOf failedFlight failedDifference failedFlightModel
+unfolding computed
 groups-held = refl

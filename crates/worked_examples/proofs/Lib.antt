@@ -2,3 +2,4 @@
 pub mod Bench
 pub mod Witness
 pub mod Groups
+pub mod EventEnds

@@ -3,10 +3,9 @@
 
     items.py BACK_END ITEMS ANSWERS [ITEMS ANSWERS ..]
 
-BACK_END is ``python``, or a program that takes calls a line each (``c/driver.c``, ``rust/examples/driver.rs``). The lines of
-items and answers that are no call of the library (``show``) are left out on both sides, and so are the last line's
-counts. Lines are read as docs/ITEMS.md has them; bad lines are judged by the program and not by the library, so an item here
-has none.
+BACK_END is ``python``, or a program that takes calls a line each (``c/driver.c``, ``rust/examples/driver.rs``). Lines are read as
+docs/ITEMS.md has them. Two things are the program's and not the library's: the pages of ``show``, which are left out on both
+sides, and the judgement of bad lines, so that a line which the stored answers call bad is passed over and counted.
 """
 
 from __future__ import annotations
@@ -22,6 +21,7 @@ import max35101  # noqa: E402
 
 ACCEPTED, FAILED = 0xFFFFFFFF, 0xFFFFFFFE
 LONGEST = max35101.LONGEST_STRETCH
+CALLS = "bus set tick at stretch flight temperature frames degrees listing quietest".split()
 
 
 class BackEnd(Protocol):
@@ -41,6 +41,16 @@ class Program:
         self.process.stdin.write(" ".join(words) + "\n")
         self.process.stdin.flush()
         return self.process.stdout.readline().split()
+
+
+def numbers(text: str) -> list[int]:
+    """A list of decimals, as calls have it."""
+    return [int(word) for word in text.split(",")] if text != "-" else []
+
+
+def listed(values: list[int]) -> str:
+    """The other way round."""
+    return ",".join(map(str, values)) or "-"
 
 
 class Python:
@@ -74,19 +84,29 @@ class Python:
         if name == "stretch":
             return [ACCEPTED, *model.stretch(int(words[0]))]
         if name in ("flight", "temperature"):
-            lists = [[int(word) for word in text.split(",")] if text != "-" else [] for text in words]
+            lists = [numbers(text) for text in words]
             good = model.deliver_flight(*lists) if name == "flight" else model.deliver_temperature(*lists)
             return [ACCEPTED if good else FAILED]
         if name == "peek":
             return [ACCEPTED, model.peek(int(words[0]))]
-        assert name == "asks"
-        return [
-            ACCEPTED,
-            model.interrupt_pending(),
-            model.flight_awaited(),
-            model.temperature_awaited(),
-            model.regulator_on(),
-        ]
+        if name == "asks":
+            asked = model.interrupt_pending(), model.flight_awaited(), model.temperature_awaited(), model.regulator_on()
+            return [ACCEPTED, *asked]
+        return self.beside(name, *words)
+
+    def beside(self, name: str, *words: str) -> list[int | str]:
+        """The calls beside the model, and its set-up as frames."""
+        if name == "frames":
+            return [ACCEPTED, *(frame.hex().upper() for frame in self.model.setup_frames())]
+        if name == "degrees":
+            probe, reference, table = int(words[0]), int(words[1]), numbers(words[2])
+            said = max35101.degrees_by(table, probe, reference) if table else max35101.degrees(probe, reference)
+            return [ACCEPTED, round(said * 1000)]
+        if name == "quietest":
+            return [ACCEPTED, max35101.quietest_place(numbers(words[1]), int(words[0]))]
+        assert name == "listing"
+        text = max35101.listing(numbers(words[2]), int(words[1]), int(words[0]))
+        return [ACCEPTED, *(line.replace(" ", "_") for line in text.splitlines())]
 
     @staticmethod
     def read_of(frame: bytes, output: bytes) -> str:
@@ -95,13 +115,29 @@ class Python:
         return (output[:reached] + b"\xee" * (len(output) - reached)).hex().upper()
 
 
-def ticks(back_end: BackEnd, count: int) -> str:
-    """Single ticks, short counts by the call of one tick and others in stretches."""
-    done, text = 0, ""
-    while done < count:
-        step = 1 if count <= 40 else min(count - done, LONGEST)
-        said = back_end.call("tick") if step == 1 else back_end.call("stretch", str(step))
-        assert said[0] == str(ACCEPTED), said
+def number_of(code: str) -> str:
+    """A refusal as items have it."""
+    refusal = max35101.Refusal(int(code))
+    return f"no {int(refusal)} {refusal.word}"
+
+
+class Replay:
+    """The answers to the lines of a text."""
+
+    def __init__(self, back_end: BackEnd) -> None:
+        self.back_end = back_end
+        self.calls = self.refused = self.unannounced = self.expectations = self.differ = 0
+        self.fresh()
+
+    def fresh(self) -> None:
+        """A new item."""
+        self.back_end.call("fresh")
+        self.since = 0  # ticks since the last start, or the item's own
+        self.record: list[int] = []
+        self.table: list[int] = []
+
+    def reports(self, said: list[str], before: int) -> str:
+        """What a tick or a stretch told, by tick and kind."""
         flight_started, flight_failed, temperature_started, temperature_failed = map(int, said[1:5])
         happened = [
             (flight_failed, 0, "failed-flight"),
@@ -109,89 +145,167 @@ def ticks(back_end: BackEnd, count: int) -> str:
             (temperature_failed, 2, "failed-temperature"),
             (temperature_started, 3, "started-temperature"),
         ]
-        text += "".join(f" {what}@{done + tick}" for tick, _, what in sorted(happened) if tick)
-        done += step
-    return text
+        return "".join(f" {what}@{before + tick}" for tick, _, what in sorted(happened) if tick)
 
+    def ticks(self, count: int, before: int = 0) -> str:
+        """Single ticks, short counts by the call of one tick and others in stretches."""
+        done, text = 0, ""
+        while done < count:
+            step = 1 if count <= 40 else min(count - done, LONGEST)
+            said = self.back_end.call("tick") if step == 1 else self.back_end.call("stretch", str(step))
+            assert said[0] == str(ACCEPTED), said
+            text += self.reports(said, before + done)
+            done += step
+        self.since += count
+        return text
 
-def number_of(code: str) -> str:
-    """A refusal as items have it."""
-    refusal = max35101.Refusal(int(code))
-    return f"no {int(refusal)} {refusal.word}"
+    def send(self, frame: str, room: int) -> str:
+        """A transaction."""
+        code, flight, temperature, output = self.back_end.call("bus", str(room), frame or "-")
+        kinds = [kind for kind, on in (("flight", flight), ("temperature", temperature)) if on == "1"]
+        if code == str(ACCEPTED) and kinds:
+            self.since = 0
+        said = "ok " + ("+".join(kinds) or "-") if code == str(ACCEPTED) else number_of(code)
+        return said + (f" out {output}" if room else "")
 
+    def on_bus(self, *words: str) -> str:
+        if words and words[0].startswith("out="):
+            return self.send("".join(words[1:]), int(words[0][4:]))
+        first = int(words[0], 16) if words else 0
+        return self.send("".join(words), 2 * ((len(words) - 1) // 2) if first >= 0xB0 else 2 * (first == 0x90))
 
-def bus(back_end: BackEnd, words: list[str]) -> str:
-    """The answer to a `bus` line."""
-    room = None
-    if words and words[0].startswith("out="):
-        room = int(words.pop(0)[4:])
-    frame = "".join(words)
-    if room is None:
-        first = int(frame[:2] or "0", 16)
-        room = 2 * ((len(words) - 1) // 2) if first >= 0xB0 else 2 * (first == 0x90)
-    code, flight, temperature, output = back_end.call("bus", str(room), frame or "-")
-    kinds = [kind for kind, on in (("flight", flight), ("temperature", temperature)) if on == "1"]
-    said = "ok " + ("+".join(kinds) or "-") if code == str(ACCEPTED) else number_of(code)
-    return f"bus {said}" + (f" out {output}" if room else "")
+    def on_set(self, address: str, *words: str) -> str:
+        return self.send(address + "".join(word.zfill(4) for word in words), 0)
 
+    def on_tick(self, count: str) -> str:
+        return f"{int(count)}" + self.ticks(int(count))
 
-def delivery(back_end: BackEnd, name: str, lists: list[list[str]]) -> str:
-    """The answer to a `flight` or a `temperature` line."""
-    texts = [",".join(str(int(word, 16)) for word in words) or "-" for words in lists]
-    code = back_end.call(name, *texts)[0]
-    said = {str(ACCEPTED): "good", str(FAILED): "failed"}.get(code) or number_of(code)
-    return f"{name} {said}"
+    def on_at(self, moment: str) -> str:
+        return f"{int(moment)}" + self.ticks(int(moment) - self.since, self.since)
 
+    def on_stretch(self, count: str) -> str:
+        said = self.back_end.call("stretch", count)
+        if said[0] != str(ACCEPTED):
+            return number_of(said[0])
+        self.since += int(count)
+        return f"{int(count)}" + self.reports(said, 0)
 
-def peek(back_end: BackEnd, address: int) -> int:
-    """A register's word."""
-    code, word = back_end.call("peek", str(address))[:2]
-    assert code == str(ACCEPTED)
-    return int(word)
+    def delivered(self, name: str, *lists: list[str]) -> str:
+        code = self.back_end.call(name, *(listed([int(word, 16) for word in words]) for words in lists))[0]
+        return {str(ACCEPTED): "good", str(FAILED): "failed"}.get(code) or number_of(code)
 
+    def on_flight(self, *words: str) -> str:
+        cut = words.index("/")
+        return self.delivered("flight", list(words[:cut]), list(words[cut + 1 :]))
 
-def expect(back_end: BackEnd, first: str, wanted: list[str]) -> str:
-    """The answer to an `expect` line."""
-    differs = ""
-    for address, want in enumerate((int(word, 16) for word in wanted), int(first, 16)):
-        has = peek(back_end, address)
-        if has != want:
-            differs += f" {address:02X}:{has:04X}/{want:04X}"
-    return f"expect {first.upper()}" + (f" differs{differs}" if differs else " ok")
+    def on_temperature(self, *words: str) -> str:
+        return self.delivered("temperature", list(words))
 
+    def on_int(self) -> str:
+        return "yes" if self.back_end.call("asks")[1] == "1" else "no"
 
-def answers(back_end: BackEnd, text: str) -> Iterator[str]:
-    """The answers to the lines of an item."""
-    back_end.call("fresh")
-    for line in text.splitlines():
-        words = line.split()
-        if not words or words[0].startswith("#") or words[0] == "show":
-            continue
-        name, *words = words
+    def on_awaited(self) -> str:
+        return "{} {}".format(*self.back_end.call("asks")[2:4])
+
+    def peek(self, address: int) -> int:
+        code, word = self.back_end.call("peek", str(address))[:2]
+        assert code == str(ACCEPTED)
+        return int(word)
+
+    def on_frames(self) -> str:
+        frames = self.back_end.call("frames")[1:]
+        lines = (" ".join(["frame", *(frame[i : i + 2] for i in range(0, len(frame), 2))]) for frame in frames)
+        return "\n".join([str(len(frames)), *lines])
+
+    def on_probe(self, *entries: str) -> str:
+        self.table += map(int, entries)
+        return str(len(self.table))
+
+    def on_degrees(self, probe: str, reference: str) -> str:
+        said = self.back_end.call("degrees", str(int(probe, 16)), str(int(reference, 16)), listed(self.table))
+        if said[0] != str(ACCEPTED):
+            return number_of(said[0])
+        return f"{int(said[1]) // 1000}.{int(said[1]) % 1000:03}"
+
+    def on_record(self, *words: str) -> str:
+        quanta = self.peek(0xE2) << 16 | self.peek(0xE3)
+        added = [int(word) for word in words] or [quanta - (1 << 32) if quanta >> 31 else quanta]
+        self.record += added
+        return " ".join(map(str, added))
+
+    def on_listing(self, *words: str) -> str:
+        said = self.back_end.call("listing", "2" if words[0] == "old" else "8", str(int(words[-1], 16)), listed(self.record))
+        if said[0] != str(ACCEPTED):
+            return number_of(said[0])
+        return "\n".join([str(len(said) - 1), *(line.replace("_", " ") for line in said[1:])])
+
+    def on_quietest(self, width: str) -> str:
+        code, place = self.back_end.call("quietest", width, listed(self.record))[:2]
+        if code != str(ACCEPTED):
+            return number_of(code)
+        run = self.record[int(place) : int(place) + int(width)]
+        return f"{int(place)} {max(run) - min(run)}"
+
+    def on_regs(self) -> str:
+        rows = range(0xB0, 0x100, 8)
+        return "\n".join(" ".join([f"{row:02X}", *(f"{self.peek(row + i):04X}" for i in range(8))]) for row in rows)
+
+    def on_expect(self, first: str, *wanted: str) -> str:
+        differs = ""
+        self.expectations += len(wanted)
+        for address, want in enumerate((int(word, 16) for word in wanted), int(first, 16)):
+            has = self.peek(address)
+            if has != want:
+                self.differ += 1
+                differs += f" {address:02X}:{has:04X}/{want:04X}"
+        return first.upper() + (f" differs{differs}" if differs else " ok")
+
+    def line(self, name: str, words: list[str]) -> str:
+        """The answer to a line, and what it counts for."""
         if name == "item":
-            back_end.call("fresh")
-            yield " ".join(["item", *words])
-        elif name == "bus":
-            yield bus(back_end, words)
-        elif name == "tick":
-            yield f"tick {int(words[0])}" + ticks(back_end, int(words[0]))
-        elif name == "flight":
-            cut = words.index("/")
-            yield delivery(back_end, name, [words[:cut], words[cut + 1 :]])
-        elif name == "temperature":
-            yield delivery(back_end, name, [words])
-        elif name == "int":
-            yield "int yes" if back_end.call("asks")[1] == "1" else "int no"
-        elif name == "awaited":
-            yield "awaited {} {}".format(*back_end.call("asks")[2:4])
-        elif name == "regs":
-            for first in range(0xB0, 0x100, 8):
-                row = " ".join(f"{peek(back_end, first + i):04X}" for i in range(8))
-                yield f"{first:02X} {row}"
-        elif name == "expect":
-            yield expect(back_end, words[0], words[1:])
-        else:
-            raise SystemExit(f"no call of the library: {line}")
+            self.fresh()
+            return " ".join(["item", *words])
+        cut = words.index("=>") if "=>" in words and name != "expect" else len(words)
+        said = getattr(self, f"on_{name}")(*words[:cut])
+        wanted, announced = words[cut + 1 :], cut < len(words)
+        first, *further = said.splitlines()
+        has = first.split() if name != "regs" else first.split()[1:]
+        if has[: len(wanted)] != wanted:
+            first, announced = f"{first} expected {' '.join(wanted)}", False
+            self.differ += 1
+        self.expectations += cut < len(words)
+        refused = name in CALLS and has[0] == "no"
+        self.calls += name in CALLS
+        self.refused += refused
+        self.unannounced += refused and not announced
+        return "\n".join([first if name == "regs" else f"{name} {first}", *further])
+
+
+def answers(back_end: BackEnd, text: str, bad: set[int]) -> Iterator[str]:
+    """The answers to a text, without pages and without the lines that are bad."""
+    replay = Replay(back_end)
+    for number, line in enumerate(text.split("\n"), 1):
+        words = line.split()
+        if number in bad or not words or words[0].startswith("#") or words[0] == "show":
+            continue
+        yield from replay.line(words[0], words[1:]).split("\n")
+    yield (
+        f"end {replay.calls} calls, {replay.refused} refused, {replay.unannounced} unannounced, "
+        f"{len(bad)} bad lines, {replay.expectations} expectations, {replay.differ} differ"
+    )
+
+
+def stored_answers(text: str) -> tuple[list[str], set[int]]:
+    """The stored answers without pages and bad lines, and the numbers of the bad lines."""
+    kept, bad, page = [], set(), False
+    for line in text.splitlines():
+        page = page or line == "RTC AND WATCHDOG REGISTERS"
+        if line.startswith("line "):
+            bad.add(int(line.split()[1].rstrip(":")))
+        elif not page:
+            kept.append(line)
+        page = page and not line.startswith("FF ")
+    return kept, bad
 
 
 def main(name: str, *paths: str) -> int:
@@ -199,13 +313,13 @@ def main(name: str, *paths: str) -> int:
     back_end: BackEnd = Python() if name == "python" else Program(name)
     compared = differing = 0
     for items, stored in zip(paths[::2], paths[1::2]):
-        wanted = [line for line in Path(stored).read_text().splitlines() if not line.startswith("end ")]
-        given = list(answers(back_end, Path(items).read_text()))
+        wanted, bad = stored_answers(Path(stored).read_text())
+        given = list(answers(back_end, Path(items).read_text(encoding="latin-1"), bad))
         compared += len(wanted)
         for number, (want, give) in enumerate(zip(wanted, given), 1):
             if want != give:
                 differing += 1
-                print(f"{stored}:{number}: stored {want}, given {give}")
+                print(f"{stored}: answer {number}: stored {want}, given {give}")
         if len(wanted) != len(given):
             differing += 1
             print(f"{stored}: {len(wanted)} answers stored, {len(given)} given")

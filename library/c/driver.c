@@ -39,6 +39,68 @@ static void print_words(uint32_t code, const uint32_t *words, size_t count)
     printf("\n");
 }
 
+/* The same of differences, in memory of its own. */
+static size_t differences_of(char *text, int32_t **values)
+{
+    size_t count = 0;
+    *values = malloc((strlen(text) + 1) * sizeof **values);
+    if (!*values)
+        abort();
+    if (text[0] == '-' && !text[1])
+        return 0;
+    for (char *at = text; *at; at += *at == ',')
+        (*values)[count++] = (int32_t)strtol(at, &at, 10);
+    return count;
+}
+
+static void degrees(uint32_t probe, uint32_t reference, char *text)
+{
+    static uint32_t table[1024];
+    uint32_t answer[1] = {0};
+    size_t n = words_of(text, table);
+    uint32_t code = n ? max35101_degrees_by(table, n, probe, reference, answer, 1)
+                      : max35101_degrees(probe, reference, answer, 1);
+    print_words(code, answer, 1);
+}
+
+static void frames(void)
+{
+    uint8_t bytes[33], *at = bytes;
+    uint32_t lengths[8];
+    size_t answer[2] = {0, 0};
+    printf("%" PRIu32, max35101_setup_frames(model, sizeof model, bytes, sizeof bytes, lengths, 8, answer, 2));
+    for (size_t i = 0; i < answer[1]; ++i) {
+        printf(" ");
+        for (uint32_t k = 0; k < lengths[i]; ++k)
+            printf("%02X", *at++);
+    }
+    printf("\n");
+}
+
+static void quietest(size_t width, char *text)
+{
+    int32_t *values;
+    size_t answer[1] = {0}, n = differences_of(text, &values);
+    uint32_t code = max35101_quietest_place(values, n, width, answer, 1);
+    printf("%" PRIu32 " %zu\n", code, answer[0]);
+    free(values);
+}
+
+/* A line's blanks are printed as '_'. */
+static void listing(uint32_t digits, uint32_t first, char *text)
+{
+    int32_t *values;
+    size_t answer[1] = {0}, n = differences_of(text, &values), room = n * (digits + 15);
+    char *lines = malloc(room + 1);
+    if (!lines)
+        abort();
+    printf("%" PRIu32 " ", max35101_write_listing_as(digits, values, n, first, (uint8_t *)lines, room, answer, 1));
+    for (size_t i = 0; i < answer[0]; ++i)
+        putchar(lines[i] == ' ' ? '_' : lines[i] == '\n' ? ' ' : lines[i]);
+    printf("\n");
+    free(values), free(lines);
+}
+
 static void bus(size_t room, const char *text)
 {
     uint8_t frame[512], output[512];
@@ -54,10 +116,10 @@ static void bus(size_t room, const char *text)
 
 int main(void)
 {
-    static char line[65536], name[32], first[32768], second[32768];
+    static char line[65536], name[32], first[65536], second[65536], third[65536];
     while (fgets(line, sizeof line, stdin)) {
         uint32_t answer[4] = {0, 0, 0, 0}, up[256], down[256];
-        int words = sscanf(line, "%31s %32767s %32767s", name, first, second);
+        int words = sscanf(line, "%31s %65535s %65535s %65535s", name, first, second, third);
         if (words < 1)
             continue;
         if (!strcmp(name, "fresh")) {
@@ -86,6 +148,14 @@ int main(void)
             max35101_temperature_awaited(model, sizeof model, answer + 2, 1);
             max35101_regulator_on(model, sizeof model, answer + 3, 1);
             print_words(code, answer, 4);
+        } else if (!strcmp(name, "frames")) {
+            frames();
+        } else if (!strcmp(name, "degrees")) {
+            degrees((uint32_t)strtoul(first, NULL, 10), (uint32_t)strtoul(second, NULL, 10), third);
+        } else if (!strcmp(name, "quietest")) {
+            quietest(strtoul(first, NULL, 10), second);
+        } else if (!strcmp(name, "listing")) {
+            listing((uint32_t)strtoul(first, NULL, 10), (uint32_t)strtoul(second, NULL, 10), third);
         }
         fflush(stdout);
     }

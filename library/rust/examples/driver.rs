@@ -4,7 +4,9 @@
 
 use std::io::{self, BufRead, Write};
 
-use max35101::{Delivered, Model, Refusal, FLASH_SIZE};
+use max35101::{
+    degrees, degrees_by, listing, quietest_place, Delivered, Digits, Model, Refusal, FLASH_SIZE,
+};
 
 const ACCEPTED: u32 = u32::MAX;
 const FAILED: u32 = u32::MAX - 1;
@@ -64,6 +66,57 @@ fn stretch(model: &mut Model, ticks: u32) -> String {
     }
 }
 
+fn differences_of(text: &str) -> Vec<i32> {
+    if text == "-" {
+        return Vec::new();
+    }
+    text.split(',')
+        .map(|word| word.parse().expect("a decimal"))
+        .collect()
+}
+
+/// The code, and the value where there is one.
+fn told<T: std::fmt::Display>(answer: Result<T, Refusal>) -> String {
+    match answer {
+        Ok(value) => format!("{ACCEPTED} {value}"),
+        Err(refusal) => format!("{} 0", refusal.number()),
+    }
+}
+
+fn in_degrees(probe: &str, reference: &str, table: &str) -> String {
+    let (probe, reference) = (
+        probe.parse().expect("a word"),
+        reference.parse().expect("a word"),
+    );
+    told(match words_of(table) {
+        table if table.is_empty() => degrees(probe, reference),
+        table => degrees_by(&table, probe, reference),
+    })
+}
+
+fn frames(model: &Model) -> String {
+    let hex = |frame: &Vec<u8>| frame.iter().map(|byte| format!("{byte:02X}")).collect();
+    let frames: Vec<String> = model.setup_frames().iter().map(hex).collect();
+    format!("{ACCEPTED} {}", frames.join(" "))
+}
+
+/// A line's blanks are printed as `_`.
+fn lines(digits: &str, first: &str, differences: &str) -> String {
+    let digits = if digits == "2" {
+        Digits::Two
+    } else {
+        Digits::Eight
+    };
+    told(
+        listing(
+            digits,
+            &differences_of(differences),
+            first.parse().expect("a number"),
+        )
+        .map(|text| text.replace(' ', "_").replace('\n', " ")),
+    )
+}
+
 fn answer(model: &mut Model, flash: &mut Vec<u8>, line: &str) -> String {
     let words: Vec<&str> = line.split_whitespace().collect();
     match words[..] {
@@ -92,10 +145,7 @@ fn answer(model: &mut Model, flash: &mut Vec<u8>, line: &str) -> String {
         ["stretch", ticks] => stretch(model, ticks.parse().expect("a number")),
         ["flight", up, down] => delivery(model.deliver_flight(&words_of(up), &words_of(down))),
         ["temperature", words] => delivery(model.deliver_temperature(&words_of(words))),
-        ["peek", address] => match model.peek(address.parse().expect("an address")) {
-            Ok(word) => format!("{ACCEPTED} {word}"),
-            Err(refusal) => format!("{} 0", refusal.number()),
-        },
+        ["peek", address] => told(model.peek(address.parse().expect("an address"))),
         ["asks"] => {
             let [a, b, c, d] = [
                 model.interrupt_pending(),
@@ -106,6 +156,13 @@ fn answer(model: &mut Model, flash: &mut Vec<u8>, line: &str) -> String {
             .map(u8::from);
             format!("{ACCEPTED} {a} {b} {c} {d}")
         }
+        ["frames"] => frames(model),
+        ["degrees", probe, reference, table] => in_degrees(probe, reference, table),
+        ["quietest", width, values] => told(quietest_place(
+            &differences_of(values),
+            width.parse().expect("a width"),
+        )),
+        ["listing", digits, first, values] => lines(digits, first, values),
         _ => panic!("no call: {line}"),
     }
 }

@@ -1,9 +1,13 @@
 // Transactions.
+ghost use Rattle.wording.specs.Text.{PutEach};
+ghost use Rattle.wording.specs.Wording.{started, busAnswer, outputBuffer, bus, set};
 use crate::refusal::put_refusal;
 use device::Answer;
 
 // `bus`, the answer, and the output buffer.
-pub fn put_bus(out: &mut [u8], at: usize, answer: Answer, buffer: &[u8]) -> usize {
+pub fn put_bus(out: &mut [u8], at: usize, answer: Answer, buffer: &[u8]) -> usize
+    ensures { λ r. ⌜ PutEach (now (out .entry)) at (bus answer (now (buffer .entry))) r (now (out .exit)) ⌝ }
+{
     let a = numeral::put_text(out, at, b"bus");
     let b = put_answer(out, a, answer);
     let c = put_buffer(out, b, buffer);
@@ -11,13 +15,17 @@ pub fn put_bus(out: &mut [u8], at: usize, answer: Answer, buffer: &[u8]) -> usiz
 }
 
 // `set` and the answer.
-pub fn put_set(out: &mut [u8], at: usize, answer: Answer) -> usize {
+pub fn put_set(out: &mut [u8], at: usize, answer: Answer) -> usize
+    ensures { λ r. ⌜ PutEach (now (out .entry)) at (set answer) r (now (out .exit)) ⌝ }
+{
     let a = numeral::put_text(out, at, b"set");
     let b = put_answer(out, a, answer);
     numeral::put_text(out, b, b"\n")
 }
 
-fn put_answer(out: &mut [u8], at: usize, answer: Answer) -> usize {
+fn put_answer(out: &mut [u8], at: usize, answer: Answer) -> usize
+    ensures { λ r. ⌜ PutEach (now (out .entry)) at (busAnswer answer) r (now (out .exit)) ⌝ }
+{
     match answer {
         Answer::Refused(number) => put_refusal(out, at, number),
         Answer::Accepted(flight, temperature) => put_started(out, at, flight, temperature),
@@ -25,7 +33,9 @@ fn put_answer(out: &mut [u8], at: usize, answer: Answer) -> usize {
     }
 }
 
-fn put_started(out: &mut [u8], at: usize, flight: bool, temperature: bool) -> usize {
+fn put_started(out: &mut [u8], at: usize, flight: bool, temperature: bool) -> usize
+    ensures { λ r. ⌜ PutEach (now (out .entry)) at (started flight temperature) r (now (out .exit)) ⌝ }
+{
     if flight {
         if temperature {
             return numeral::put_text(out, at, b" ok flight+temperature");
@@ -39,7 +49,9 @@ fn put_started(out: &mut [u8], at: usize, flight: bool, temperature: bool) -> us
 }
 
 // ` out ` and the buffer, where it has bytes.
-fn put_buffer(out: &mut [u8], at: usize, buffer: &[u8]) -> usize {
+fn put_buffer(out: &mut [u8], at: usize, buffer: &[u8]) -> usize
+    ensures { λ r. ⌜ PutEach (now (out .entry)) at (outputBuffer (now (buffer .entry))) r (now (out .exit)) ⌝ }
+{
     if buffer.len() == 0 {
         return at;
     }

@@ -1,7 +1,11 @@
 // Expectations.
+ghost use Rattle.wording.specs.Text.{PutEach};
+ghost use Rattle.wording.specs.Wording.{head, pair};
 
 // `expect AT ok` or `expect AT differs`, where n words differ.
-pub fn put_head(out: &mut [u8], at: usize, a: u32, n: u64) -> usize {
+pub fn put_head(out: &mut [u8], at: usize, a: u32, n: u64) -> usize
+    ensures { λ r. ⌜ PutEach (now (out .entry)) at (head a n) r (now (out .exit)) ⌝ }
+{
     let x = numeral::put_text(out, at, b"expect ");
     let y = numeral::put_hex(out, x, 2, a);
     if n == 0 {
@@ -12,7 +16,9 @@ pub fn put_head(out: &mut [u8], at: usize, a: u32, n: u64) -> usize {
 }
 
 // ` AT:HAS/WANTED`, where they differ.
-pub fn put_pair(out: &mut [u8], at: usize, address: u32, has: u32, wanted: u32) -> usize {
+pub fn put_pair(out: &mut [u8], at: usize, address: u32, has: u32, wanted: u32) -> usize
+    ensures { λ r. ⌜ PutEach (now (out .entry)) at (pair address has wanted) r (now (out .exit)) ⌝ }
+{
     if has == wanted {
         return at;
     }

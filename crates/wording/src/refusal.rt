@@ -1,59 +1,92 @@
 // Refusals, by number.
+ghost use mathlib.Core.Path.{_≡_};
+ghost use Prim.Native.Nat.{_≤_, min};
+ghost use lib.ListN.{length};
+ghost use Rattle.numeral.specs.Place.{Put};
+ghost use Rattle.wording.specs.Text.{ascii, PutEach};
+ghost use Rattle.wording.specs.Wording.{refusalWord, refusal};
 
 // ` no NUMBER WORD`
-pub fn put_refusal(out: &mut [u8], at: usize, number: u32) -> usize {
+pub fn put_refusal(out: &mut [u8], at: usize, number: u32) -> usize
+    ensures { λ r. ⌜ PutEach (now (out .entry)) at (refusal number) r (now (out .exit)) ⌝ }
+{
     let a = numeral::put_text(out, at, b" no ");
     let b = numeral::put_decimal(out, a, number as u64);
     let c = numeral::put_text(out, b, b" ");
-    if number < 6 {
-        put_early_refusal(out, c, number)
-    } else {
-        put_late_refusal(out, c, number)
-    }
+    put_word(out, c, number)
 }
 
-fn put_early_refusal(out: &mut [u8], at: usize, number: u32) -> usize {
-    match number {
-        0 => numeral::put_text(out, at, b"record"),
-        1 => numeral::put_text(out, at, b"no frame"),
-        2 => numeral::put_text(out, at, b"opcode"),
-        3 => numeral::put_text(out, at, b"frame length"),
-        4 => numeral::put_text(out, at, b"address"),
-        _ => numeral::put_text(out, at, b"short output"),
-    }
+// How many places of its row each word takes.
+const LENGTHS: [usize; 23] = [
+    6,
+    8,
+    6,
+    12,
+    7,
+    12,
+    4,
+    8,
+    15,
+    6,
+    11,
+    10,
+    4,
+    13,
+    9,
+    10,
+    13,
+    10,
+    5,
+    12,
+    14,
+    12,
+    7,
+];
+
+// The word's row. 02 has no words for 20 and 21: the format names the first.
+fn put_word(out: &mut [u8], at: usize, number: u32) -> usize
+    ensures { λ r. ⌜ Put (now (out .entry)) at (ascii (refusalWord number)) r (now (out .exit)) ⌝ }
+{
+    let row = row_of(number);
+    let from = 16 * row;
+    let to = from + length_in(row);
+    let words: &[u8] = b"\
+        record          \
+        no frame        \
+        opcode          \
+        frame length    \
+        address         \
+        short output    \
+        busy            \
+        calendar        \
+        not initialised \
+        set-up          \
+        not awaited     \
+        word count      \
+        span            \
+        off the table   \
+        bad table       \
+        supply off      \
+        flash address   \
+        not erased      \
+        width           \
+        short buffer    \
+        capture number  \
+        short output    \
+        unknown         ";
+    numeral::put_text(out, at, &words[from..to])
 }
 
-fn put_late_refusal(out: &mut [u8], at: usize, number: u32) -> usize {
-    match number {
-        6 => numeral::put_text(out, at, b"busy"),
-        7 => numeral::put_text(out, at, b"calendar"),
-        8 => numeral::put_text(out, at, b"not initialised"),
-        9 => numeral::put_text(out, at, b"set-up"),
-        10 => numeral::put_text(out, at, b"not awaited"),
-        11 => numeral::put_text(out, at, b"word count"),
-        _ => put_later_refusal(out, at, number),
-    }
+// Any number past the last one has the last row.
+fn row_of(number: u32) -> usize
+    ensures { λ r. ⌜ (r ≡ min number 22) × (r ≤ 22) ⌝ }
+{
+    if number < 22 { number as usize } else { 22 }
 }
 
-fn put_later_refusal(out: &mut [u8], at: usize, number: u32) -> usize {
-    match number {
-        12 => numeral::put_text(out, at, b"span"),
-        13 => numeral::put_text(out, at, b"off the table"),
-        14 => numeral::put_text(out, at, b"bad table"),
-        15 => numeral::put_text(out, at, b"supply off"),
-        16 => numeral::put_text(out, at, b"flash address"),
-        17 => numeral::put_text(out, at, b"not erased"),
-        _ => put_last_refusal(out, at, number),
-    }
-}
-
-// 02 has no words for 20 and 21: the format names the first.
-fn put_last_refusal(out: &mut [u8], at: usize, number: u32) -> usize {
-    match number {
-        18 => numeral::put_text(out, at, b"width"),
-        19 => numeral::put_text(out, at, b"short buffer"),
-        20 => numeral::put_text(out, at, b"capture number"),
-        21 => numeral::put_text(out, at, b"short output"),
-        _ => numeral::put_text(out, at, b"unknown"),
-    }
+fn length_in(row: usize) -> usize
+    requires { ⌜ row ≤ 22 ⌝ }
+    ensures { λ r. ⌜ (r ≡ length (ascii (refusalWord row))) × (r ≤ 16) ⌝ }
+{
+    LENGTHS[row]
 }

@@ -1,4 +1,8 @@
 // What ticks report.
+ghost use mathlib.Core.Path.{_≡_};
+ghost use lib.Dec.{eqb};
+ghost use Rattle.wording.specs.Text.{PutEach};
+ghost use Rattle.wording.specs.Wording.{quiet as Wording·quiet, reportedWhere, kindReports, ticked, single, reportAt, tickReports, sooner as Wording·sooner, nextNamed, noTick, laterNamed, named, stretched};
 use device::Answer;
 use device::Report;
 use device::StretchReport;
@@ -7,28 +11,40 @@ use device::StretchReport;
 const NONE: u32 = 4294967295;
 
 // What a single tick reports.
-pub fn put_single(out: &mut [u8], at: usize, answer: Answer) -> usize {
+pub fn put_single(out: &mut [u8], at: usize, answer: Answer) -> usize
+    ensures { λ r. ⌜ PutEach (now (out .entry)) at (single answer) r (now (out .exit)) ⌝ }
+{
     match answer {
         Answer::Ticked(flight, temperature) => {
-            if nothing_in(flight) {
-                if nothing_in(temperature) {
-                    return numeral::put_text(out, at, b"tick 1\n");
-                }
+            if quiet(flight, temperature) {
+                numeral::put_text(out, at, b"tick 1\n")
+            } else {
+                put_ticked(out, at, flight, temperature)
             }
-            put_ticked(out, at, flight, temperature)
         }
         _ => at,
     }
 }
 
-fn nothing_in(report: Report) -> bool {
-    if report.started {
+// Whether nothing happened.
+fn quiet(flight: Report, temperature: Report) -> bool
+    ensures { λ r. ⌜ r ≡ Wording·quiet flight temperature ⌝ }
+{
+    if flight.started {
         return false;
     }
-    if report.failed { false } else { true }
+    if flight.failed {
+        return false;
+    }
+    if temperature.started {
+        return false;
+    }
+    if temperature.failed { false } else { true }
 }
 
-fn put_ticked(out: &mut [u8], at: usize, flight: Report, temperature: Report) -> usize {
+fn put_ticked(out: &mut [u8], at: usize, flight: Report, temperature: Report) -> usize
+    ensures { λ r. ⌜ PutEach (now (out .entry)) at (ticked flight temperature) r (now (out .exit)) ⌝ }
+{
     let a = numeral::put_text(out, at, b"tick 1");
     let b = put_kind(out, a, flight, b" failed-flight@1", b" started-flight@1");
     let c = put_kind(
@@ -41,12 +57,16 @@ fn put_ticked(out: &mut [u8], at: usize, flight: Report, temperature: Report) ->
     numeral::put_text(out, c, b"\n")
 }
 
-fn put_kind(out: &mut [u8], at: usize, report: Report, failed: &[u8], started: &[u8]) -> usize {
+fn put_kind(out: &mut [u8], at: usize, report: Report, failed: &[u8], started: &[u8]) -> usize
+    ensures { λ r. ⌜ PutEach (now (out .entry)) at (kindReports report (now (failed .entry)) (now (started .entry))) r (now (out .exit)) ⌝ }
+{
     let a = put_where(out, at, report.failed, failed);
     put_where(out, a, report.started, started)
 }
 
-fn put_where(out: &mut [u8], at: usize, holds: bool, what: &[u8]) -> usize {
+fn put_where(out: &mut [u8], at: usize, holds: bool, what: &[u8]) -> usize
+    ensures { λ r. ⌜ PutEach (now (out .entry)) at (reportedWhere holds (now (what .entry))) r (now (out .exit)) ⌝ }
+{
     if holds {
         return numeral::put_text(out, at, what);
     }
@@ -54,7 +74,9 @@ fn put_where(out: &mut [u8], at: usize, holds: bool, what: &[u8]) -> usize {
 }
 
 // What one stretch of n ticks reports, or its refusal.
-pub fn put_stretched(out: &mut [u8], at: usize, answer: Answer, n: u32) -> usize {
+pub fn put_stretched(out: &mut [u8], at: usize, answer: Answer, n: u32) -> usize
+    ensures { λ r. ⌜ PutEach (now (out .entry)) at (stretched answer n) r (now (out .exit)) ⌝ }
+{
     match answer {
         Answer::Refused(number) => crate::refusal::put_refusal(out, at, number),
         Answer::Stretched(flight, temperature) => {
@@ -67,7 +89,9 @@ pub fn put_stretched(out: &mut [u8], at: usize, answer: Answer, n: u32) -> usize
 }
 
 // Whether a stretch names no tick.
-pub fn none_named(flight: StretchReport, temperature: StretchReport) -> bool {
+pub fn none_named(flight: StretchReport, temperature: StretchReport) -> bool
+    ensures { λ r. ⌜ r ≡ eqb (nextNamed flight temperature 0) noTick ⌝ }
+{
     next_named(flight, temperature, 0) == NONE
 }
 
@@ -78,7 +102,9 @@ pub fn put_named(
     flight: StretchReport,
     temperature: StretchReport,
     done: u32,
-) -> usize {
+) -> usize
+    ensures { λ r. ⌜ PutEach (now (out .entry)) at (named flight temperature done) r (now (out .exit)) ⌝ }
+{
     let first = next_named(flight, temperature, 0);
     let a = put_tick(out, at, flight, temperature, first, done);
     let second = next_named(flight, temperature, first);
@@ -94,7 +120,9 @@ fn put_later(
     temperature: StretchReport,
     tick: u32,
     done: u32,
-) -> usize {
+) -> usize
+    ensures { λ r. ⌜ PutEach (now (out .entry)) at (laterNamed flight temperature tick done) r (now (out .exit)) ⌝ }
+{
     let third = next_named(flight, temperature, tick);
     let a = put_tick(out, at, flight, temperature, third, done);
     let fourth = next_named(flight, temperature, third);
@@ -102,7 +130,9 @@ fn put_later(
 }
 
 // The first tick named after `tick`, or NONE.
-fn next_named(flight: StretchReport, temperature: StretchReport, tick: u32) -> u32 {
+fn next_named(flight: StretchReport, temperature: StretchReport, tick: u32) -> u32
+    ensures { λ r. ⌜ r ≡ nextNamed flight temperature tick ⌝ }
+{
     let a = sooner(flight.failed, tick, NONE);
     let b = sooner(flight.started, tick, a);
     let c = sooner(temperature.failed, tick, b);
@@ -110,7 +140,9 @@ fn next_named(flight: StretchReport, temperature: StretchReport, tick: u32) -> u
 }
 
 // The tick `named` where it lies after `tick` and before `best`, else `best`.
-fn sooner(named: u32, tick: u32, best: u32) -> u32 {
+fn sooner(named: u32, tick: u32, best: u32) -> u32
+    ensures { λ r. ⌜ r ≡ Wording·sooner named tick best ⌝ }
+{
     if named <= tick {
         return best;
     }
@@ -125,7 +157,9 @@ fn put_tick(
     temperature: StretchReport,
     i: u32,
     done: u32,
-) -> usize {
+) -> usize
+    ensures { λ r. ⌜ PutEach (now (out .entry)) at (tickReports flight temperature i done) r (now (out .exit)) ⌝ }
+{
     let n = std::num::wrapping_add_u32(done, i);
     let a = put_report(out, at, flight.failed == i, b" failed-flight@", n);
     let b = put_report(out, a, flight.started == i, b" started-flight@", n);
@@ -139,7 +173,9 @@ fn put_tick(
     )
 }
 
-fn put_report(out: &mut [u8], at: usize, holds: bool, what: &[u8], i: u32) -> usize {
+fn put_report(out: &mut [u8], at: usize, holds: bool, what: &[u8], i: u32) -> usize
+    ensures { λ r. ⌜ PutEach (now (out .entry)) at (reportAt holds (now (what .entry)) i) r (now (out .exit)) ⌝ }
+{
     if holds {
         let a = numeral::put_text(out, at, what);
         return numeral::put_decimal(out, a, i as u64);

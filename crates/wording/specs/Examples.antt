@@ -1,0 +1,155 @@
+-- Answers in plain bytes, the text of each beside it. Assumes nothing.
+use Prim.Native.Nat.{ℕ}
+use mathlib.Core.Bool.{Bool, true, false}
+use mathlib.Core.List.{List, [], _∷_, _++_}
+use mathlib.Core.Path.{_≡_, refl}
+use Rattle.numeral.specs.Digit.{digits, glyph}
+use Rattle.numeral.specs.Place.{joined}
+use Rattle.numeral.specs.Print.{hexBytes, widthFrom, decimalWidth, decimal, signedDecimal, thousandths}
+use Rattle.device.specs.declared.Report.{Report}
+use Rattle.device.specs.declared.StretchReport.{StretchReport}
+use Rattle.device.specs.declared.Answer.the-variants.{Refused, Accepted, Ticked, Stretched, Good, Failed}
+use Rattle.line.specs.declared.Content.{Content}
+use Rattle.wording.specs.Text.{ascii}
+use Rattle.wording.specs.Wording.{refusalWords, refusalWord, refusal, started, busAnswer, outputBuffer, bus, set}
+use Rattle.wording.specs.Wording.{deliveryAnswer, delivery, reportedWhere, kindReports, quiet, ticked, single}
+use Rattle.wording.specs.Wording.{reportAt, tickReports, sooner, nextNamed, laterNamed, named, stretched, head, pair}
+use Rattle.wording.specs.Wording.{counted, probe, degrees, refused, difference, quietest, why, fault, calls, faults}
+
+-- of one tick: failed, started
+abbrev report : Bool → Bool → Report
+report failed started = record { started = started; failed = failed }
+
+-- of a stretch: the tick of a failure, the tick of a start
+abbrev ticks : ℕ → ℕ → StretchReport
+ticks failed started = record { started = started; failed = failed }
+
+-- `bus ok flight+temperature out EE0A`
+bus-ok : joined (bus (Accepted true true) (0xEE ∷ 0x0A ∷ [])) ≡ 98 ∷ 117 ∷ 115 ∷ 32 ∷ 111 ∷ 107 ∷ 32 ∷ 102 ∷ 108 ∷ 105 ∷ 103 ∷ 104 ∷ 116 ∷ 43 ∷ 116 ∷ 101 ∷ 109 ∷ 112 ∷ 101 ∷ 114 ∷ 97 ∷ 116 ∷ 117 ∷ 114 ∷ 101 ∷ 32 ∷ 111 ∷ 117 ∷ 116 ∷ 32 ∷ 69 ∷ 69 ∷ 48 ∷ 65 ∷ 10 ∷ []
+unfolding joined bus busAnswer started outputBuffer hexBytes digits glyph ascii
+bus-ok = refl
+
+-- `bus ok -`
+bus-quiet : joined (bus (Accepted false false) []) ≡ 98 ∷ 117 ∷ 115 ∷ 32 ∷ 111 ∷ 107 ∷ 32 ∷ 45 ∷ 10 ∷ []
+unfolding joined bus busAnswer started outputBuffer ascii
+bus-quiet = refl
+
+-- `set no 6 busy`
+set-refused : joined (set (Refused 6)) ≡ 115 ∷ 101 ∷ 116 ∷ 32 ∷ 110 ∷ 111 ∷ 32 ∷ 54 ∷ 32 ∷ 98 ∷ 117 ∷ 115 ∷ 121 ∷ 10 ∷ []
+unfolding joined set busAnswer refusal refusalWord refusalWords decimal decimalWidth widthFrom digits glyph ascii
+set-refused = refl
+
+-- `flight no 10 not awaited`
+flight-refused : joined (delivery (ascii "flight") (Refused 10)) ≡ 102 ∷ 108 ∷ 105 ∷ 103 ∷ 104 ∷ 116 ∷ 32 ∷ 110 ∷ 111 ∷ 32 ∷ 49 ∷ 48 ∷ 32 ∷ 110 ∷ 111 ∷ 116 ∷ 32 ∷ 97 ∷ 119 ∷ 97 ∷ 105 ∷ 116 ∷ 101 ∷ 100 ∷ 10 ∷ []
+unfolding joined delivery deliveryAnswer refusal refusalWord refusalWords decimal decimalWidth widthFrom digits glyph ascii
+flight-refused = refl
+
+-- `temperature good`
+temperature-good : joined (delivery (ascii "temperature") Good) ≡ 116 ∷ 101 ∷ 109 ∷ 112 ∷ 101 ∷ 114 ∷ 97 ∷ 116 ∷ 117 ∷ 114 ∷ 101 ∷ 32 ∷ 103 ∷ 111 ∷ 111 ∷ 100 ∷ 10 ∷ []
+unfolding joined delivery deliveryAnswer ascii
+temperature-good = refl
+
+-- `flight failed`
+flight-failed : joined (delivery (ascii "flight") Failed) ≡ 102 ∷ 108 ∷ 105 ∷ 103 ∷ 104 ∷ 116 ∷ 32 ∷ 102 ∷ 97 ∷ 105 ∷ 108 ∷ 101 ∷ 100 ∷ 10 ∷ []
+unfolding joined delivery deliveryAnswer ascii
+flight-failed = refl
+
+-- `tick 1`
+tick-quiet : joined (single (Ticked (report false false) (report false false))) ≡ 116 ∷ 105 ∷ 99 ∷ 107 ∷ 32 ∷ 49 ∷ 10 ∷ []
+unfolding joined single quiet ascii
+tick-quiet = refl
+
+-- `tick 1 failed-flight@1 started-flight@1 started-temperature@1`
+tick-told : joined (single (Ticked (report true true) (report false true))) ≡ 116 ∷ 105 ∷ 99 ∷ 107 ∷ 32 ∷ 49 ∷ 32 ∷ 102 ∷ 97 ∷ 105 ∷ 108 ∷ 101 ∷ 100 ∷ 45 ∷ 102 ∷ 108 ∷ 105 ∷ 103 ∷ 104 ∷ 116 ∷ 64 ∷ 49 ∷ 32 ∷ 115 ∷ 116 ∷ 97 ∷ 114 ∷ 116 ∷ 101 ∷ 100 ∷ 45 ∷ 102 ∷ 108 ∷ 105 ∷ 103 ∷ 104 ∷ 116 ∷ 64 ∷ 49 ∷ 32 ∷ 115 ∷ 116 ∷ 97 ∷ 114 ∷ 116 ∷ 101 ∷ 100 ∷ 45 ∷ 116 ∷ 101 ∷ 109 ∷ 112 ∷ 101 ∷ 114 ∷ 97 ∷ 116 ∷ 117 ∷ 114 ∷ 101 ∷ 64 ∷ 49 ∷ 10 ∷ []
+unfolding joined single quiet ticked kindReports reportedWhere ascii
+tick-told = refl
+
+-- ` 9000 failed-flight@70 failed-temperature@70 started-flight@8000 started-temperature@8192`
+stretch-told : joined (stretched (Stretched (ticks 70 8000) (ticks 70 8192)) 9000) ≡ 32 ∷ 57 ∷ 48 ∷ 48 ∷ 48 ∷ 32 ∷ 102 ∷ 97 ∷ 105 ∷ 108 ∷ 101 ∷ 100 ∷ 45 ∷ 102 ∷ 108 ∷ 105 ∷ 103 ∷ 104 ∷ 116 ∷ 64 ∷ 55 ∷ 48 ∷ 32 ∷ 102 ∷ 97 ∷ 105 ∷ 108 ∷ 101 ∷ 100 ∷ 45 ∷ 116 ∷ 101 ∷ 109 ∷ 112 ∷ 101 ∷ 114 ∷ 97 ∷ 116 ∷ 117 ∷ 114 ∷ 101 ∷ 64 ∷ 55 ∷ 48 ∷ 32 ∷ 115 ∷ 116 ∷ 97 ∷ 114 ∷ 116 ∷ 101 ∷ 100 ∷ 45 ∷ 102 ∷ 108 ∷ 105 ∷ 103 ∷ 104 ∷ 116 ∷ 64 ∷ 56 ∷ 48 ∷ 48 ∷ 48 ∷ 32 ∷ 115 ∷ 116 ∷ 97 ∷ 114 ∷ 116 ∷ 101 ∷ 100 ∷ 45 ∷ 116 ∷ 101 ∷ 109 ∷ 112 ∷ 101 ∷ 114 ∷ 97 ∷ 116 ∷ 117 ∷ 114 ∷ 101 ∷ 64 ∷ 56 ∷ 49 ∷ 57 ∷ 50 ∷ []
+unfolding joined stretched named laterNamed nextNamed sooner tickReports reportAt decimal decimalWidth widthFrom digits glyph ascii
+stretch-told = refl
+
+-- ` started-flight@105 failed-flight@130`
+ticks-after-others : joined (named (ticks 30 5) (ticks 0 0) 100) ≡ 32 ∷ 115 ∷ 116 ∷ 97 ∷ 114 ∷ 116 ∷ 101 ∷ 100 ∷ 45 ∷ 102 ∷ 108 ∷ 105 ∷ 103 ∷ 104 ∷ 116 ∷ 64 ∷ 49 ∷ 48 ∷ 53 ∷ 32 ∷ 102 ∷ 97 ∷ 105 ∷ 108 ∷ 101 ∷ 100 ∷ 45 ∷ 102 ∷ 108 ∷ 105 ∷ 103 ∷ 104 ∷ 116 ∷ 64 ∷ 49 ∷ 51 ∷ 48 ∷ []
+unfolding joined named laterNamed nextNamed sooner tickReports reportAt decimal decimalWidth widthFrom digits glyph ascii
+ticks-after-others = refl
+
+-- ` no 12 span`
+span : joined (stretched (Refused 12) 5) ≡ 32 ∷ 110 ∷ 111 ∷ 32 ∷ 49 ∷ 50 ∷ 32 ∷ 115 ∷ 112 ∷ 97 ∷ 110 ∷ []
+unfolding joined stretched refusal refusalWord refusalWords decimal decimalWidth widthFrom digits glyph ascii
+span = refl
+
+-- `expect E2 ok`
+expected : joined (head 0xE2 0) ≡ 101 ∷ 120 ∷ 112 ∷ 101 ∷ 99 ∷ 116 ∷ 32 ∷ 69 ∷ 50 ∷ 32 ∷ 111 ∷ 107 ∷ []
+unfolding joined head digits glyph ascii
+expected = refl
+
+-- `expect E2 differs E3:1432/1433`
+unexpected : joined (head 0xE2 1 ++ pair 0xE3 0x1432 0x1433) ≡ 101 ∷ 120 ∷ 112 ∷ 101 ∷ 99 ∷ 116 ∷ 32 ∷ 69 ∷ 50 ∷ 32 ∷ 100 ∷ 105 ∷ 102 ∷ 102 ∷ 101 ∷ 114 ∷ 115 ∷ 32 ∷ 69 ∷ 51 ∷ 58 ∷ 49 ∷ 52 ∷ 51 ∷ 50 ∷ 47 ∷ 49 ∷ 52 ∷ 51 ∷ 51 ∷ []
+unfolding joined head pair digits glyph ascii
+unexpected = refl
+
+-- nothing where a word is as expected
+as-expected : joined (pair 0xE2 0xFFFE 0xFFFE) ≡ []
+unfolding joined pair
+as-expected = refl
+
+-- `line 12: past`
+past : joined (fault 12 (Content.At 5)) ≡ 108 ∷ 105 ∷ 110 ∷ 101 ∷ 32 ∷ 49 ∷ 50 ∷ 58 ∷ 32 ∷ 112 ∷ 97 ∷ 115 ∷ 116 ∷ 10 ∷ []
+unfolding joined fault why decimal decimalWidth widthFrom digits glyph ascii
+past = refl
+
+-- `line 7: wrong count`
+wrong-count : joined (fault 7 Content.WrongCount) ≡ 108 ∷ 105 ∷ 110 ∷ 101 ∷ 32 ∷ 55 ∷ 58 ∷ 32 ∷ 119 ∷ 114 ∷ 111 ∷ 110 ∷ 103 ∷ 32 ∷ 99 ∷ 111 ∷ 117 ∷ 110 ∷ 116 ∷ 10 ∷ []
+unfolding joined fault why decimal decimalWidth widthFrom digits glyph ascii
+wrong-count = refl
+
+-- `line 900: no room`
+no-room : joined (fault 900 (Content.Record 3)) ≡ 108 ∷ 105 ∷ 110 ∷ 101 ∷ 32 ∷ 57 ∷ 48 ∷ 48 ∷ 58 ∷ 32 ∷ 110 ∷ 111 ∷ 32 ∷ 114 ∷ 111 ∷ 111 ∷ 109 ∷ 10 ∷ []
+unfolding joined fault why decimal decimalWidth widthFrom digits glyph ascii
+no-room = refl
+
+-- `probe 3`
+probes : joined (probe 3) ≡ 112 ∷ 114 ∷ 111 ∷ 98 ∷ 101 ∷ 32 ∷ 51 ∷ 10 ∷ []
+unfolding joined probe counted decimal decimalWidth widthFrom digits glyph ascii
+probes = refl
+
+-- `degrees 21.500`
+temperature : joined (degrees 21500) ≡ 100 ∷ 101 ∷ 103 ∷ 114 ∷ 101 ∷ 101 ∷ 115 ∷ 32 ∷ 50 ∷ 49 ∷ 46 ∷ 53 ∷ 48 ∷ 48 ∷ 10 ∷ []
+unfolding joined degrees thousandths decimal decimalWidth widthFrom digits glyph ascii
+temperature = refl
+
+-- `degrees no 13 off the table`
+off-the-table : joined (refused (ascii "degrees") 13) ≡ 100 ∷ 101 ∷ 103 ∷ 114 ∷ 101 ∷ 101 ∷ 115 ∷ 32 ∷ 110 ∷ 111 ∷ 32 ∷ 49 ∷ 51 ∷ 32 ∷ 111 ∷ 102 ∷ 102 ∷ 32 ∷ 116 ∷ 104 ∷ 101 ∷ 32 ∷ 116 ∷ 97 ∷ 98 ∷ 108 ∷ 101 ∷ 10 ∷ []
+unfolding joined refused refusal refusalWord refusalWords decimal decimalWidth widthFrom digits glyph ascii
+off-the-table = refl
+
+-- `degrees no 14 bad table`
+bad-table : joined (refused (ascii "degrees") 14) ≡ 100 ∷ 101 ∷ 103 ∷ 114 ∷ 101 ∷ 101 ∷ 115 ∷ 32 ∷ 110 ∷ 111 ∷ 32 ∷ 49 ∷ 52 ∷ 32 ∷ 98 ∷ 97 ∷ 100 ∷ 32 ∷ 116 ∷ 97 ∷ 98 ∷ 108 ∷ 101 ∷ 10 ∷ []
+unfolding joined refused refusal refusalWord refusalWords decimal decimalWidth widthFrom digits glyph ascii
+bad-table = refl
+
+-- ` -480`
+recorded : joined (difference 0xFFFFFE20) ≡ 32 ∷ 45 ∷ 52 ∷ 56 ∷ 48 ∷ []
+unfolding joined difference signedDecimal decimal decimalWidth widthFrom digits glyph ascii
+recorded = refl
+
+-- `listing no 20 capture number`
+capture-number : joined (refused (ascii "listing") 20) ≡ 108 ∷ 105 ∷ 115 ∷ 116 ∷ 105 ∷ 110 ∷ 103 ∷ 32 ∷ 110 ∷ 111 ∷ 32 ∷ 50 ∷ 48 ∷ 32 ∷ 99 ∷ 97 ∷ 112 ∷ 116 ∷ 117 ∷ 114 ∷ 101 ∷ 32 ∷ 110 ∷ 117 ∷ 109 ∷ 98 ∷ 101 ∷ 114 ∷ 10 ∷ []
+unfolding joined refused refusal refusalWord refusalWords decimal decimalWidth widthFrom digits glyph ascii
+capture-number = refl
+
+-- `quietest 2 17`
+run : joined (quietest 2 17) ≡ 113 ∷ 117 ∷ 105 ∷ 101 ∷ 116 ∷ 101 ∷ 115 ∷ 116 ∷ 32 ∷ 50 ∷ 32 ∷ 49 ∷ 55 ∷ 10 ∷ []
+unfolding joined quietest counted decimal decimalWidth widthFrom digits glyph ascii
+run = refl
+
+-- `quietest no 18 width`
+width : joined (refused (ascii "quietest") 18) ≡ 113 ∷ 117 ∷ 105 ∷ 101 ∷ 116 ∷ 101 ∷ 115 ∷ 116 ∷ 32 ∷ 110 ∷ 111 ∷ 32 ∷ 49 ∷ 56 ∷ 32 ∷ 119 ∷ 105 ∷ 100 ∷ 116 ∷ 104 ∷ 10 ∷ []
+unfolding joined refused refusal refusalWord refusalWords decimal decimalWidth widthFrom digits glyph ascii
+width = refl
+
+-- `end 8 calls, 2 refused, 1 unannounced, 3 bad lines, 4 expectations, 0 differ`
+last-line : joined (calls 8 2 1 ++ faults 3 4 0) ≡ 101 ∷ 110 ∷ 100 ∷ 32 ∷ 56 ∷ 32 ∷ 99 ∷ 97 ∷ 108 ∷ 108 ∷ 115 ∷ 44 ∷ 32 ∷ 50 ∷ 32 ∷ 114 ∷ 101 ∷ 102 ∷ 117 ∷ 115 ∷ 101 ∷ 100 ∷ 44 ∷ 32 ∷ 49 ∷ 32 ∷ 117 ∷ 110 ∷ 97 ∷ 110 ∷ 110 ∷ 111 ∷ 117 ∷ 110 ∷ 99 ∷ 101 ∷ 100 ∷ 44 ∷ 32 ∷ 51 ∷ 32 ∷ 98 ∷ 97 ∷ 100 ∷ 32 ∷ 108 ∷ 105 ∷ 110 ∷ 101 ∷ 115 ∷ 44 ∷ 32 ∷ 52 ∷ 32 ∷ 101 ∷ 120 ∷ 112 ∷ 101 ∷ 99 ∷ 116 ∷ 97 ∷ 116 ∷ 105 ∷ 111 ∷ 110 ∷ 115 ∷ 44 ∷ 32 ∷ 48 ∷ 32 ∷ 100 ∷ 105 ∷ 102 ∷ 102 ∷ 101 ∷ 114 ∷ 10 ∷ []
+unfolding joined calls faults counted decimal decimalWidth widthFrom digits glyph ascii
+last-line = refl

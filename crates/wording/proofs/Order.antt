@@ -9,7 +9,8 @@ use Rattle.device.specs.declared.StretchReport.{StretchReport}
 use Rattle.wording.specs.Wording.{sooner, nextNamed, noTick}
 
 module _ (named tick best : ℕ) where
-  cases : (P : ℕ → Type 0) → (named ≤ tick → P best) → (tick < named → named < best → P named) → (tick < named → best ≤ named → P best) → P (sooner named tick best)
+  cases : (P : ℕ → Type 0) → (named ≤ tick → P best) → (tick < named → named < best → P named)
+      → (tick < named → best ≤ named → P best) → P (sooner named tick best)
   unfolding sooner
   cases P past first later = go (decLe named tick) (decLt named best)
     where

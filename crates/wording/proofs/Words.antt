@@ -2,25 +2,35 @@
 use Prim.Native.Nat.{ℕ, zero, suc, _+_, _-_, _*_, _≤_, _<_, min}
 use Prim.Native.String.{String}
 use mathlib.Core.Bool.{Bool, true, false, _&&_}
-use mathlib.Core.List.{List, [], _∷_}
+use mathlib.Core.List.{List, [], _∷_, _++_}
 use mathlib.Core.Path.{_≡_, refl, sym, ap, _∙_}
 use native.Mathlib.Decide.{decLt}
 use native.Mathlib.Omega.{arith}
 use native.Mathlib.Numerals.{add-one}
 use lib.Dec.{leb, eqb}
-use lib.ListN.{length, getD, take, drop, List·getD-eq-default}
+use lib.ListN.{length, getD, take, drop, replicate, List·getD-eq-default}
 use borrow.Author.Tests.{eqb-true, leb-true}
 use Rattle.numeral.specs.Place.{Put}
 use Rattle.wording.specs.Text.{ascii}
 use Rattle.wording.specs.Wording.{refusalWords, refusalWord}
 
--- as the code has them
-abbrev lengths : List ℕ
-lengths = 6 ∷ 8 ∷ 6 ∷ 12 ∷ 7 ∷ 12 ∷ 4 ∷ 8 ∷ 15 ∷ 6 ∷ 11 ∷ 10 ∷ 4 ∷ 13 ∷ 9 ∷ 10 ∷ 13 ∷ 10 ∷ 5 ∷ 12 ∷ 14 ∷ 12 ∷ 7 ∷ []
+-- The code's two tables: each word in a row of 16 places, and how many of them it takes.
+unfoldable pub rowsOf : List String → List ℕ
+rowsOf [] = []
+rowsOf (w ∷ ws) = take 16 (ascii w ++ replicate 16 32) ++ rowsOf ws
+
+unfoldable pub lengthsOf : List String → List ℕ
+lengthsOf [] = []
+lengthsOf (w ∷ ws) = length (ascii w) ∷ lengthsOf ws
+
+abbrev allWords : List String
+allWords = refusalWords ++ ("unknown" ∷ [])
 
 unfoldable pub rows : List ℕ
-rows =
-    ascii "record          no frame        opcode          frame length    address         short output    busy            calendar        not initialised set-up          not awaited     word count      span            off the table   bad table       supply off      flash address   not erased      width           short buffer    capture number  short output    unknown         "
+rows = rowsOf allWords
+
+unfoldable pub lengths : List ℕ
+lengths = lengthsOf allWords
 
 same : List ℕ → List ℕ → Bool
 same [] [] = true
@@ -77,7 +87,7 @@ below (suc k) n h e =
     below-or-last n k h (λ p. below k n p (right (fits k) (allBelow k) e)) (λ q. rw q (left (fits k) (allBelow k) e))
 
 row : (n : ℕ) → n ≤ 22 → fits n ≡ true
-unfolding allBelow fits long narrow there same word rows ascii refusalWord refusalWords
+unfolding allBelow fits long narrow there same word rows rowsOf lengths lengthsOf ascii refusalWord refusalWords
 row n h = below 23 n (omega arith) refl
 
 row-long : (n : ℕ) → n ≤ 22 → long n ≡ true
@@ -91,7 +101,8 @@ row-rest n h = right (long n) (narrow n && there n) (row n h)
 pub row-length : (n : ℕ) → n ≤ 22 → (getD lengths n 0 ≡ length (ascii (refusalWord n))) × (getD lengths n 0 ≤ 16)
 unfolding long narrow word
 row-length n h =
-    (eqb-true (getD lengths n 0) (length (word n)) (row-long n h), leb-true (getD lengths n 0) 16 (left (narrow n) (there n) (row-rest n h)))
+    let fit = left (narrow n) (there n) (row-rest n h) in
+    (eqb-true (getD lengths n 0) (length (word n)) (row-long n h), leb-true (getD lengths n 0) 16 fit)
 
 row-text : (n : ℕ) → n ≤ 22 → take (length (ascii (refusalWord n))) (drop (16 * n) rows) ≡ ascii (refusalWord n)
 unfolding there word
@@ -115,5 +126,6 @@ put-row number n k e f {l} {l′} {at} {r} p =
     let few : n ≤ 22 = omega arith in
     let size : 16 * n + k - 16 * n ≡ length (ascii (refusalWord n)) = omega arith in
     let same-word : refusalWord n ≡ refusalWord number = rw e (last number) in
-    let text : take (16 * n + k - 16 * n) (drop (16 * n) rows) ≡ ascii (refusalWord number) = rw size (row-text n few ∙ ap ascii same-word) in
+    let found : take (16 * n + k - 16 * n) (drop (16 * n) rows) ≡ ascii (refusalWord n) = rw size (row-text n few) in
+    let text : take (16 * n + k - 16 * n) (drop (16 * n) rows) ≡ ascii (refusalWord number) = found ∙ ap ascii same-word in
     rw text at p

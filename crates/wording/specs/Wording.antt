@@ -1,5 +1,5 @@
--- The words of the answers, in the order of the format's tables. An answer is a list of texts that are put one after the other. What
--- stands in quotation marks is the format's. Assumes nothing.
+-- The words of the answers, in the order of the format's tables. An answer is a list of texts that are put one after the other.
+-- What stands in quotation marks is the format's. Assumes nothing.
 use Prim.Native.Nat.{ℕ, _+_, _%_}
 use Prim.Native.String.{String}
 use mathlib.Core.Bool.{Bool, true, false, cond}
@@ -27,9 +27,9 @@ lineFeed = 10 ∷ []
 -- "WORD is the trade's word of 01's table or of 02, as `not awaited`; `capture number` for 20": the words of 0 to 21
 unfoldable pub refusalWords : List String
 refusalWords =
-    "record" ∷ "no frame" ∷ "opcode" ∷ "frame length" ∷ "address" ∷ "short output" ∷ "busy" ∷ "calendar" ∷ "not initialised" ∷ "set-up"
-    ∷ "not awaited" ∷ "word count" ∷ "span" ∷ "off the table" ∷ "bad table" ∷ "supply off" ∷ "flash address" ∷ "not erased" ∷ "width"
-    ∷ "short buffer" ∷ "capture number" ∷ "short output" ∷ []
+    "record" ∷ "no frame" ∷ "opcode" ∷ "frame length" ∷ "address" ∷ "short output" ∷ "busy" ∷ "calendar"
+    ∷ "not initialised" ∷ "set-up" ∷ "not awaited" ∷ "word count" ∷ "span" ∷ "off the table" ∷ "bad table" ∷ "supply off"
+    ∷ "flash address" ∷ "not erased" ∷ "width" ∷ "short buffer" ∷ "capture number" ∷ "short output" ∷ []
 
 -- no call answers a number past these
 unfoldable pub refusalWord : ℕ → String
@@ -97,7 +97,8 @@ kindReports report failed started = reportedWhere (report .failed) failed ++ rep
 -- whether nothing happened
 unfoldable pub quiet : Report → Report → Bool
 quiet flight temperature =
-    cond (flight .started) false (cond (flight .failed) false (cond (temperature .started) false (cond (temperature .failed) false true)))
+    cond (flight .started) false
+    (cond (flight .failed) false (cond (temperature .started) false (cond (temperature .failed) false true)))
 
 -- "`tick N`, then ` WHAT@I` for each thing that the I-th of these ticks reported", of one tick
 unfoldable pub ticked : Report → Report → Texts

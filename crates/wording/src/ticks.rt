@@ -2,7 +2,9 @@
 ghost use mathlib.Core.Path.{_≡_};
 ghost use lib.Dec.{eqb};
 ghost use Rattle.wording.specs.Text.{PutEach};
-ghost use Rattle.wording.specs.Wording.{quiet as Wording·quiet, reportedWhere, kindReports, ticked, single, reportAt, tickReports, sooner as Wording·sooner, nextNamed, noTick, laterNamed, named, stretched};
+ghost use Rattle.wording.specs.Wording.{quiet as Wording·quiet, reportedWhere, kindReports, ticked, single};
+ghost use Rattle.wording.specs.Wording.{reportAt, tickReports, sooner as Wording·sooner, nextNamed, noTick};
+ghost use Rattle.wording.specs.Wording.{laterNamed, named, stretched};
 use device::Answer;
 use device::Report;
 use device::StretchReport;

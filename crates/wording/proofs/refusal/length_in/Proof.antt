@@ -1,7 +1,9 @@
 -- `wording::refusal::length_in` meets its contract.
 -- Assumes nothing.
 use borrow.Author.Needs.{needs}
-use Rattle.wording.proofs.Words.{row-length}
+use Rattle.wording.proofs.Words.{lengthsOf, lengths, row-length}
+use Rattle.wording.specs.Text.{ascii}
+use Rattle.wording.specs.Wording.{refusalWords}
 use Rattle.wording.proofs.refusal.length_in.Statement.{statement}
 use Rattle.wording.proofs.refusal.length_in.Tie as tie
 
@@ -12,6 +14,7 @@ array-read-result : tie.Need-array-read-result
 array-read-result c = search needs
 
 returns : tie.Need-returns
+unfolding lengths lengthsOf ascii refusalWords
 returns c = row-length _ (c .pre)
 
 pub length-in-spec : {M : Type 1} → statement M

@@ -1,8 +1,9 @@
 -- `wording::refusal::put_word` meets its contract.
 -- Assumes nothing.
 use borrow.Author.Needs.{needs}
-use Rattle.wording.proofs.Words.{rows, put-row}
+use Rattle.wording.proofs.Words.{rowsOf, rows, put-row}
 use Rattle.wording.specs.Text.{ascii}
+use Rattle.wording.specs.Wording.{refusalWords}
 use Rattle.wording.proofs.refusal.put_word.Statement.{statement}
 use Rattle.wording.proofs.refusal.put_word.Tie as tie
 
@@ -37,7 +38,7 @@ same-length : tie.Need-same-length
 same-length c = search needs
 
 returns : tie.Need-returns
-unfolding rows ascii
+unfolding rows rowsOf ascii refusalWords
 returns c = put-row (c .before .before .before .before .before .before .before .before .before .args .number) _ _ (c .before .before .before .before .before .before .before .row-of .ensures .0) (c .before .before .before .before .before .before .length-in .ensures .0) (c .before .before .put-text .ensures)
 
 pub put-word-spec : {M : Type 1} → statement M

@@ -1,23 +1,12 @@
 // The calls of the MAX35101 model. Each takes any model and any input; a refusal changes nothing.
 ghost use mathlib.Core.Path.{_≡_};
-ghost use mathlib.Core.Bool.{true};
-ghost use Prim.Native.Nat.{_≤_};
-ghost use Rattle.device.specs.Model.{freshModel, isSound};
-ghost use Rattle.device.specs.StretchSteps.{quietFor};
+ghost use Rattle.device.specs.Model.{freshModel};
 ghost use Rattle.device.specs.Call.{Call};
-ghost use Rattle.device.specs.Reply.{reply};
-pub use bus::transaction;
-use delivery::flight_miscounted;
-use delivery::flight_reply;
-use delivery::temperature_reply;
-use device::Answer;
+ghost use Rattle.device.specs.Reply.{reply, output, memory};
+use bus::sound_transaction;
 use device::Model;
 use device::Reply;
-use device::Report;
-use model::refusal::NOT_AWAITED;
 use model::refusal::NOT_SOUND;
-use model::refusal::SPAN;
-use model::refusal::WORD_COUNT;
 use model::reply::refuse;
 use model::state::fresh_with;
 use model::state::is_sound;
@@ -26,13 +15,11 @@ pub use question::interrupt_pending;
 pub use question::peek;
 pub use question::regulator_on;
 pub use question::temperature_awaited;
-use schedule::is_awaited;
+use sound_calls::sound_flight_delivery;
+use sound_calls::sound_stretch;
+use sound_calls::sound_temperature_delivery;
+use sound_calls::sound_tick;
 use status::por_bit;
-use ticking::stretch::LONGEST;
-use ticking::stretch::next_is_quiet;
-use ticking::stretch::quiet_tick;
-use ticking::tick::report_of;
-use ticking::tick::tick_model;
 
 pub fn fresh() -> Model
     ensures { λ r. ⌜ r ≡ freshModel ⌝ }
@@ -40,46 +27,24 @@ pub fn fresh() -> Model
     fresh_with(por_bit())
 }
 
+// One bus transaction: the bytes of a chip-enable window, the output buffer, and the user flash.
+pub fn transaction(m: Model, frame: &[u8], out: &mut [u8], mem: &mut [u8]) -> Reply
+    ensures { λ r. ⌜ (r ≡ reply m (Call.transaction (now (frame .entry)) (now (out .entry)) (now (mem .entry)))) × (now (out .exit) ≡ output m (Call.transaction (now (frame .entry)) (now (out .entry)) (now (mem .entry)))) × (now (mem .exit) ≡ memory m (Call.transaction (now (frame .entry)) (now (out .entry)) (now (mem .entry)))) ⌝ }
+{
+    if is_sound(m) {
+        return sound_transaction(m, frame, out, mem);
+    }
+    refuse(m, NOT_SOUND)
+}
+
 // One period of the 32,768 Hz clock.
 pub fn tick(m: Model) -> Reply
     ensures { λ r. ⌜ r ≡ reply m Call.tick ⌝ }
 {
     if is_sound(m) {
-        if next_is_quiet(m) {
-            return quiet_reply(m);
-        }
-        return tick_reply(m);
+        return sound_tick(m);
     }
     refuse(m, NOT_SOUND)
-}
-
-// Nothing happens in it.
-fn quiet_reply(m: Model) -> Reply
-    requires { ⌜ (isSound m ≡ true) × (1 ≤ quietFor m) ⌝ }
-    ensures { λ r. ⌜ r ≡ reply m Call.tick ⌝ }
-{
-    let none = Report {
-        started: false,
-        failed: false,
-    };
-    let model = quiet_tick(m);
-    Reply {
-        answer: Answer::Ticked(none, none),
-        model,
-    }
-}
-
-fn tick_reply(m: Model) -> Reply
-    requires { ⌜ isSound m ≡ true ⌝ }
-    ensures { λ r. ⌜ r ≡ reply m Call.tick ⌝ }
-{
-    let flight = m.flight;
-    let temperature = m.temperature;
-    let f = flight.schedule;
-    let t = temperature.schedule;
-    let answer = Answer::Ticked(report_of(f), report_of(t));
-    let model = tick_model(m);
-    Reply { answer, model }
 }
 
 // n such periods at once, at most 16,384.
@@ -87,17 +52,7 @@ pub fn stretch(m: Model, n: u32) -> Reply
     ensures { λ r. ⌜ r ≡ reply m (Call.stretch n) ⌝ }
 {
     if is_sound(m) {
-        if LONGEST < n {
-            return refuse(m, SPAN);
-        }
-        let end = ticking::stretch::run(m, n);
-        let flight = end.flight;
-        let temperature = end.temperature;
-        let model = end.model;
-        return Reply {
-            answer: Answer::Stretched(flight, temperature),
-            model,
-        };
+        return sound_stretch(m, n);
     }
     refuse(m, NOT_SOUND)
 }
@@ -107,17 +62,7 @@ pub fn flight_delivery(m: Model, up: &[u32], down: &[u32]) -> Reply
     ensures { λ r. ⌜ r ≡ reply m (Call.flight (now (up .entry)) (now (down .entry))) ⌝ }
 {
     if is_sound(m) {
-        let f = m.flight;
-        let setup = m.setup;
-        let k = f.schedule;
-        if is_awaited(k) {
-            let hits = setup::hit_count(setup);
-            if flight_miscounted(f, hits, up.len(), down.len()) {
-                return refuse(m, WORD_COUNT);
-            }
-            return flight_reply(m, up, down);
-        }
-        return refuse(m, NOT_AWAITED);
+        return sound_flight_delivery(m, up, down);
     }
     refuse(m, NOT_SOUND)
 }
@@ -127,15 +72,7 @@ pub fn temperature_delivery(m: Model, words: &[u32]) -> Reply
     ensures { λ r. ⌜ r ≡ reply m (Call.temperature (now (words .entry))) ⌝ }
 {
     if is_sound(m) {
-        let t = m.temperature;
-        let k = t.schedule;
-        if is_awaited(k) {
-            if words.len() == 4 {
-                return temperature_reply(m, words);
-            }
-            return refuse(m, WORD_COUNT);
-        }
-        return refuse(m, NOT_AWAITED);
+        return sound_temperature_delivery(m, words);
     }
     refuse(m, NOT_SOUND)
 }

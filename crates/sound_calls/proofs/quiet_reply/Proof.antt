@@ -2,8 +2,8 @@
 use Rattle.device.proofs.Replies.{reply-tick}
 use Rattle.device.proofs.Quiet.{quiet-flight, quiet-temperature}
 use borrow.Author.Needs.{needs}
-use Rattle.converter.proofs.quiet_reply.Statement.{statement}
-use Rattle.converter.proofs.quiet_reply.Tie as tie
+use Rattle.sound_calls.proofs.quiet_reply.Statement.{statement}
+use Rattle.sound_calls.proofs.quiet_reply.Tie as tie
 
 quiet-tick-requires : tie.Need-quiet-tick-requires
 quiet-tick-requires c κs = search needs

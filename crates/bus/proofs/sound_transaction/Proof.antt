@@ -1,11 +1,11 @@
--- `converter::transaction` meets its contract.
+-- `converter::sound_transaction` meets its contract.
 use Rattle.device.specs.Call.{transaction}
 use Rattle.device.specs.Reply.{reply, output, memory, bufferOf, memoryOf}
 use Rattle.device.specs.Parts.{wordsReply, flashFrameOutput, flashFrameMemory}
 use Rattle.device.specs.Model.{isSound}
 use Rattle.device.specs.declared.Model.{Model}
 use Rattle.frame.specs.Decoding.{decodeFrame}
-use Rattle.device.proofs.Decode.{tail-whole, read-fits, frame-fits, reply-empty, reply-command, reply-other, reply-unsound}
+use Rattle.device.proofs.Decode.{tail-whole, read-fits, frame-fits, reply-empty, reply-command, reply-other}
 use Rattle.frame.proofs.Decoded.{the-type}
 use Rattle.frame.specs.declared.Decoded.{Decoded}
 use Rattle.frame.specs.declared.Decoded.the-variants.{Command, Read, Write, Flash, Refusal}
@@ -19,8 +19,8 @@ use mathlib.Core.Path.{_≡_, sym, _∙_}
 use native.Mathlib.Omega.{arith}
 use Prim.Native.Nat.{ℕ}
 use borrow.Author.Needs.{needs}
-use Rattle.bus.proofs.transaction.Statement.{statement}
-use Rattle.bus.proofs.transaction.Tie as tie
+use Rattle.bus.proofs.sound_transaction.Statement.{statement}
+use Rattle.bus.proofs.sound_transaction.Tie as tie
 
 -- a frame that is no command, with the bytes after its opcode as a slice has them
 rest :
@@ -42,17 +42,14 @@ not-a-command (Write op n) h o e = let z : _≡_ {A = ℕ} 0 1 = cc in omega ari
 not-a-command (Flash op) h o e = let z : _≡_ {A = ℕ} 0 1 = cc in omega arith
 not-a-command (Refusal n) h o e = let z : _≡_ {A = ℕ} 0 1 = cc in omega arith
 
-is-sound-requires : tie.Need-is-sound-requires
-is-sound-requires c κs = search needs
-
 refuse-requires : tie.Need-refuse-requires
 refuse-requires c κs = search needs
 
 returns : tie.Need-returns
 returns c =
-    let start = c .before .before .before .before .before .before .before .args in
-    let s : isSound (start .m) ≡ true = sym (c .before .before .before .is-sound .ensures) ∙ c .before .before .if1 .taken in
-    let r = reply-empty (start .m) (now (start .frame)) (now (start .out)) (now (start .mem)) s (c .before .if2 .taken) in
+    let start = c .before .before .before .before .before .args in
+    let s : isSound (start .m) ≡ true = c .before .before .before .before .before .pre in
+    let r = reply-empty (start .m) (now (start .frame)) (now (start .out)) (now (start .mem)) s (c .before .if1 .taken) in
     (c .refuse .ensures ∙ r .0, r .1, r .2)
 
 decode-frame-requires : tie.Need-decode-frame-requires
@@ -72,10 +69,10 @@ part-words-reply-end c = search needs
 
 words-reply-requires : tie.Need-words-reply-requires
 words-reply-requires c κs =
-    let start = c .before .before .before .before .before .before .before .before .before .before .before .args in
+    let start = c .before .before .before .before .before .before .before .before .before .args in
     let f = now (start .frame) in
     let room : ℕ = length (now (start .out)) in (
-      sym (c .before .before .before .before .before .before .before .is-sound .ensures) ∙ c .before .before .before .before .before .before .if1 .taken,
+      c .before .before .before .before .before .before .before .before .before .pre,
       rw (c .before .before .before .before .decode-frame .ensures) (read-fits f room),
       rw (c .before .before .before .before .decode-frame .ensures, ← tail-whole f, length-drop) (frame-fits f room),
     )
@@ -88,12 +85,12 @@ same-length-2 c = search needs
 
 returns-2 : tie.Need-returns-2
 returns-2 c =
-    let start = c .before .before .before .before .before .before .before .before .before .before .before .before .before .before .before .before .args in
+    let start = c .before .before .before .before .before .before .before .before .before .before .before .before .before .before .args in
     let m = start .m in
     let f = now (start .frame) in
     let o = now (start .out) in
     let x = now (start .mem) in
-    let s : isSound m ≡ true = sym (c .before .before .before .before .before .before .before .before .before .before .before .before .is-sound .ensures) ∙ c .before .before .before .before .before .before .before .before .before .before .before .if1 .taken in
+    let s : isSound m ≡ true = c .before .before .before .before .before .before .before .before .before .before .before .before .before .before .pre in
     let d = c .before .before .before .before .before .before .before .before .before .decode-frame in
     let w = c .before .before .before .before .words-reply .ensures in
     let r = rest m f o x s _ _ (tail-whole f) (sym (d .ensures)) (not-a-command _ (c .before .before .before .before .before .before .before .before .match .keys2)) in
@@ -104,28 +101,16 @@ command-reply-requires c κs = search needs
 
 returns-3 : tie.Need-returns-3
 returns-3 c =
-    let start = c .before .before .before .before .before .before .before .before .before .before .before .args in
-    let s : isSound (start .m) ≡ true = sym (c .before .before .before .before .before .before .before .is-sound .ensures) ∙ c .before .before .before .before .before .before .if1 .taken in
+    let start = c .before .before .before .before .before .before .before .before .before .args in
+    let s : isSound (start .m) ≡ true = c .before .before .before .before .before .before .before .before .before .pre in
     let k = c .before .before .d .given in
     let r = reply-command (start .m) (now (start .frame)) (now (start .out)) (now (start .mem)) s (k .0 .0) (sym (c .before .before .before .before .decode-frame .ensures) ∙ k .1) in
     (c .command-reply .ensures ∙ r .0, r .1, r .2)
 
-refuse-requires-2 : tie.Need-refuse-requires-2
-refuse-requires-2 c κs = search needs
-
-returns-4 : tie.Need-returns-4
-unfolding bufferOf memoryOf
-returns-4 c =
-    let start = c .before .before .before .before .before .before .args in
-    let e : isSound (start .m) ≡ false = sym (c .before .before .is-sound .ensures) ∙ c .before .if1 .left in
-    let r = reply-unsound (start .m) (transaction (now (start .frame)) (now (start .out)) (now (start .mem))) e in
-    (c .refuse2 .ensures ∙ r .0, r .1, r .2)
-
-pub transaction-spec : {M : Type 1} → statement M
-transaction-spec =
+pub sound-transaction-spec : {M : Type 1} → statement M
+sound-transaction-spec =
     tie.close
     (tie.spec
-    is-sound-requires
     refuse-requires
     returns
     decode-frame-requires
@@ -138,6 +123,4 @@ transaction-spec =
     same-length-2
     returns-2
     command-reply-requires
-    returns-3
-    refuse-requires-2
-    returns-4)
+    returns-3)

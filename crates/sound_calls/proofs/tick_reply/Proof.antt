@@ -1,8 +1,8 @@
 -- `converter::tick_reply` meets its contract.
 use Rattle.device.proofs.Replies.{reply-tick}
 use borrow.Author.Needs.{needs}
-use Rattle.converter.proofs.tick_reply.Statement.{statement}
-use Rattle.converter.proofs.tick_reply.Tie as tie
+use Rattle.sound_calls.proofs.tick_reply.Statement.{statement}
+use Rattle.sound_calls.proofs.tick_reply.Tie as tie
 
 report-of-requires : tie.Need-report-of-requires
 report-of-requires c κs = search needs

@@ -98,7 +98,8 @@ unfoldable pub runs : Kind → ℕ → Bool
 runs k op = either (eqb op 0x07) (eqb op (byKind k 0x08 0x09))
 
 -- What an answer with reports says: of a command's starts, of a tick, of a stretch; of another answer, the value given first
-abbrev pub onReport : {A : Type 0} → Answer → A → (Bool → Bool → A) → (Report → Report → A) → (StretchReport → StretchReport → A) → A
+abbrev pub onReport :
+    {A : Type 0} → Answer → A → (Bool → Bool → A) → (Report → Report → A) → (StretchReport → StretchReport → A) → A
 onReport (Refused n) other byCommand byTick byStretch = other
 onReport (Accepted f t) other byCommand byTick byStretch = byCommand f t
 onReport (Ticked f t) other byCommand byTick byStretch = byTick f t

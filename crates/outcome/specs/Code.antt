@@ -1,8 +1,9 @@
 -- What a call of the library returns: a number for its answer, the answer's words in a lent buffer, the model in its bytes.
 use Prim.Native.Nat.{ℕ}
+use mathlib.Core.Bool.{Bool, true, false}
 use mathlib.Core.Path.{_≡_}
 use mathlib.Core.List.{List, [], _∷_}
-use lib.ListN.{length, take, drop}
+use lib.ListN.{length, set, take, drop}
 use lib.Dec.{eqb}
 use lib.IntN.{ℤ}
 use lib.Seq.{sets}

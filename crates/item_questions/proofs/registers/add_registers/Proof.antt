@@ -1,39 +1,49 @@
+-- `item_questions::registers::add_registers` meets its contract: a line more in each turn.
+-- Assumes nothing.
 use borrow.Author.Needs.{needs}
-use Prim.Native.Nat.{_≤_, _-_}
+use Prim.Native.Nat.{_+_, _-_, _*_, _≤_}
+use mathlib.Core.Path.{_≡_, refl}
 use lib.ListN.{length}
-use mathlib.Core.Path.{_≡_}
+use Rattle.numeral.specs.Place.{putEach}
+use Rattle.item_questions.specs.Answers.{rows, registers}
+use Rattle.item_questions.proofs.Steps.{rows-on, rows-end}
 use Rattle.item_questions.proofs.registers.add_registers.Statement.{statement}
 use Rattle.item_questions.proofs.registers.add_registers.Tie as tie
-use Rattle.item_questions.proofs.registers.add_registers.Reads as reads
-use Rattle.item_questions.proofs.registers.add_registers.Lts as lts
-use Rattle.item_questions.proofs.registers.add_row.Reads as add-row-reads
 
 abbrev Inv-loop : tie.InvT-loop
-Inv-loop answers₀ at m place₀ a₀ answers place a = (a ≤ 263) × (length answers ≡ length answers₀)
+Inv-loop answers₀ at m place₀ i₀ answers place i =
+    (i ≤ 10) × (length answers ≡ length answers₀) × (putEach answers place (rows m (176 + 8 * i) (10 - i)) ≡ putEach answers₀ at (registers m))
 
 abbrev μ-loop : tie.MeasureT-loop
-μ-loop answers₀ at m place₀ a₀ answers place a = 256 - a
+μ-loop answers₀ at m place₀ i₀ answers place i = 10 - i
 
 loop-holds : tie.Need-loop-holds Inv-loop μ-loop
-loop-holds c = search needs
+unfolding registers
+loop-holds c = (search needs, refl, refl)
+
+mul-add-row : tie.Need-mul-add-row Inv-loop μ-loop
+mul-add-row c = search needs
+
+add-add-row : tie.Need-add-add-row Inv-loop μ-loop
+add-add-row c = search needs
 
 add-row-requires : tie.Need-add-row-requires Inv-loop μ-loop
 add-row-requires c κs = search needs
 
-add-a : tie.Need-add-a Inv-loop μ-loop
-add-a c = search needs
+add-i : tie.Need-add-i Inv-loop μ-loop
+add-i c = search needs
 
 loop-less : tie.Need-loop-less Inv-loop μ-loop
 loop-less c = search needs
 
 loop-again : tie.Need-loop-again Inv-loop μ-loop
-loop-again c = search needs
+loop-again c = (search needs, search needs, rows-on (c .before .before .before .before .before .before .before .args .m) (c .before .before .before .before .before .loop .i) (c .before .before .before .before .loop-test .taken) (c .before .before .add-row .ensures) (c .before .before .before .before .before .loop .inv .2))
 
 same-length : tie.Need-same-length Inv-loop μ-loop
 same-length c = search needs
 
 returns : tie.Need-returns Inv-loop μ-loop
-returns c = search needs
+returns c = rows-end (c .before .before .before .args .m) (c .before .loop .i) (c .loop-test .left) (c .before .loop .inv .2)
 
 pub add-registers-spec : {M : Type 1} → statement M
 add-registers-spec =
@@ -42,8 +52,10 @@ add-registers-spec =
     Inv-loop
     μ-loop
     loop-holds
+    mul-add-row
+    add-add-row
     add-row-requires
-    add-a
+    add-i
     loop-less
     loop-again
     same-length

@@ -1,0 +1,78 @@
+-- `item_questions::registers::add_awaited` meets its contract.
+-- Assumes nothing.
+use borrow.Author.Needs.{needs}
+use Rattle.wording.specs.Text.{ascii}
+use Rattle.item_questions.specs.Answers.{awaited}
+use Rattle.wording.proofs.Each.{put-one, put-first}
+use Rattle.item_questions.proofs.registers.add_awaited.Statement.{statement}
+use Rattle.item_questions.proofs.registers.add_awaited.Tie as tie
+
+slice-aggregate-put-text : tie.Need-slice-aggregate-put-text
+slice-aggregate-put-text c = search needs
+
+put-text-requires : tie.Need-put-text-requires
+put-text-requires c κs = search needs
+
+flight-awaited-requires : tie.Need-flight-awaited-requires
+flight-awaited-requires c κs = search needs
+
+value-requires : tie.Need-value-requires
+value-requires c κs = search needs
+
+cast-put-decimal : tie.Need-cast-put-decimal
+cast-put-decimal c = search needs
+
+put-decimal-requires : tie.Need-put-decimal-requires
+put-decimal-requires c κs = search needs
+
+slice-aggregate-put-text-2 : tie.Need-slice-aggregate-put-text-2
+slice-aggregate-put-text-2 c = search needs
+
+put-text-requires-2 : tie.Need-put-text-requires-2
+put-text-requires-2 c κs = search needs
+
+temperature-awaited-requires : tie.Need-temperature-awaited-requires
+temperature-awaited-requires c κs = search needs
+
+value-requires-2 : tie.Need-value-requires-2
+value-requires-2 c κs = search needs
+
+cast-put-decimal-2 : tie.Need-cast-put-decimal-2
+cast-put-decimal-2 c = search needs
+
+put-decimal-requires-2 : tie.Need-put-decimal-requires-2
+put-decimal-requires-2 c κs = search needs
+
+slice-aggregate-put-text-3 : tie.Need-slice-aggregate-put-text-3
+slice-aggregate-put-text-3 c = search needs
+
+put-text-requires-3 : tie.Need-put-text-requires-3
+put-text-requires-3 c κs = search needs
+
+same-length : tie.Need-same-length
+same-length c = search needs
+
+returns : tie.Need-returns
+unfolding ascii awaited
+returns c = rw (← c .before .before .before .before .before .before .before .before .before .before .before .before .before .before .before .before .before .before .before .before .flight-awaited .ensures, ← c .before .before .before .before .before .before .before .before .before .before .before .before .before .before .before .before .before .before .before .value .ensures, ← c .before .before .before .before .before .before .before .before .before .temperature-awaited .ensures, ← c .before .before .before .before .before .before .before .before .value2 .ensures) (put-first (c .before .before .before .before .before .before .before .before .before .before .before .before .before .before .before .before .before .before .before .before .before .before .before .before .put-text .ensures) (put-first (c .before .before .before .before .before .before .before .before .before .before .before .before .before .before .before .before .before .before .put-decimal .ensures) (put-first (c .before .before .before .before .before .before .before .before .before .before .before .before .before .put-text2 .ensures) (put-first (c .before .before .before .before .before .before .before .put-decimal2 .ensures) (put-one (c .before .before .put-text3 .ensures))))))
+
+pub add-awaited-spec : {M : Type 1} → statement M
+add-awaited-spec =
+    tie.close
+    (tie.spec
+    slice-aggregate-put-text
+    put-text-requires
+    flight-awaited-requires
+    value-requires
+    cast-put-decimal
+    put-decimal-requires
+    slice-aggregate-put-text-2
+    put-text-requires-2
+    temperature-awaited-requires
+    value-requires-2
+    cast-put-decimal-2
+    put-decimal-requires-2
+    slice-aggregate-put-text-3
+    put-text-requires-3
+    same-length
+    returns)

@@ -1,0 +1,56 @@
+-- `item_questions::registers::add_interrupt` meets its contract.
+-- Assumes nothing.
+use borrow.Author.Needs.{needs}
+use borrow.Author.Tests.{eq-eqb, ne-eqb}
+use Rattle.wording.specs.Text.{ascii}
+use Rattle.item_questions.specs.Answers.{interrupt}
+use Rattle.wording.proofs.Each.{put-one}
+use Rattle.item_questions.proofs.registers.add_interrupt.Statement.{statement}
+use Rattle.item_questions.proofs.registers.add_interrupt.Tie as tie
+
+interrupt-pending-requires : tie.Need-interrupt-pending-requires
+interrupt-pending-requires c κs = search needs
+
+value-requires : tie.Need-value-requires
+value-requires c κs = search needs
+
+slice-aggregate-put-text : tie.Need-slice-aggregate-put-text
+slice-aggregate-put-text c = search needs
+
+put-text-requires : tie.Need-put-text-requires
+put-text-requires c κs = search needs
+
+slice-aggregate-put-text-2 : tie.Need-slice-aggregate-put-text-2
+slice-aggregate-put-text-2 c = search needs
+
+put-text-requires-2 : tie.Need-put-text-requires-2
+put-text-requires-2 c κs = search needs
+
+same-length : tie.Need-same-length
+same-length c = search needs
+
+returns : tie.Need-returns
+unfolding ascii interrupt
+returns c = rw (← c .before .before .before .before .before .before .before .interrupt-pending .ensures, ← c .before .before .before .before .before .before .value .ensures, eq-eqb _ _ (c .before .before .before .before .before .if1 .taken)) (put-one (c .before .before .put-text .ensures))
+
+same-length-2 : tie.Need-same-length-2
+same-length-2 c = search needs
+
+returns-2 : tie.Need-returns-2
+unfolding ascii interrupt
+returns-2 c = rw (← c .before .before .before .before .before .before .before .interrupt-pending .ensures, ← c .before .before .before .before .before .before .value .ensures, ne-eqb _ _ (c .before .before .before .before .before .if1 .left)) (put-one (c .before .before .put-text2 .ensures))
+
+pub add-interrupt-spec : {M : Type 1} → statement M
+add-interrupt-spec =
+    tie.close
+    (tie.spec
+    interrupt-pending-requires
+    value-requires
+    slice-aggregate-put-text
+    put-text-requires
+    slice-aggregate-put-text-2
+    put-text-requires-2
+    same-length
+    returns
+    same-length-2
+    returns-2)

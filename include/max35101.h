@@ -8,7 +8,8 @@
  * makes one. The bytes are the same on every machine.
  *
  * Every call returns the number of a refusal (0 to 22, below), or
- * MAX35101_ACCEPTED. A refusal changes no buffer. No call fails in another
+ * MAX35101_ACCEPTED, but for max35101_run, which returns how many calls of a
+ * list were done. A refusal changes no buffer. No call fails in another
  * way: any bytes and any numbers get an answer, no call keeps anything
  * between calls, allocates, or touches a byte outside the buffers lent to it.
  *
@@ -110,6 +111,39 @@ uint32_t max35101_flight_delivery(uint8_t *model, size_t model_size,
 uint32_t max35101_temperature_delivery(uint8_t *model, size_t model_size,
                                        const uint32_t *words, size_t word_count,
                                        uint32_t *answer, size_t answer_count);
+
+/*
+ * A list of calls, one after the other, each accepted or refused as by itself:
+ * what the calls above do, with the model loaded and stored once.
+ *
+ * A call is three words of `calls`: its kind, below, and two sizes. The frames
+ * lie one behind the other in `frames`, the words of deliveries in `hits` (up
+ * before down), the outputs of transactions in `output`, each as many as its
+ * call says. A rest of one or two words is no call. `flash` is the user flash,
+ * as in max35101_transaction.
+ *
+ * The answer to each call is five words of `answers`: what the call above
+ * returns, and behind it the words of its answer, as into a buffer of four.
+ *
+ * Returns how many calls were done: all, or those before the first that is of
+ * no kind below or for which frames, hits, output or answers have too little
+ * left. That one and those behind it are not done, and their parts of the
+ * buffers stay as they are.
+ */
+enum max35101_kind {
+    MAX35101_TRANSACTION = 0, /* bytes of the frame, bytes of its output */
+    MAX35101_TICK = 1,        /* both sizes are not looked at */
+    MAX35101_STRETCH = 2,     /* ticks; the second is not looked at */
+    MAX35101_FLIGHT = 3,      /* words up, words down */
+    MAX35101_TEMPERATURE = 4  /* words; the second is not looked at */
+};
+size_t max35101_run(uint8_t *model, size_t model_size,
+                    const uint32_t *calls, size_t call_words,
+                    const uint8_t *frames, size_t frames_size,
+                    const uint32_t *hits, size_t hit_count,
+                    uint8_t *output, size_t output_size,
+                    uint8_t *flash, size_t flash_size,
+                    uint32_t *answers, size_t answer_words);
 
 /* Questions, which change nothing. answer: { 1 for yes, 0 for no }. */
 uint32_t max35101_interrupt_pending(const uint8_t *model, size_t model_size,

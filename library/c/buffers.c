@@ -63,6 +63,36 @@ static void calls_on(size_t size, size_t n, size_t m)
     free(model), free(frame), free(output), free(flash), free(words), free(down), free(answer);
 }
 
+/* Lists: of transactions of no bytes, of a call that is none, and of one that asks for more than there is. */
+static void lists_on(size_t size, size_t n, size_t m)
+{
+    int fresh = size == MAX35101_MODEL_SIZE;
+    uint8_t *model = model_of(size, fresh), *frames = elements(n, 1, 0xFE);
+    uint8_t *output = elements(m, 1, 0xEE), *flash = elements(m, 1, 0xFF);
+    uint32_t *calls = elements(n, 4, 0), *hits = elements(n, 4, 1), *answers = elements(m, 4, 7);
+    size_t all = n / 3 < m / 5 ? n / 3 : m / 5, right = 0;
+    size_t done = max35101_run(model, size, calls, n, frames, n, hits, n, output, m, flash, m, answers, m);
+    for (size_t i = 0; i < all; ++i)
+        right += answers[5 * i] == (fresh ? 1u : 0u) && answers[5 * i + 1] == 0x07070707u;
+    expect(done == all && right == all, "a list of empty transactions");
+    for (uint32_t kind = 0; n >= 3 && kind < 7; ++kind) {
+        calls[0] = kind, calls[1] = calls[2] = UINT32_MAX;
+        done = max35101_run(model, size, calls, n, frames, n, hits, n, output, m, flash, m, answers, m);
+        expect(done == (kind == MAX35101_TICK || kind == MAX35101_STRETCH ? all : 0), "a call that does not fit");
+    }
+    if (n >= 3 && m >= 5) {
+        uint32_t read[3] = {MAX35101_TRANSACTION, 3, 2}, hit[3] = {MAX35101_FLIGHT, 1, 2};
+        done = max35101_run(model, size, read, 3, frames, n, NULL, 0, output, m, NULL, 0, answers, m);
+        expect(done == 1 && answers[0] == (fresh ? MAX35101_ACCEPTED : 0), "a read in a list");
+        expect(output[1] == (fresh ? 0x04 : 0xEE), "its output");
+        done = max35101_run(model, size, hit, 3, NULL, 0, hits, 3, NULL, 0, NULL, 0, answers, 5);
+        expect(done == 1 && answers[0] == (fresh ? 10u : 0u), "a delivery in a list");
+        done = max35101_run(model, size, hit, 3, NULL, 0, hits, 2, NULL, 0, NULL, 0, answers, 5);
+        expect(done == 0, "a delivery of more words than there are");
+    }
+    free(model), free(frames), free(output), free(flash), free(calls), free(hits), free(answers);
+}
+
 /* Questions, and the set-up's frames. */
 static void questions_on(size_t size, size_t n, size_t m)
 {
@@ -115,6 +145,7 @@ int main(void)
         for (int j = 0; j < LENGTHS; ++j) {
             for (int k = 0; k < LENGTHS; ++k) {
                 calls_on(lengths[i], lengths[j], lengths[k]);
+                lists_on(lengths[i], lengths[j], lengths[k]);
                 questions_on(lengths[i], lengths[j], lengths[k]);
             }
             analysis_on(lengths[i], lengths[j]);

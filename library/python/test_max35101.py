@@ -44,6 +44,40 @@ class Calls(unittest.TestCase):
         self.refused(Refusal.ADDRESS, model.peek, 0x30)
         self.assertEqual(model, Model())
 
+    def test_a_list_is_its_calls_one_after_the_other(self) -> None:
+        calls = max35101.Calls().transaction(b"\2").transaction(bytes.fromhex("381010")).transaction(b"\5")
+        calls.transaction(b"\2").tick().stretch(16385).deliver_flight([0x64], [0x01])
+        calls.transaction(bytes.fromhex("E200000000")).deliver_temperature([1, 2, 3, 4])
+        calls.transaction(b"\2").stretch(8192).transaction(bytes.fromhex("FE0000"), 1).deliver_flight([1], [1])
+        model, single = Model(), Model()
+        self.assertEqual(
+            model.run(calls),
+            [
+                Refusal.NOT_INITIALISED,
+                max35101.Started(False, False, b""),
+                max35101.Started(False, False, b""),
+                max35101.Started(True, False, b""),
+                max35101.Ticked(False, False, False, False),
+                Refusal.SPAN,
+                True,
+                max35101.Started(False, False, b"\0\0\0\x63"),
+                Refusal.NOT_AWAITED,
+                max35101.Started(True, False, b""),
+                max35101.Stretched(0, 8192, 0, 0),
+                Refusal.SHORT_OUTPUT,
+                Refusal.NOT_AWAITED,
+            ],
+        )
+        for frame in ("381010", "05", "02"):
+            single.transaction(bytes.fromhex(frame))
+        single.tick()
+        single.deliver_flight([0x64], [0x01])
+        single.transaction(b"\2")
+        single.stretch(8192)
+        self.assertEqual(model, single)
+        self.assertEqual(model.run(max35101.Calls()), [])
+        self.assertEqual(model, single)
+
     def test_words_out_of_range(self) -> None:
         model = Model()
         for word in (-1, 1 << 32):

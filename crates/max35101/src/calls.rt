@@ -4,14 +4,17 @@ ghost use Rattle.device.specs.Call.{Call};
 ghost use Rattle.device.specs.Reply.{reply, output, memory};
 ghost use Rattle.snapshot.specs.Layout.{loaded};
 ghost use Rattle.outcome.specs.Code.{Settled};
-ghost use Rattle.max35101.specs.Library.{freshCode, freshBytes};
+ghost use Rattle.max35101.specs.Library.{Ran, freshBytes, freshCode};
+use call_list::run;
 use converter::flight_delivery;
 use converter::fresh;
 use converter::stretch;
 use converter::temperature_delivery;
 use converter::tick;
 use converter::transaction;
+use model::state::is_sound;
 use outcome::ACCEPTED;
+use outcome::keep;
 use outcome::settle;
 use snapshot::load;
 use snapshot::store;
@@ -91,4 +94,27 @@ pub extern "C" fn max35101_temperature_delivery(
     let m = load(model);
     let r = temperature_delivery(m, words);
     settle(r, model, answer)
+}
+
+// A list of calls, one after the other, with the model loaded and stored once. How many of them were done.
+#[no_mangle]
+pub extern "C" fn max35101_run(
+    model: &mut [u8],
+    calls: &[u32],
+    frames: &[u8],
+    hits: &[u32],
+    out: &mut [u8],
+    flash: &mut [u8],
+    answers: &mut [u32],
+) -> usize
+    ensures { λ r. ⌜ Ran (now (model .entry)) (now (calls .entry)) (now (frames .entry)) (now (hits .entry)) (now (out .entry)) (now (flash .entry)) (now (answers .entry)) r (now (model .exit)) (now (out .exit)) (now (flash .exit)) (now (answers .exit)) ⌝ }
+{
+    let m = load(model);
+    let p = run(m, calls, frames, hits, out, flash, answers);
+    let place = p.place;
+    if is_sound(m) {
+        keep(p.model, model);
+        return place.calls;
+    }
+    place.calls
 }

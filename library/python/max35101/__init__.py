@@ -20,9 +20,10 @@ import ctypes
 import os
 from enum import IntEnum
 from pathlib import Path
-from typing import Callable, NamedTuple, Sequence
+from typing import Callable, NamedTuple, Sequence, Union
 
 __all__ = [
+    "Calls",
     "FLASH_SIZE",
     "LONGEST_STRETCH",
     "MODEL_SIZE",
@@ -144,6 +145,7 @@ _tick = _function("tick", *_MODEL, *_ANSWER)
 _stretch = _function("stretch", *_MODEL, _WORD, *_ANSWER)
 _flight_delivery = _function("flight_delivery", *_MODEL, *_ANSWER, *_ANSWER, *_ANSWER)
 _temperature_delivery = _function("temperature_delivery", *_MODEL, *_ANSWER, *_ANSWER)
+_run = _function("run", *_MODEL, *_ANSWER, *_MODEL, *_ANSWER, *_MODEL, *_MODEL, *_ANSWER, result=_SIZE)
 _interrupt_pending = _function("interrupt_pending", *_MODEL, *_ANSWER)
 _flight_awaited = _function("flight_awaited", *_MODEL, *_ANSWER)
 _temperature_awaited = _function("temperature_awaited", *_MODEL, *_ANSWER)
@@ -181,6 +183,56 @@ def _differences(values: Sequence[int]) -> ctypes.Array[ctypes.c_int32]:
 
 def _word(word: int) -> int:
     return int(_words([word])[0])
+
+
+def _room(frame: bytes, room: int | None) -> int:
+    """The output's bytes: as said, or as many as the frame asks for."""
+    if room is not None:
+        return room
+    opcode = frame[0] if frame else 0
+    return 2 * ((len(frame) - 1) // 2) if opcode >= 0xB0 else 2 * (opcode == 0x90)
+
+
+class Calls:
+    """Calls in the order in which ``Model.run`` does them; each method adds one and returns the list."""
+
+    def __init__(self) -> None:
+        self._calls: list[tuple[int, int, int]] = []
+        self._frames = bytearray()
+        self._hits: list[int] = []
+
+    def __len__(self) -> int:
+        return len(self._calls)
+
+    def _add(self, kind: int, first: int = 0, second: int = 0) -> Calls:
+        self._calls.append((kind, _word(first), _word(second)))
+        return self
+
+    def transaction(self, frame: bytes, room: int | None = None) -> Calls:
+        """One bus transaction."""
+        self._frames += frame
+        return self._add(0, len(frame), _room(frame, room))
+
+    def tick(self) -> Calls:
+        """One period of the 32,768 Hz clock."""
+        return self._add(1)
+
+    def stretch(self, ticks: int) -> Calls:
+        """So many periods at once."""
+        return self._add(2, ticks)
+
+    def deliver_flight(self, up: Sequence[int], down: Sequence[int]) -> Calls:
+        """The hit words of a flight measurement."""
+        self._hits += _words([*up, *down])
+        return self._add(3, len(up), len(down))
+
+    def deliver_temperature(self, words: Sequence[int]) -> Calls:
+        """The words of a temperature measurement, T1 to T4."""
+        self._hits += _words(words)
+        return self._add(4, len(words))
+
+
+Answer = Union[Started, Ticked, Stretched, bool, Refusal]
 
 
 class Model:
@@ -221,9 +273,7 @@ class Model:
 
     def transaction(self, frame: bytes, room: int | None = None) -> Started:
         """One bus transaction. The output has ``room`` bytes, or as many as the frame asks for."""
-        if room is None:
-            opcode = frame[0] if frame else 0
-            room = 2 * ((len(frame) - 1) // 2) if opcode >= 0xB0 else 2 * (opcode == 0x90)
+        room = _room(frame, room)
         sent = (ctypes.c_uint8 * len(frame)).from_buffer_copy(frame)
         output = (ctypes.c_uint8 * room)()
         answer = (ctypes.c_uint32 * 2)()
@@ -259,6 +309,37 @@ class Model:
         return self._delivered(
             _temperature_delivery(self._bytes, MODEL_SIZE, _words(words), len(words), None, 0)
         )
+
+    def run(self, calls: Calls) -> list[Answer]:
+        """The calls of a list, one after the other: each one's answer, or the refusal, which is not raised."""
+        list_ = _words([word for call in calls._calls for word in call])
+        frames = (ctypes.c_uint8 * len(calls._frames)).from_buffer_copy(calls._frames)
+        hits = _words(calls._hits)
+        rooms = [second if kind == 0 else 0 for kind, _, second in calls._calls]
+        output = (ctypes.c_uint8 * sum(rooms))()
+        answers = (ctypes.c_uint32 * (5 * len(calls)))()
+        done = _run(
+            self._bytes, MODEL_SIZE, list_, len(list_), frames, len(frames), hits, len(hits),
+            output, len(output), self._flash, FLASH_SIZE, answers, len(answers),
+        )  # fmt: skip
+        assert done == len(calls), "a list with room for each call"
+        said, at = [], 0
+        for place, ((kind, _, _), room) in enumerate(zip(calls._calls, rooms)):
+            said.append(self._answer(kind, *answers[5 * place : 5 * place + 5], bytes(output[at : at + room])))
+            at += room
+        return said
+
+    @staticmethod
+    def _answer(kind: int, code: int, a: int, b: int, c: int, d: int, output: bytes) -> Answer:
+        if code == _FAILED:
+            return False
+        if code != _ACCEPTED:
+            return Refusal(code)
+        if kind == 0:
+            return Started(bool(a), bool(b), output)
+        if kind == 1:
+            return Ticked(bool(a), bool(b), bool(c), bool(d))
+        return Stretched(a, b, c, d) if kind == 2 else True
 
     @staticmethod
     def _delivered(code: int) -> bool:

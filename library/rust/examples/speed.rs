@@ -1,10 +1,11 @@
 //! Calls a second through the library and through the second model's own functions, in one process,
-//! side by side; no text on either side. `library/test speed` runs it.
+//! side by side; no text on either side. `library/test speed` runs it. Both sides do as many calls
+//! between two looks at the clock. A list is made beforehand, as the frames of single calls are.
 
 use std::hint::black_box;
 use std::time::{Duration, Instant};
 
-use max35101::Model;
+use max35101::{Answers, Calls, Model};
 use second_model::Model as Second;
 
 const ROUNDS: usize = 15;
@@ -29,7 +30,7 @@ fn row(name: &str, calls: u32, mut ours: impl FnMut(), mut theirs: impl FnMut())
         rate(&mut second, calls, &mut theirs);
     }
     println!(
-        "{name:<28} {:>10.2} {:>10.2} {:>7.2}",
+        "{name:<36} {:>10.2} {:>10.2} {:>7.2}",
         library / 1e6,
         second / 1e6,
         library / second
@@ -37,6 +38,9 @@ fn row(name: &str, calls: u32, mut ours: impl FnMut(), mut theirs: impl FnMut())
 }
 
 const SET_UP: [&[u8]; 3] = [&[0x38, 0x10, 0x10], &[0x40, 0x00, 0x60], &[0x05]];
+
+/// Calls between two looks at the clock.
+const TIMES: u32 = 64;
 
 fn ready() -> (Model, Second) {
     let (mut model, mut second) = (Model::fresh(), Second::fresh());
@@ -47,77 +51,141 @@ fn ready() -> (Model, Second) {
     (model, second)
 }
 
+/// One row by single calls, `calls` each time.
+fn single(name: &str, calls: u32, ours: impl Fn(&mut Model), theirs: impl Fn(&mut Second)) {
+    let (mut model, mut second) = ready();
+    row(
+        name,
+        calls * TIMES,
+        || (0..TIMES).for_each(|_| ours(&mut model)),
+        || (0..TIMES).for_each(|_| theirs(&mut second)),
+    );
+}
+
+/// The same row by lists of `TIMES` such calls.
+fn list(name: &str, calls: u32, add: impl Fn(&mut Calls), theirs: impl Fn(&mut Second)) {
+    let (mut model, mut second) = ready();
+    let (mut list, mut answers) = (Calls::new(), Answers::new());
+    (0..TIMES).for_each(|_| add(&mut list));
+    model.run(&list, &mut [], &mut answers);
+    assert!(answers.iter().all(|(answer, _)| answer.is_ok()), "{name}");
+    row(
+        &format!("{name}, in a list"),
+        calls * TIMES,
+        || {
+            model.run(black_box(&list), &mut [], &mut answers);
+            black_box(&answers);
+        },
+        || (0..TIMES).for_each(|_| theirs(&mut second)),
+    );
+}
+
+const READ: [u8; 17] = [0xB0, 0, 0, 0, 0, 0, 0, 0, 0, 0, 0, 0, 0, 0, 0, 0, 0];
+const WRITE: [u8; 9] = [0x38, 0x10, 0x10, 0x00, 0x01, 0x00, 0x02, 0x00, 0x03];
+
+fn second_tick(second: &mut Second) {
+    black_box(second.tick());
+}
+
+fn second_read(second: &mut Second) {
+    let mut output = [0; 16];
+    black_box(second.transaction(black_box(&READ), &mut output, &mut [])).expect("a read");
+    black_box(output);
+}
+
+fn second_write(second: &mut Second) {
+    black_box(second.transaction(black_box(&WRITE), &mut [], &mut [])).expect("a write");
+}
+
+fn second_difference(second: &mut Second) {
+    second
+        .transaction(black_box(&[0x02]), &mut [], &mut [])
+        .expect("a start");
+    black_box(second.deliver_flight(black_box(&[100]), black_box(&[90]))).expect("a delivery");
+}
+
 fn main() {
     println!(
-        "{:<28} {:>10} {:>10} {:>7}",
+        "{:<36} {:>10} {:>10} {:>7}",
         "million calls a second", "library", "second", "ratio"
     );
-    let (model, _) = ready();
-    let (mut a, mut b) = (model.clone(), ready().1);
-    row(
+    single(
         "tick",
-        64,
-        || {
-            for _ in 0..64 {
-                black_box(a.tick());
-            }
+        1,
+        |model| {
+            black_box(model.tick());
         },
-        || {
-            for _ in 0..64 {
-                black_box(b.tick());
-            }
-        },
+        second_tick,
     );
-    let (mut a, mut b) = (model.clone(), ready().1);
+    single(
+        "read of 8 registers",
+        1,
+        |model| {
+            let mut output = [0; 16];
+            black_box(model.transaction(black_box(&READ), &mut output, &mut [])).expect("a read");
+            black_box(output);
+        },
+        second_read,
+    );
+    single(
+        "write of 4 registers",
+        1,
+        |model| {
+            black_box(model.transaction(black_box(&WRITE), &mut [], &mut [])).expect("a write");
+        },
+        second_write,
+    );
+    single(
+        "TOF_Diff and its delivery",
+        2,
+        |model| {
+            model
+                .transaction(black_box(&[0x02]), &mut [], &mut [])
+                .expect("a start");
+            black_box(model.deliver_flight(black_box(&[100]), black_box(&[90])))
+                .expect("a delivery");
+        },
+        second_difference,
+    );
+    list(
+        "tick",
+        1,
+        |list| {
+            list.tick();
+        },
+        second_tick,
+    );
+    list(
+        "read of 8 registers",
+        1,
+        |list| {
+            list.transaction(&READ, 16);
+        },
+        second_read,
+    );
+    list(
+        "write of 4 registers",
+        1,
+        |list| {
+            list.transaction(&WRITE, 0);
+        },
+        second_write,
+    );
+    list(
+        "TOF_Diff and its delivery",
+        2,
+        |list| {
+            list.transaction(&[0x02], 0).deliver_flight(&[100], &[90]);
+        },
+        second_difference,
+    );
+    let (mut model, mut second) = ready();
     row(
         "ticks of a stretch of 16384",
         16_384,
         || {
-            black_box(a.stretch(16_384).expect("not too long"));
+            black_box(model.stretch(16_384).expect("not too long"));
         },
-        || {
-            for _ in 0..16_384 {
-                black_box(b.tick());
-            }
-        },
-    );
-    let (mut a, mut b) = (model.clone(), ready().1);
-    let mut output = [0; 16];
-    let read = [0xB0, 0, 0, 0, 0, 0, 0, 0, 0, 0, 0, 0, 0, 0, 0, 0, 0];
-    let mut output_too = [0; 16];
-    row(
-        "read of 8 registers",
-        1,
-        || {
-            black_box(a.transaction(black_box(&read), &mut output, &mut [])).expect("a read");
-        },
-        || {
-            black_box(b.transaction(black_box(&read), &mut output_too, &mut [])).expect("a read");
-        },
-    );
-    let (mut a, mut b) = (model.clone(), ready().1);
-    let write = [0x38, 0x10, 0x10, 0x00, 0x01, 0x00, 0x02, 0x00, 0x03];
-    row(
-        "write of 4 registers",
-        1,
-        || {
-            black_box(a.transaction(black_box(&write), &mut [], &mut [])).expect("a write");
-        },
-        || {
-            black_box(b.transaction(black_box(&write), &mut [], &mut [])).expect("a write");
-        },
-    );
-    let (mut a, mut b) = ready();
-    row(
-        "TOF_Diff and its delivery",
-        2,
-        || {
-            a.transaction(&[0x02], &mut [], &mut []).expect("a start");
-            black_box(a.deliver_flight(black_box(&[100]), black_box(&[90]))).expect("a delivery");
-        },
-        || {
-            b.transaction(&[0x02], &mut [], &mut []).expect("a start");
-            black_box(b.deliver_flight(black_box(&[100]), black_box(&[90]))).expect("a delivery");
-        },
+        || (0..16_384).for_each(|_| second_tick(&mut second)),
     );
 }

@@ -102,6 +102,15 @@ pub struct Started {
     pub temperature: bool,
 }
 
+impl Started {
+    pub(crate) fn of([flight, temperature]: [u32; 2]) -> Started {
+        Started {
+            flight: flight == 1,
+            temperature: temperature == 1,
+        }
+    }
+}
+
 /// What one tick did with the measurements of each kind.
 #[derive(Clone, Copy, Debug, Default, PartialEq, Eq)]
 pub struct Ticked {
@@ -111,6 +120,19 @@ pub struct Ticked {
     pub temperature_failed: bool,
 }
 
+impl Ticked {
+    pub(crate) fn of(answer: [u32; 4]) -> Ticked {
+        let [flight_started, flight_failed, temperature_started, temperature_failed] =
+            answer.map(|word| word == 1);
+        Ticked {
+            flight_started,
+            flight_failed,
+            temperature_started,
+            temperature_failed,
+        }
+    }
+}
+
 /// The ticks of a stretch, from 1 on, in which each of these happened.
 #[derive(Clone, Copy, Debug, Default, PartialEq, Eq)]
 pub struct Stretched {
@@ -118,6 +140,19 @@ pub struct Stretched {
     pub flight_failed: Option<u32>,
     pub temperature_started: Option<u32>,
     pub temperature_failed: Option<u32>,
+}
+
+impl Stretched {
+    pub(crate) fn of(answer: [u32; 4]) -> Stretched {
+        let [flight_started, flight_failed, temperature_started, temperature_failed] =
+            answer.map(|tick| (tick != 0).then_some(tick));
+        Stretched {
+            flight_started,
+            flight_failed,
+            temperature_started,
+            temperature_failed,
+        }
+    }
 }
 
 /// How an accepted delivery ended.

@@ -40,6 +40,22 @@ extern "C" {
         answer: *mut u32,
         count: usize,
     ) -> u32;
+    pub fn max35101_run(
+        model: *mut u8,
+        size: usize,
+        calls: *const u32,
+        call_count: usize,
+        frames: *const u8,
+        frames_size: usize,
+        hits: *const u32,
+        hit_count: usize,
+        output: *mut u8,
+        output_size: usize,
+        flash: *mut u8,
+        flash_size: usize,
+        answers: *mut u32,
+        answer_count: usize,
+    ) -> usize;
     pub fn max35101_interrupt_pending(
         model: *const u8,
         size: usize,

@@ -20,6 +20,7 @@
 
 mod analysis;
 mod answer;
+mod calls;
 mod ffi;
 mod model;
 
@@ -27,4 +28,5 @@ pub use analysis::{
     degrees, degrees_by, listing, nanoseconds, quietest, quietest_place, write_listing, Digits,
 };
 pub use answer::{Delivered, Refusal, Started, Stretched, Ticked};
+pub use calls::{Answer, Answers, Calls};
 pub use model::{Model, FLASH_SIZE, LONGEST_STRETCH, MODEL_SIZE};

@@ -1,6 +1,7 @@
 //! A model, and the calls on it.
 
 use crate::answer::{accepted, delivered, Delivered, Refusal, Started, Stretched, Ticked};
+use crate::calls::{Answers, Calls};
 use crate::ffi;
 
 /// Bytes of a stored model.
@@ -88,10 +89,7 @@ impl Model {
             )
         };
         accepted(code)?;
-        Ok(Started {
-            flight: answer[0] == 1,
-            temperature: answer[1] == 1,
-        })
+        Ok(Started::of(answer))
     }
 
     /// One period of the 32,768 Hz clock.
@@ -107,14 +105,7 @@ impl Model {
             )
         };
         accepted(code).expect("a sound model");
-        let [flight_started, flight_failed, temperature_started, temperature_failed] =
-            answer.map(|word| word == 1);
-        Ticked {
-            flight_started,
-            flight_failed,
-            temperature_started,
-            temperature_failed,
-        }
+        Ticked::of(answer)
     }
 
     /// So many periods at once, at most [`LONGEST_STRETCH`].
@@ -134,14 +125,7 @@ impl Model {
             )
         };
         accepted(code)?;
-        let [flight_started, flight_failed, temperature_started, temperature_failed] =
-            answer.map(|tick| (tick != 0).then_some(tick));
-        Ok(Stretched {
-            flight_started,
-            flight_failed,
-            temperature_started,
-            temperature_failed,
-        })
+        Ok(Stretched::of(answer))
     }
 
     /// The hit words of the awaited flight measurement, up and down.
@@ -180,6 +164,32 @@ impl Model {
                 0,
             )
         })
+    }
+
+    /// The calls of a list, one after the other, each accepted or refused as by itself; the model is
+    /// loaded and stored once. `flash` is the user flash, as for a transaction.
+    pub fn run(&mut self, calls: &Calls, flash: &mut [u8], answers: &mut Answers) {
+        answers.make_room(calls);
+        // SAFETY: seven buffers, each as long as is said; those that are written are exclusive.
+        let done = unsafe {
+            ffi::max35101_run(
+                self.bytes.as_mut_ptr(),
+                MODEL_SIZE,
+                calls.calls.as_ptr(),
+                calls.calls.len(),
+                calls.frames.as_ptr(),
+                calls.frames.len(),
+                calls.hits.as_ptr(),
+                calls.hits.len(),
+                answers.output.as_mut_ptr(),
+                answers.output.len(),
+                flash.as_mut_ptr(),
+                flash.len(),
+                answers.words.as_mut_ptr(),
+                answers.words.len(),
+            )
+        };
+        assert_eq!(done, calls.len(), "a list with room for each call");
     }
 
     fn ask(&self, question: Question) -> Result<u32, Refusal> {

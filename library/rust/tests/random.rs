@@ -1,7 +1,7 @@
 //! A million random calls through the library and on the second model, in one process; the model is stored and loaded
 //! again between any two.
 
-use max35101::{Delivered, Model, FLASH_SIZE};
+use max35101::{Answer, Answers, Calls, Delivered, Model, FLASH_SIZE};
 use second_model::model::Outcome;
 use second_model::Model as Second;
 
@@ -259,4 +259,81 @@ fn a_million_calls() {
         refused * 5 < calls * 4,
         "too few accepted calls: {refused} of {calls} refused"
     );
+}
+
+/// Random calls in lists through `run`, and one by one; the answers, outputs, models and flashes are the same.
+#[test]
+fn lists_are_single_calls() {
+    let mut random = Random(SEED ^ 1);
+    let (mut model, mut flash) = (Model::fresh(), vec![0xFF; FLASH_SIZE]);
+    let (mut single, mut single_flash) = (model.clone(), flash.clone());
+    let (mut calls, mut answers) = (Calls::new(), Answers::new());
+    let (mut done, mut refused) = (0, 0);
+    while done < CALLS {
+        calls.clear();
+        let mut wanted: Vec<(Result<Answer, max35101::Refusal>, Vec<u8>)> = Vec::new();
+        for _ in 0..random.below(40) {
+            let (answer, output) = one(&mut random, &mut calls, &mut single, &mut single_flash);
+            refused += u64::from(answer.is_err());
+            wanted.push((answer, output));
+        }
+        model.run(&calls, &mut flash, &mut answers);
+        let given: Vec<_> = answers
+            .iter()
+            .map(|(answer, output)| (answer, output.to_vec()))
+            .collect();
+        assert_eq!(given, wanted);
+        assert_eq!(model, single);
+        done += wanted.len() as u64;
+    }
+    assert_eq!(flash, single_flash);
+    println!("{done} calls in lists, {refused} refused, no difference");
+    assert!(refused * 5 < done * 4, "too few accepted calls");
+}
+
+/// One random call, put into the list and done by itself.
+fn one(
+    random: &mut Random,
+    calls: &mut Calls,
+    model: &mut Model,
+    flash: &mut [u8],
+) -> (Result<Answer, max35101::Refusal>, Vec<u8>) {
+    match random.below(10) {
+        0..=4 => {
+            let frame = frame(random);
+            let mut output = vec![0; random.below(3) as usize * frame.len()];
+            calls.transaction(&frame, output.len());
+            let answer = model.transaction(&frame, &mut output, flash);
+            (answer.map(Answer::Transaction), output)
+        }
+        5 => {
+            calls.tick();
+            (Ok(Answer::Tick(model.tick())), Vec::new())
+        }
+        6 => {
+            let bits = random.below(16);
+            let ticks = random.below(1 << bits) as u32;
+            calls.stretch(ticks);
+            (model.stretch(ticks).map(Answer::Stretch), Vec::new())
+        }
+        7 | 8 => {
+            let up = hits(random);
+            let down = if random.below(4) == 0 {
+                Vec::new()
+            } else {
+                up.clone()
+            };
+            calls.deliver_flight(&up, &down);
+            let answer = model.deliver_flight(&up, &down);
+            (answer.map(Answer::Delivery), Vec::new())
+        }
+        _ => {
+            let words: Vec<u32> = (0..3 + random.below(2) as usize)
+                .map(|_| random.next() as u32 >> 8)
+                .collect();
+            calls.deliver_temperature(&words);
+            let answer = model.deliver_temperature(&words);
+            (answer.map(Answer::Delivery), Vec::new())
+        }
+    }
 }

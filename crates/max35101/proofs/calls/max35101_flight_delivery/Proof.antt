@@ -1,5 +1,6 @@
 -- `max35101::calls::max35101_flight_delivery` meets its contract.
 use borrow.Author.Needs.{needs}
+use Rattle.max35101.proofs.Handed.{settled-by}
 use Rattle.max35101.proofs.calls.max35101_flight_delivery.Statement.{statement}
 use Rattle.max35101.proofs.calls.max35101_flight_delivery.Tie as tie
 
@@ -19,7 +20,8 @@ same-length-2 : tie.Need-same-length-2
 same-length-2 c = search needs
 
 returns : tie.Need-returns
-returns c = rw (← c .before .before .before .before .before .before .before .before .load .ensures, ← c .before .before .before .before .before .before .before .flight-delivery .ensures) (c .before .before .before .before .settle .ensures)
+returns c =
+    settled-by (rw (c .before .before .before .before .before .before .before .before .load .ensures) at (c .before .before .before .before .before .before .before .flight-delivery .ensures)) (c .before .before .before .before .settle .ensures)
 
 pub max35101-flight-delivery-spec : {M : Type 1} → statement M
 max35101-flight-delivery-spec =

@@ -1,8 +1,9 @@
 //! Each call's answers in plain numbers, and bytes that are no model.
 
 use max35101::{
-    degrees, degrees_by, listing, nanoseconds, quietest, quietest_place, write_listing, Digits,
-    Model, Refusal, LONGEST_STRETCH, MODEL_SIZE,
+    degrees, degrees_by, listing, nanoseconds, quietest, quietest_place, write_listing, Answer,
+    Answers, Calls, Delivered, Digits, Model, Refusal, Started, Stretched, Ticked, LONGEST_STRETCH,
+    MODEL_SIZE,
 };
 
 #[test]
@@ -98,4 +99,46 @@ fn listings() {
         Err(Refusal::ShortListing)
     );
     assert_eq!(output, [7; 22]);
+}
+
+#[test]
+fn a_list_goes_on_after_a_refusal() {
+    let mut calls = Calls::new();
+    calls.transaction(&[0x02], 0);
+    calls
+        .transaction(&[0x38, 0x10, 0x10], 0)
+        .transaction(&[0x05], 0);
+    calls.transaction(&[0x02], 0).tick().stretch(16_385);
+    calls.deliver_flight(&[0x64], &[0x01]);
+    calls.transaction(&[0xE2, 0, 0, 0, 0], 4);
+    calls.deliver_temperature(&[1, 2, 3, 4]).stretch(100);
+    let (mut model, mut answers) = (Model::fresh(), Answers::new());
+    model.run(&calls, &mut [], &mut answers);
+    let none = Ok(Answer::Transaction(Started::default()));
+    let flight = Started {
+        flight: true,
+        temperature: false,
+    };
+    let wanted = [
+        Err(Refusal::NotInitialised),
+        none,
+        none,
+        Ok(Answer::Transaction(flight)),
+        Ok(Answer::Tick(Ticked::default())),
+        Err(Refusal::Span),
+        Ok(Answer::Delivery(Delivered::Good)),
+        none,
+        Err(Refusal::NotAwaited),
+        Ok(Answer::Stretch(Stretched::default())),
+    ];
+    assert_eq!(
+        answers.iter().map(|(answer, _)| answer).collect::<Vec<_>>(),
+        wanted
+    );
+    let outputs: Vec<&[u8]> = answers.iter().map(|(_, output)| output).collect();
+    assert_eq!(outputs.concat(), [0, 0, 0, 0x63]);
+    let before = model.clone();
+    calls.clear();
+    model.run(&calls, &mut [], &mut answers);
+    assert!(calls.is_empty() && answers.iter().next().is_none() && model == before);
 }

@@ -38,4 +38,6 @@ pub mod SetupTold
 pub mod ProbesBlanked
 pub mod Probes
 pub mod StatusKept
+pub mod BusMeaning
+pub mod ExpiryMeaning
 pub mod SecondDemand

@@ -1,21 +1,25 @@
 -- The second demand: each part by the facts that stand in the files named after it.
-use Prim.Native.Nat.{ℕ, zero, suc, _+_, _-_, _*_, _/_, _%_, _≤_, _<_}
+use Prim.Native.Nat.{ℕ, zero, suc, _+_, _-_, _*_, _/_, _%_, _^_, _≤_, _<_, min}
 use native.Mathlib.Omega.{arith}
 use mathlib.Core.Bool.{Bool, true, false}
-use mathlib.Core.List.{List, [], _∷_}
-use mathlib.Core.Logic.{_↔_}
+use mathlib.Core.List.{List, [], _∷_, map}
+use mathlib.Core.Logic.{_↔_, _⊎_}
 use mathlib.Core.Path.{_≡_, refl, ap, sym, subst, _∙_}
 use lib.ListN.{length, getD}
-use borrow.Author.Tests.{ne-eqb}
-use Rattle.unit.specs.Choice.{pick}
+use borrow.Author.Tests.{le-ltb, lt-ltb, ne-eqb}
+use Rattle.unit.specs.Choice.{pick, either}
 use Rattle.unit.proofs.Cases.{by-test}
+use Rattle.calendar.specs.declared.Clock.{Clock}
 use Rattle.calendar.specs.Calendar.{clockValid}
+use Rattle.calendar.specs.Words.{word30, word31, word32, word33}
+use Rattle.calendar.specs.Bounds.{afterTicks}
 use Rattle.calendar.proofs.Laws.{after-weekday}
 use Rattle.calendar.proofs.Facts.{leap-months, common-months}
 use Rattle.calendar.proofs.Places.{seconds-shown, full-time-shown, half-time-shown, date-shown, year-shown}
 use Rattle.calendar.proofs.AlarmModes.{AlarmTime}
 use Rattle.setup.specs.Setup.{wordOf, hitCount, portCycle, clockStands}
 use Rattle.setup.proofs.Laws.{hits-are, hits-bounds}
+use Rattle.frame.specs.Frame.{wordAt}
 use Rattle.hit.specs.Limit.{openFrom}
 use Rattle.hit.specs.Difference.{differenceWord}
 use Rattle.hit.specs.Mean.{sum}
@@ -23,29 +27,41 @@ use Rattle.hit.specs.Words.{sixWords}
 use Rattle.hit.proofs.Limits.{quotient-below}
 use Rattle.hit.proofs.Sum.{six-total}
 use Rattle.hit.proofs.Meaning.{difference-means, bits-means, mean-floor, words-floor}
+use Rattle.device.specs.declared.Status.{Status}
+use Rattle.device.specs.declared.Flight.{Flight}
 use Rattle.device.specs.declared.Model.{Model}
+use Rattle.device.specs.declared.Answer.{Answer}
 use Rattle.device.specs.declared.Answer.the-variants.{Good, Failed}
-use Rattle.device.specs.Model.{isSound}
-use Rattle.device.specs.Registers.{registerWord, calendarWord}
-use Rattle.device.specs.Write.{writeModel}
-use Rattle.device.specs.Delivery.{goodFlightModel, failedFlightModel}
-use Rattle.device.specs.Call.{flight, temperature, miscounted}
+use Rattle.device.specs.Model.{isSound, noFlight, noTemperature, freshWith, resetModel}
+use Rattle.device.specs.Event.{isAwaited, noSchedule}
+use Rattle.device.specs.Registers.{registerWord, calendarWord, flightWord, upwards}
+use Rattle.device.specs.Stretch.{modelTicked}
+use Rattle.device.specs.Status.{joined, ldoBit}
+use Rattle.device.specs.Bus.{supplied, runModel}
+use Rattle.device.specs.Write.{setupAfter, writeModel}
+use Rattle.device.specs.Delivery.{flightMiscounted, goodFlightModel, failedFlightModel}
+use Rattle.device.specs.Results.{goodFlight}
+use Rattle.device.specs.Call.{Call, transaction, flight, temperature, accepted, verdict, notAwaited, miscounted}
 use Rattle.device.specs.Reply.{anyLate, acceptedAnswer, acceptedModel}
 use Rattle.device.specs.Claim.{Holds}
-use Rattle.device.specs.Terms.{eoscOf}
-use Rattle.device.specs.SecondDemand.{ReadsClaim, WritesClaim, CalendarClaim, AlarmClaim, FlightClaim, PortClaim}
-use Rattle.device.specs.SecondDemand.{BitsClaim, CommandsClaim, SecondDemand}
+use Rattle.device.specs.Terms.{LeftOut, eoscOf, Some}
+use Rattle.device.specs.SecondDemand.{ReadsClaim, WritesClaim, CalendarClaim, MonthsClaim, AlarmClaim, FlightClaim, PortClaim, MeansClaim}
+use Rattle.device.specs.SecondDemand.{BusClaim, BitsClaim, CommandsClaim, ExpiryClaim, SecondDemand}
 use Rattle.device.proofs.Sound.{hits-below}
-use Rattle.device.proofs.RegisterMeaning.{fresh-reads, reads-zero, reads-setup, reads-status, reads-ups, reads-downs, reads-difference, fill-bytes, fill-rest}
+use Rattle.device.proofs.RegisterMeaning.{fresh-reads, reset-reads, reads-zero, reads-setup, reads-status, reads-ups, reads-downs, reads-difference, fill-bytes, fill-rest}
 use Rattle.device.proofs.RegisterMeaning.{setup-written, setup-kept, word-means}
 use Rattle.device.proofs.WriteMeaning.{ticks-set, ticks-kept, write-judged, write-reads}
 use Rattle.device.proofs.ClockMeaning.{alarm-00, alarm-01, alarm-10, alarm-11, clock-stands, clock-moves}
 use Rattle.device.proofs.Stretch.{clock-ticked}
 use Rattle.device.proofs.CallMeaning.{count-means}
+use Rattle.device.proofs.DeliveryMeaning.{good-ups-kept, good-downs-kept, good-difference-kept, failed-ups-kept, failed-downs-kept, failed-difference-kept}
 use Rattle.device.proofs.DeliveryMeaning.{good-ups, good-downs, good-difference, failed-ups, failed-downs, failed-difference, open-port, short-port, whole-port, good-words}
-use Rattle.device.proofs.StatusMeaning.{status-means, interrupt-yes}
+use Rattle.device.proofs.StatusMeaning.{status-means, initialised-means, halted-status, interrupt-yes}
 use Rattle.device.proofs.StatusKept.{tick-bits, late-word, flight-bits, open-word, temperature-bits, bits-kept, read-clears-all, bits-raised}
-use Rattle.device.proofs.StartMeaning.{halt-ticks, halt-drops, starts-up, starts-down, starts-both, starts-temperature, initialize-keeps, halt-keeps, single-flight, single-temperature}
+use Rattle.device.proofs.StartMeaning.{halt-ticks, halt-drops, starts-up, starts-down, starts-both, starts-temperature, initialize-keeps, halt-keeps, supply-keeps, single-flight, single-temperature}
+use Rattle.device.proofs.CommandMeaning.{zeroed-differences, zeroed-temperatures}
+use Rattle.device.proofs.BusMeaning.{read-bytes, read-rest, read-keeps, write-leaves, write-output, command-leaves, command-output}
+use Rattle.device.proofs.ExpiryMeaning.{expired-ups, expired-downs, expired-difference, expired-ports, single-flight-expires, single-temperature-expires}
 use Rattle.device.proofs.Form.{form-kept}
 use Rattle.device.proofs.Initialised.{initialised-until-reset}
 
@@ -58,6 +74,18 @@ reads =
       status = λ m. rw (reads-status m) (status-means (m .status));
       filled = fill-bytes;
       rest = fill-rest;
+    }
+
+bus : (m : Model) (f o x : List ℕ) → verdict m (transaction f o x) ≡ accepted → BusClaim m f o x
+bus m f o x v =
+    record {
+      read-bytes = read-bytes m f o x v;
+      read-rest = read-rest m f o x v;
+      read-keeps = read-keeps m f o x v;
+      write = write-leaves m f o x v;
+      command = command-leaves m f o x v;
+      write-output = write-output m f o x v;
+      command-output = command-output m f o x v;
     }
 
 writes :
@@ -105,6 +133,49 @@ alarm m minute hour c t =
       mode-10 = alarm-10 m c minute hour t;
       mode-11 = alarm-11 m c minute hour t;
     }
+
+-- What the registers of a direction, and TOF_DIFF, read is in its part of the model.
+ups-read :
+    (m n : Model) →
+    n .flight .ups ≡ m .flight .ups →
+    map (registerWord n) (upwards 0xC5 14) ≡ map (registerWord m) (upwards 0xC5 14)
+unfolding registerWord flightWord
+ups-read m n e = rw e
+
+downs-read :
+    (m n : Model) →
+    n .flight .downs ≡ m .flight .downs →
+    map (registerWord n) (upwards 0xD4 14) ≡ map (registerWord m) (upwards 0xD4 14)
+unfolding registerWord flightWord
+downs-read m n e = rw e
+
+difference-read :
+    (m n : Model) →
+    n .flight .difference ≡ m .flight .difference →
+    map (registerWord n) (0xE2 ∷ 0xE3 ∷ []) ≡ map (registerWord m) (0xE2 ∷ 0xE3 ∷ [])
+unfolding registerWord flightWord
+difference-read m n e = rw e
+
+module _ (m : Model) (u d : List ℕ) where
+  ups-stay : m .flight .up ≡ false → acceptedModel m (flight u d) .flight .ups ≡ m .flight .ups
+  unfolding acceptedModel goodFlightModel
+  ups-stay k =
+      by-test (anyLate m u d) (λ e. rw e (failed-ups-kept m k))
+      (λ e. rw e (good-ups-kept (m .flight) (hitCount (m .setup)) u d k))
+
+  downs-stay : m .flight .down ≡ false → acceptedModel m (flight u d) .flight .downs ≡ m .flight .downs
+  unfolding acceptedModel goodFlightModel
+  downs-stay k =
+      by-test (anyLate m u d) (λ e. rw e (failed-downs-kept m k))
+      (λ e. rw e (good-downs-kept (m .flight) (hitCount (m .setup)) u d k))
+
+  difference-stays :
+      (m .flight .up ≡ false) ⊎ (m .flight .down ≡ false) →
+      acceptedModel m (flight u d) .flight .difference ≡ m .flight .difference
+  unfolding acceptedModel goodFlightModel
+  difference-stays k =
+      by-test (anyLate m u d) (λ e. rw e (failed-difference-kept m k))
+      (λ e. rw e (good-difference-kept (m .flight) (hitCount (m .setup)) u d k))
 
 -- Answered failed exactly where a word is late.
 late-fails : (m : Model) (u d : List ℕ) → (acceptedAnswer m (flight u d) ≡ Failed) ↔ (anyLate m u d ≡ true)
@@ -234,6 +305,9 @@ module _ (m : Model) (u d : List ℕ) (c : miscounted m (flight u d) ≡ false) 
         failed-ups = λ g e. rw (failed-flight g) (failed-ups m e);
         failed-downs = λ g e. rw (failed-flight g) (failed-downs m e);
         failed-difference = λ g e f. rw (failed-flight g) (failed-difference m e f);
+        ups-kept = λ k. ups-read m (acceptedModel m (flight u d)) (ups-stay m u d k);
+        downs-kept = λ k. downs-read m (acceptedModel m (flight u d)) (downs-stay m u d k);
+        difference-kept = λ k. difference-read m (acceptedModel m (flight u d)) (difference-stays m u d k);
       }
 
 ports :
@@ -260,6 +334,7 @@ bits m =
     }
 
 commands : (m : Model) → CommandsClaim m
+unfolding runModel supplied joined ldoBit notAwaited isAwaited resetModel freshWith noFlight noTemperature noSchedule
 commands m =
     record {
       starts-up = starts-up m;
@@ -270,14 +345,38 @@ commands m =
       single-temperature = single-temperature m;
       halts = halt-ticks m;
       drops = halt-drops m;
+      flight-expires = λ op n u d s i h. single-flight-expires m s i n op u d h;
+      temperature-expires = λ n w s i. single-temperature-expires m s i n w;
+      zeroed-differences = zeroed-differences m;
+      zeroed-temperatures = zeroed-temperatures m;
+      reset = reset-reads;
+      reset-drops = λ u d w. (refl, refl);
+      sets-init = ap (λ (n : Model). n .status .init) (initialised-means m);
+      sets-halt = ap (λ (s : Status). s .halt) (halted-status m);
+      sets-ldo = turned (m .status .ldo);
       initialize = initialize-keeps m;
       halt = halt-keeps m;
+      supply = supply-keeps m;
+    }
+  where
+    turned : (b : Bool) → either b true ≡ true
+    turned true = refl
+    turned false = refl
+
+expiries : (m : Model) → ExpiryClaim m
+expiries m =
+    record {
+      ups = expired-ups m;
+      downs = expired-downs m;
+      difference = expired-difference m;
+      ports = expired-ports m;
     }
 
 pub second-demand : SecondDemand
 second-demand =
     record {
       reads = reads;
+      bus = bus;
       writes = writes;
       calendar = calendar;
       months = λ y. record { leap = leap-months y; common = common-months y };
@@ -290,5 +389,6 @@ second-demand =
           record { differences = difference-means; words = bits-means; means = mean-floor; ports = words-floor };
       bits = bits;
       commands = commands;
+      expiries = expiries;
       initialised = initialised-until-reset;
     }

@@ -472,13 +472,13 @@ unfolding kindBusy
 idle-rests k i = idle-left k (neither (isAwaited k) (inEvent k) i .0)
 
 module _ (m : Model) (s : isSound m ≡ true) (i : isBusy m ≡ false) where
-  ended-flight : Ended (m .flight .schedule)
+  pub ended-flight : Ended (m .flight .schedule)
   unfolding isBusy
   ended-flight =
       idle-ended (m .flight .schedule) (bounds-of m s .flight .schedule)
       (neither (kindBusy (m .flight .schedule)) (kindBusy (m .temperature .schedule)) i .0)
 
-  ended-temperature : Ended (m .temperature .schedule)
+  pub ended-temperature : Ended (m .temperature .schedule)
   unfolding isBusy
   ended-temperature =
       idle-ended (m .temperature .schedule) (bounds-of m s .temperature .schedule)

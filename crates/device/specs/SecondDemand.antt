@@ -8,7 +8,8 @@ use mathlib.Core.Logic.{_↔_, _⊎_}
 use mathlib.Core.Path.{_≡_}
 use lib.IntN.{ℤ, pos, negsuc, _+ℤ_, _*ℤ_}
 use lib.Signed.{_≤ℤ_, _<ℤ_}
-use lib.ListN.{length, getD}
+use lib.ListN.{length, getD, drop}
+use lib.Dec.{leb, eqb}
 use mir.Syntax.{w32}
 use mir.Val.{toZ}
 use Rattle.unit.specs.Choice.{both, either}
@@ -27,17 +28,17 @@ use Rattle.device.specs.Status.{joined}
 use Rattle.device.specs.Model.{isSound, isBusy, freshModel}
 use Rattle.device.specs.Registers.{registerWord, fillWords, upwards}
 use Rattle.device.specs.Write.{writeInvalid, writeModel}
-use Rattle.device.specs.Tick.{tickModel}
+use Rattle.device.specs.Tick.{tickModel, reportOf}
 use Rattle.device.specs.Stretch.{modelTicked}
 use Rattle.device.specs.Bus.{runModel}
 use Rattle.device.specs.Call.{Call, transaction, tick, flight, temperature, accepted, verdict, notAwaited, miscounted}
-use Rattle.device.specs.Reply.{anyLate, anyOpen, acceptedAnswer, acceptedModel, reply}
+use Rattle.device.specs.Reply.{anyLate, anyOpen, acceptedAnswer, acceptedModel, reply, output}
 use Rattle.device.specs.Question.{interruptPending}
 use Rattle.device.specs.Claim.{Holds, Whole}
 use Rattle.device.specs.Form.{FormClaim}
 use Rattle.device.specs.Initialised.{InitialisedClaim}
 use Rattle.device.specs.Terms.{LeftOut, After, CalendarAfter, modeOf, eoscOf, Places, onlyBits, expiring, nth, told, Some}
-use Rattle.device.specs.Terms.{Kept, ReadsStatus, Clears, SwitchesOff, maySet, Under, FlightStarts, TemperatureStarts}
+use Rattle.device.specs.Terms.{Kept, ReadsStatus, Clears, SwitchesOff, maySet, Under, FlightStarts, TemperatureStarts, Command, Write, Read}
 
 -- the sixteen words from address a on
 abbrev pub sixteen : Model → ℕ → List ℕ
@@ -112,6 +113,35 @@ pub record WritesClaim (m : Model) (bytes : List ℕ) (op n : ℕ) : Type 0 wher
       (c * 32768 ≤ s * 100) × (s * 100 < c * 32768 + 100)
   -- "any other write keeps s"
   pub kept : LeftOut op n 0x30 → (writeModel bytes op n m) .clock .ticks ≡ m .clock .ticks
+
+-- "for words going in over the bus and for words coming out": what an accepted transaction makes of its frame `f` and of the output
+-- buffer `o`. `writeModel` and `runModel` are what the claims on writes and commands are about.
+pub record BusClaim (m : Model) (f o x : List ℕ) : Type 0 where
+  -- "the first 2n bytes of the output buffer are filled from consecutive registers, the rest of it stays"; "Words go high byte first."
+  pub read-bytes :
+      Read f →
+      (i : ℕ) →
+      i < (length f - 1) / 2 →
+      (getD (output m (transaction f o x)) (2 * i) 0 ≡ registerWord m (getD f 0 0 + i) / 256 % 256) ×
+      (getD (output m (transaction f o x)) (2 * i + 1) 0 ≡ registerWord m (getD f 0 0 + i) % 256)
+  pub read-rest : Read f → (j : ℕ) → 2 * ((length f - 1) / 2) ≤ j → getD (output m (transaction f o x)) j 0 ≡ getD o j 0
+  -- a read changes nothing but the status
+  pub read-keeps :
+      Read f →
+      let n : Model = reply m (transaction f o x) .model in
+      (n .clock ≡ m .clock) ×
+      (n .setup ≡ m .setup) ×
+      (n .initialised ≡ m .initialised) ×
+      (n .regulator ≡ m .regulator) ×
+      (n .flight ≡ m .flight) ×
+      (n .temperature ≡ m .temperature)
+  -- "n ≥ 1 words follow, to consecutive registers"
+  pub write : Write f → reply m (transaction f o x) .model ≡ writeModel (drop 1 f) (getD f 0 0) ((length f - 1) / 2) m
+  -- "A command is one byte."
+  pub command : Command f → reply m (transaction f o x) .model ≡ runModel m (getD f 0 0)
+  -- neither touches the output
+  pub write-output : Write f → output m (transaction f o x) ≡ o
+  pub command-output : Command f → output m (transaction f o x) ≡ o
 
 -- "calendar", of a model whose clock is valid.
 pub record CalendarClaim (m : Model) : Type 0 where
@@ -210,6 +240,16 @@ pub record FlightClaim (m : Model) (u d : List ℕ) : Type 0 where
       m .flight .up ≡ true →
       m .flight .down ≡ true →
       map (registerWord (acceptedModel m (flight u d))) (0xE2 ∷ 0xE3 ∷ []) ≡ 0xFFFF ∷ 0xFFFF ∷ []
+  -- "of the measured directions": the results of the other direction stay, and TOF_DIFF where it is no difference, good or failed
+  pub ups-kept :
+      m .flight .up ≡ false →
+      map (registerWord (acceptedModel m (flight u d))) (upwards 0xC5 14) ≡ map (registerWord m) (upwards 0xC5 14)
+  pub downs-kept :
+      m .flight .down ≡ false →
+      map (registerWord (acceptedModel m (flight u d))) (upwards 0xD4 14) ≡ map (registerWord m) (upwards 0xD4 14)
+  pub difference-kept :
+      (m .flight .up ≡ false) ⊎ (m .flight .down ≡ false) →
+      map (registerWord (acceptedModel m (flight u d))) (0xE2 ∷ 0xE3 ∷ []) ≡ map (registerWord m) (0xE2 ∷ 0xE3 ∷ [])
 
 -- "temperatures": port i, 0 to 3, of a delivery of four words, each by its own word whatever the others are.
 pub record PortClaim (m : Model) (w : List ℕ) (i : ℕ) : Type 0 where
@@ -348,12 +388,77 @@ pub record CommandsClaim (m : Model) : Type 0 where
       (n : ℕ) (u d w : List ℕ) →
       (notAwaited (modelTicked n (runModel m 10)) (flight u d) ≡ true) ×
       (notAwaited (modelTicked n (runModel m 10)) (temperature w) ≡ true)
+  -- "A measurement undelivered 8,192 ticks after its start fails in that tick": number 10 is given from that tick on and not before.
+  -- "This count runs even while the clock stands."
+  pub flight-expires :
+      (op n : ℕ) (u d : List ℕ) →
+      isSound m ≡ true →
+      isBusy m ≡ false →
+      op ≤ 2 →
+      (notAwaited (modelTicked n (runModel m op)) (flight u d) ≡ leb 8192 n) ×
+      (reportOf (modelTicked n (runModel m op) .flight .schedule) .failed ≡ eqb (n + 1) 8192)
+  pub temperature-expires :
+      (n : ℕ) (w : List ℕ) →
+      isSound m ≡ true →
+      isBusy m ≡ false →
+      (notAwaited (modelTicked n (runModel m 3)) (temperature w) ≡ leb 8192 n) ×
+      (reportOf (modelTicked n (runModel m 3) .temperature .schedule) .failed ≡ eqb (n + 1) 8192)
+  -- "Acceptance zeroes cycle counts (E4h, EFh) and averages (E5h, E6h; F0h to F7h) of the kinds run."
+  pub zeroed-differences :
+      (map (registerWord (runModel m 7)) (upwards 0xE4 3) ≡ 0 ∷ 0 ∷ 0 ∷ []) ×
+      (map (registerWord (runModel m 8)) (upwards 0xE4 3) ≡ 0 ∷ 0 ∷ 0 ∷ []) ×
+      (map (registerWord (runModel m 9)) (upwards 0xE4 3) ≡ map (registerWord m) (upwards 0xE4 3))
+  pub zeroed-temperatures :
+      (map (registerWord (runModel m 7)) (upwards 0xEF 9) ≡ 0 ∷ 0 ∷ 0 ∷ 0 ∷ 0 ∷ 0 ∷ 0 ∷ 0 ∷ 0 ∷ []) ×
+      (map (registerWord (runModel m 8)) (upwards 0xEF 9) ≡ map (registerWord m) (upwards 0xEF 9)) ×
+      (map (registerWord (runModel m 9)) (upwards 0xEF 9) ≡ 0 ∷ 0 ∷ 0 ∷ 0 ∷ 0 ∷ 0 ∷ 0 ∷ 0 ∷ 0 ∷ [])
+  -- "04h Reset gives the same with status 0000h.": B0h to FFh
+  pub reset :
+      (sixteen (runModel m 4) 0xB0
+      ≡ 0 ∷ 0 ∷ 0x0101 ∷ 0x0100 ∷ 0 ∷ 0 ∷ 0 ∷ 0 ∷ 0x0010 ∷ 0 ∷ 0 ∷ 0 ∷ 0 ∷ 0 ∷ 0 ∷ 0 ∷ []) ×
+      (sixteen (runModel m 4) 0xC0 ≡ zeros) ×
+      (sixteen (runModel m 4) 0xD0 ≡ zeros) ×
+      (sixteen (runModel m 4) 0xE0 ≡ zeros) ×
+      (sixteen (runModel m 4) 0xF0 ≡ zeros)
+  -- "A kind is awaited from its start until .. HALT or Reset."
+  pub reset-drops :
+      (u d w : List ℕ) → (notAwaited (runModel m 4) (flight u d) ≡ true) × (notAwaited (runModel m 4) (temperature w) ≡ true)
+  -- "05h Initialize .. sets INIT"; "0Ah HALT .. sets HALT, also when idle"; "LDO_ON sets status bit 10" (Note 8)
+  pub sets-init : (runModel m 5) .status .init ≡ true
+  pub sets-halt : (runModel m 10) .status .halt ≡ true
+  pub sets-ldo : (runModel m 12) .status .ldo ≡ true
   -- 05h, 0Ah, 0Ch and 0Dh leave what B0h to F7h read
   pub initialize : map (registerWord (runModel m 5)) (upwards 0xB0 72) ≡ map (registerWord m) (upwards 0xB0 72)
   pub halt : map (registerWord (runModel m 10)) (upwards 0xB0 72) ≡ map (registerWord m) (upwards 0xB0 72)
+  pub supply :
+      (map (registerWord (runModel m 12)) (upwards 0xB0 72) ≡ map (registerWord m) (upwards 0xB0 72)) ×
+      (map (registerWord (runModel m 13)) (upwards 0xB0 72) ≡ map (registerWord m) (upwards 0xB0 72))
+
+-- "as if all its words were late or open": the registers of what expires in a tick.
+pub record ExpiryClaim (m : Model) : Type 0 where
+  pub ups :
+      expiring (m .flight .schedule) ≡ true →
+      m .flight .up ≡ true →
+      map (registerWord (tickModel m)) (upwards 0xC5 14)
+      ≡ 0xFFFF ∷ 0xFFFF ∷ 0xFFFF ∷ 0xFFFF ∷ 0xFFFF ∷ 0xFFFF ∷ 0xFFFF ∷ 0xFFFF ∷ 0xFFFF ∷ 0xFFFF ∷ 0xFFFF ∷ 0xFFFF ∷ 0xFFFF ∷ 0xFFFF ∷ []
+  pub downs :
+      expiring (m .flight .schedule) ≡ true →
+      m .flight .down ≡ true →
+      map (registerWord (tickModel m)) (upwards 0xD4 14)
+      ≡ 0xFFFF ∷ 0xFFFF ∷ 0xFFFF ∷ 0xFFFF ∷ 0xFFFF ∷ 0xFFFF ∷ 0xFFFF ∷ 0xFFFF ∷ 0xFFFF ∷ 0xFFFF ∷ 0xFFFF ∷ 0xFFFF ∷ 0xFFFF ∷ 0xFFFF ∷ []
+  pub difference :
+      expiring (m .flight .schedule) ≡ true →
+      m .flight .up ≡ true →
+      m .flight .down ≡ true →
+      map (registerWord (tickModel m)) (0xE2 ∷ 0xE3 ∷ []) ≡ 0xFFFF ∷ 0xFFFF ∷ []
+  pub ports :
+      expiring (m .temperature .schedule) ≡ true →
+      map (registerWord (tickModel m)) (upwards 0xE7 8)
+      ≡ 0xFFFF ∷ 0xFFFF ∷ 0xFFFF ∷ 0xFFFF ∷ 0xFFFF ∷ 0xFFFF ∷ 0xFFFF ∷ 0xFFFF ∷ []
 
 pub record SecondDemand : Type 0 where
   pub reads : ReadsClaim
+  pub bus : (m : Model) (f o x : List ℕ) → verdict m (transaction f o x) ≡ accepted → BusClaim m f o x
   pub writes : (m : Model) (bytes : List ℕ) (op n : ℕ) → isSound m ≡ true → length (m .setup) ≡ 16 → WritesClaim m bytes op n
   pub calendar : (m : Model) → clockValid (m .clock) ≡ true → CalendarClaim m
   pub months : (y : ℕ) → MonthsClaim y
@@ -371,5 +476,6 @@ pub record SecondDemand : Type 0 where
   pub means : MeansClaim
   pub bits : (m : Model) → BitsClaim m
   pub commands : (m : Model) → CommandsClaim m
+  pub expiries : (m : Model) → ExpiryClaim m
   -- "05h Initialize makes the model initialised, until a Reset"
   pub initialised : InitialisedClaim

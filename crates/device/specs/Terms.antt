@@ -219,3 +219,15 @@ pub record TemperatureStarts (m n : Model) : Type 0 where
   pub status : n .status ≡ m .status
   pub initialised : n .initialised ≡ m .initialised
   pub regulator : n .regulator ≡ m .regulator
+
+-- The sorts of frames, by the first byte: "commands 00h to 05h and 07h to 0Ah", and "LDO_ON (0Ch), LDO_OFF (0Dh)" (Note 8); "30h to
+-- 43h write"; "B0h to FFh read".
+abbrev pub Command : List ℕ → Type 0
+Command f =
+    (getD f 0 0 ≤ 0x05) ⊎ ((0x07 ≤ getD f 0 0) × (getD f 0 0 ≤ 0x0A)) ⊎ ((0x0C ≤ getD f 0 0) × (getD f 0 0 ≤ 0x0D))
+
+abbrev pub Write : List ℕ → Type 0
+Write f = (0x30 ≤ getD f 0 0) × (getD f 0 0 ≤ 0x43)
+
+abbrev pub Read : List ℕ → Type 0
+Read f = (0xB0 ≤ getD f 0 0) × (getD f 0 0 ≤ 0xFF)

@@ -1,5 +1,5 @@
 -- Laws of the four words of a temperature measurement: what a port reads, none of them open or short, and all of them open.
-use Prim.Native.Nat.{ℕ, _≤_, _<_}
+use Prim.Native.Nat.{ℕ, zero, suc, _+_, _≤_, _<_}
 use native.Mathlib.Omega.{arith}
 use mathlib.Core.Path.{_≡_, refl}
 use mathlib.Core.Bool.{false}
@@ -8,7 +8,7 @@ use lib.ListN.{length, getD}
 use borrow.Author.Tests.{lt-leb, le-leb, lt-ltb, le-ltb}
 use Rattle.unit.specs.declared.Quanta.{Quanta}
 use Rattle.hit.specs.Limit.{openFrom, shortBelow, anyFrom, anyBelow, anyFault}
-use Rattle.hit.specs.Words.{wordOrZero, fourWords, portPair, portPairs, failedPorts}
+use Rattle.hit.specs.Words.{wordOrZero, fourWords, portPair, portPairs, failedPorts, plusEach}
 use Rattle.hit.specs.Mean.{All}
 use Rattle.unit.proofs.Joined.{neither}
 use Rattle.hit.proofs.Sum.{all-below, all-above}
@@ -87,3 +87,12 @@ pub all-open :
 unfolding portPairs failedPorts
 all-open limit ws h i j k =
     rw (port-open limit _ h, port-open limit _ i, port-open limit _ j, port-open limit _ k)
+
+-- "or of the good words of each port": each port's word is added to its own sum
+pub sums-apart : (sums w : List ℕ) (i : ℕ) → i < 4 → getD (plusEach sums w) i 0 ≡ getD sums i 0 + getD w i 0
+unfolding plusEach
+sums-apart sums w zero h = refl
+sums-apart sums w (suc zero) h = refl
+sums-apart sums w (suc (suc zero)) h = refl
+sums-apart sums w (suc (suc (suc zero))) h = refl
+sums-apart sums w (suc (suc (suc (suc i)))) h = absurd (omega arith)

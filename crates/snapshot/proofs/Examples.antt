@@ -5,11 +5,12 @@ use mathlib.Core.Bool.{Bool, true, false}
 use mathlib.Core.List.{List, [], _∷_}
 use mathlib.Core.Path.{_≡_, refl}
 use lib.Dec.{ltb}
+use lib.ListN.{replicate}
 use Rattle.unit.specs.Choice.{both}
 use Rattle.unit.proofs.Cases.{by-ltb}
 use Rattle.device.specs.declared.Model.{Model}
 use Rattle.snapshot.specs.Number.{bound, bytesOf, value, allBytes}
-use Rattle.snapshot.specs.Layout.{single, double, quadruple, octuple, clockWords, waits, stored, loaded}
+use Rattle.snapshot.specs.Layout.{single, double, quadruple, octuple, clockWords, waits, flagsFit, formed, stored, loaded}
 use Rattle.snapshot.specs.Fits.{Below, none, more, Fits}
 use Rattle.snapshot.proofs.Stored.{load-store}
 
@@ -21,6 +22,15 @@ low-first = refl
 pub low-read : value (0x78 ∷ 0x56 ∷ 0x34 ∷ 0x12 ∷ []) ≡ 0x12345678
 unfolding value
 low-read = refl
+
+-- version 1 loads, and no other
+pub this-version : formed (1 ∷ replicate 232 0) ≡ true
+unfolding formed flagsFit
+this-version = refl
+
+pub other-version : formed (2 ∷ replicate 232 0) ≡ false
+unfolding formed flagsFit
+other-version = refl
 
 pub example : Model
 example =

@@ -3,6 +3,9 @@ use crate::number::clock_byte;
 use crate::number::number;
 use crate::number::pair;
 use crate::number::word;
+use crate::run::ACCEPTED;
+use crate::run::refusal;
+use crate::run::run_number;
 use device::Model;
 
 // How a byte is read, by what stands before it: as text, as the x of a mark (the mode is the
@@ -20,6 +23,8 @@ pub enum Part {
     Time(u32, bool),
     NoTime,
     NoPort,
+    Accepted,
+    Refused(u32),
 }
 
 // What the byte c puts where `register` is the next one.
@@ -28,15 +33,24 @@ pub fn part_at(m: Model, register: u32, mode: u8, c: u8) -> Part {
         TEXT => text_part(m, register, c),
         b'%' => Part::Decimal(number(m, last(m, register), c)),
         b'$' => Part::Hex(2, clock_byte(m, c)),
+        b'@' => Part::Decimal(run_number(m, c)),
+        b'!' => answer_part(refusal(m, c)),
         _ => Part::Nothing,
     }
+}
+
+fn answer_part(number: u32) -> Part {
+    if number == ACCEPTED {
+        return Part::Accepted;
+    }
+    Part::Refused(number)
 }
 
 fn text_part(m: Model, register: u32, c: u8) -> Part {
     match c {
         b'#' => Part::Hex(4, word(m, register)),
         b'^' => time_part(m, std::num::wrapping_sub_u32(register, 2)),
-        b'%' | b'$' | b'[' | b'|' | b']' => Part::Nothing,
+        b'%' | b'$' | b'[' | b'|' | b']' | b'@' | b'{' | b'}' | b'!' => Part::Nothing,
         _ => Part::Byte(c),
     }
 }
@@ -90,13 +104,14 @@ pub fn mode_after(m: Model, register: u32, mode: u8, c: u8) -> u8 {
         TEXT => after_text(c),
         HIDDEN => after_hidden(c),
         b'[' => shown(number(m, last(m, register), c)),
+        b'{' => shown(run_number(m, c)),
         _ => TEXT,
     }
 }
 
 fn after_text(c: u8) -> u8 {
     match c {
-        b'%' | b'$' | b'[' => c,
+        b'%' | b'$' | b'[' | b'@' | b'{' | b'!' => c,
         b'|' => HIDDEN,
         _ => TEXT,
     }
@@ -104,7 +119,7 @@ fn after_text(c: u8) -> u8 {
 
 fn after_hidden(c: u8) -> u8 {
     match c {
-        b'|' | b']' => TEXT,
+        b'|' | b']' | b'}' => TEXT,
         _ => HIDDEN,
     }
 }

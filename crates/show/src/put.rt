@@ -5,6 +5,7 @@ use crate::part::mode_after;
 use crate::part::part_at;
 use crate::part::register_after;
 use device::Model;
+use model::refusal::SET_UP;
 use numeral::NO_ROOM;
 
 // The text, its marks replaced.
@@ -33,7 +34,18 @@ fn put_part(buf: &mut [u8], at: usize, part: Part) -> usize {
         Part::Time(w, signed) => put_time(buf, at, w, signed),
         Part::NoTime => numeral::put_text(buf, at, b"no time"),
         Part::NoPort => numeral::put_text(buf, at, b"no time: short, or not measured"),
+        Part::Accepted => numeral::put_text(buf, at, b" ok"),
+        Part::Refused(number) => put_refused(buf, at, number),
     }
+}
+
+// The fields follow that stand in the way of a command.
+fn put_refused(buf: &mut [u8], at: usize, number: u32) -> usize {
+    let end = wording::refusal::put_refusal(buf, at, number);
+    if number == SET_UP {
+        return numeral::put_text(buf, end, b":");
+    }
+    end
 }
 
 fn put_byte(buf: &mut [u8], at: usize, c: u8) -> usize {

@@ -5,10 +5,13 @@
 //   $x        a byte of the clock or the alarm, in two digits
 //   ^         the last two registers as a time
 //   [x..|..]  the first text where x is not 0, and else the second, which may be left out
+//   @x        the number of the run that x stands for
+//   {x..|..}  the same choice as [x..|..] by such a number
+//   !x        a blank, and the answer to a frame
 //
 // x is a letter, which the file `number` explains, or the number of a bit, 0 to F, of the row's
-// word. That is the word of the last #.
-pub const PAGE: [u8; 3050] = *b"\
+// word. That is the word of the last #. Behind @, { and ! the file `run` explains it.
+pub const PAGE: [u8; 4173] = *b"\
 RTC AND WATCHDOG REGISTERS
 B0     Seconds                  #       $s.$S s
 B1     Mins_Hrs                 #       $h:$H[i AM][j PM]
@@ -69,4 +72,22 @@ FE     Interrupt Status         #      [F TO][E AF][C TOF][B TE][A LDO][9 TOF_EV
                                           ][7 FLASH][5 HALT][3 INIT][2 POR][w| none]
        Flash supply                        [von|off]
 FF     Control                  #       not carried
+STATE OF THE RUN
+       Initialised                         {zyes|no}
+       Flight measurement                  {gawaited, fails in @g tick|none awaited}{Gs}
+       Temperature measurement             {oawaited, fails in @o tick|none awaited}{Os}
+       Event of differences                {a@b of @a started, @c settled, @d good|none}
+       Next difference                     {ein @e tick|none}{Es}{f, continuous}
+       Event of temperatures               {i@j of @i started, @k settled, @l good|none}
+       Next temperature                    {min @m tick|none}{Ms}{n, continuous}
+COMMANDS NOW
+00-02  TOF_UP, TOF_DOWN, TOF_DIFF         !0{p PL 0}{q DPL 0}
+03     Temperature                        !3{r TP @t@ub}
+05     Initialize                         !5
+07     EVTMG1, both kinds                 !7{p PL 0}{q DPL 0}{r TP @t@ub}{s EOSC 1}
+08     EVTMG2, differences                !8{p PL 0}{q DPL 0}{s EOSC 1}
+09     EVTMG3, temperatures               !9{r TP @t@ub}{s EOSC 1}
+0C 0D  LDO_ON, LDO_OFF                    !C
+10 13  Flash write, erase, read (90)      !f
+30-43  Register writes                    !w
 ";

@@ -2,8 +2,8 @@
 ghost use mathlib.Core.Path.{_≡_};
 ghost use Rattle.device.specs.Model.{freshModel};
 ghost use Rattle.device.specs.Call.{Call};
-ghost use Rattle.device.specs.Reply.{reply, output, memory};
-use bus::sound_transaction;
+ghost use Rattle.device.specs.Reply.{reply};
+pub use bus::transaction;
 use device::Model;
 use device::Reply;
 use model::refusal::NOT_SOUND;
@@ -30,16 +30,6 @@ pub fn fresh() -> Model
     ensures { λ r. ⌜ r ≡ freshModel ⌝ }
 {
     fresh_with(por_bit())
-}
-
-// One bus transaction: the bytes of a chip-enable window, the output buffer, and the user flash.
-pub fn transaction(m: Model, frame: &[u8], out: &mut [u8], mem: &mut [u8]) -> Reply
-    ensures { λ r. ⌜ (r ≡ reply m (Call.transaction (now (frame .entry)) (now (out .entry)) (now (mem .entry)))) × (now (out .exit) ≡ output m (Call.transaction (now (frame .entry)) (now (out .entry)) (now (mem .entry)))) × (now (mem .exit) ≡ memory m (Call.transaction (now (frame .entry)) (now (out .entry)) (now (mem .entry)))) ⌝ }
-{
-    if is_sound(m) {
-        return sound_transaction(m, frame, out, mem);
-    }
-    refuse(m, NOT_SOUND)
 }
 
 // One period of the 32,768 Hz clock.

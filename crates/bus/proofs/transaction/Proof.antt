@@ -7,8 +7,8 @@ use denote.Ref.{now}
 use mathlib.Core.Bool.{false}
 use mathlib.Core.Path.{_≡_, sym, _∙_}
 use borrow.Author.Needs.{needs}
-use Rattle.converter.proofs.transaction.Statement.{statement}
-use Rattle.converter.proofs.transaction.Tie as tie
+use Rattle.bus.proofs.transaction.Statement.{statement}
+use Rattle.bus.proofs.transaction.Tie as tie
 
 is-sound-requires : tie.Need-is-sound-requires
 is-sound-requires c κs = search needs

@@ -1,0 +1,5 @@
+pub mod Kind
+pub mod Group
+pub mod Tally
+pub mod Summary
+pub mod Puts

@@ -37,7 +37,7 @@ use Rattle.device.specs.History.{differences, countOf, isTick, stretchIn, spanO
 use Rattle.device.specs.History.{after, log, isRefusal, mayFollow, onlyReads, startReported, named}
 use Rattle.device.specs.Claim.{command}
 use Rattle.device.specs.Claim.{write, settledOf, toldOf}
-use Rattle.device.specs.History.{history, note, noteTicks, noteTick, noteGood, noteFailed, opensGroup, beginning, wordsGood, isGood, isFailed, isDelivery, isTransaction, failureReported}
+use Rattle.device.specs.History.{history, note, noteTicks, noteTick, noteGood, noteFailed, opensGroup, beginning, wordsGood, isGood, isFailed, isDelivery, failureReported}
 use Rattle.device.specs.SetupTold.{setupTold, lastWord, wordGiven}
 use Rattle.worked_examples.proofs.Witness.{before}
 
@@ -60,5 +60,5 @@ pub settled-told :
     (map (λ (c : List Call). settledOf (toldOf differences (setupTold (log freshModel before)) (after freshModel before) 8 [] [] c)) ([] ∷ delivered ∷ [])
     ≡ 0 ∷ 1 ∷ []) ×
     (countOf differences (setupTold (log freshModel before)) ≡ 1)
-unfolding startReported named stretchReport lastTick scheduleTicked reportOf registerWord flightWord temperatureWord half settle goodFlight goodSum goodDifference goodFlightModel goodTemperatureModel failedTemperatureModel goodSums sixWords fourWords average sixTotal filled portPairs portPair plusEach wordOrZero biased differenceWord differenceMean differenceBits portMean anyLate anyOpen portFault anyFault anyFrom anyBelow anyWord shortBelow lateFrom openFrom hitCount timeout portCycle flightMiscounted sameCount differencePeriod temperaturePeriod modelTicked begins leftAfter waitAfter startedAfter log onlyReads isRefusal mayFollow acceptedAnswer startedEvent eventFlight flightEvent startEvent differenceCount eventTemperature temperatureEvent temperatureCount tickModel clockTicked tickClock flightAfter fails tickSchedule settledAfter temperatureAfter after reply replyBy verdict firstOf table noFrame notCarried wrongLength pastRegisters shortOutput whileBusy supplyOff unreachable unerased badCalendar notInitialised badSetup notAwaited miscounted tooLong acceptedModel freshModel freshWith porBit noFlight noTemperature noSchedule start factory isSound sumFits flightSound temperatureSound scheduleSound clockValid dateFits timeFits leap monthLength kindBusy isBusy isAwaited inEvent isCommand isWrite isFlash isRead notWhole pastEnd wordAt calendarWord word30 word31 hourDigits word32 word33 bcd hundredthsOf minuteIn twelveIn hourNamed hourIn ticksIn clockFrom timeDigits hourFits digitsFit wordsValid alarmValid alarmWord covers written withWord setupAfter ticksAfter clockAfter writeInvalid writeModel mustBeIdle startsFlight startsTemperature isEvent commandBusy beforeInitialize flightSideUnset temperatureSideUnset eventSideUnset commandUnset flightUnset temperatureUnset eventContinuous startsLeft beginsGroup goodAfter countsSound waitSound balanceSound sumAfter sumsAfter flightTicked clockStands runModel initialisedModel joined isTick stretchIn spanOf failedFlight failedDifference failedFlightModel history note noteTicks noteTick noteGood noteFailed opensGroup beginning wordsGood isGood isFailed isDelivery isTransaction failureReported setupTold lastWord wordGiven countOf
+unfolding startReported named stretchReport lastTick scheduleTicked reportOf registerWord flightWord temperatureWord half settle goodFlight goodSum goodDifference goodFlightModel goodTemperatureModel failedTemperatureModel goodSums sixWords fourWords average sixTotal filled portPairs portPair plusEach wordOrZero biased differenceWord differenceMean differenceBits portMean anyLate anyOpen portFault anyFault anyFrom anyBelow anyWord shortBelow lateFrom openFrom hitCount timeout portCycle flightMiscounted sameCount differencePeriod temperaturePeriod modelTicked begins leftAfter waitAfter startedAfter log onlyReads isRefusal mayFollow acceptedAnswer startedEvent eventFlight flightEvent startEvent differenceCount eventTemperature temperatureEvent temperatureCount tickModel clockTicked tickClock flightAfter fails tickSchedule settledAfter temperatureAfter after reply replyBy verdict firstOf table noFrame notCarried wrongLength pastRegisters shortOutput whileBusy supplyOff unreachable unerased badCalendar notInitialised badSetup notAwaited miscounted tooLong acceptedModel freshModel freshWith porBit noFlight noTemperature noSchedule start factory isSound sumFits flightSound temperatureSound scheduleSound clockValid dateFits timeFits leap monthLength kindBusy isBusy isAwaited inEvent isCommand isWrite isFlash isRead notWhole pastEnd wordAt calendarWord word30 word31 hourDigits word32 word33 bcd hundredthsOf minuteIn twelveIn hourNamed hourIn ticksIn clockFrom timeDigits hourFits digitsFit wordsValid alarmValid alarmWord covers written withWord setupAfter ticksAfter clockAfter writeInvalid writeModel mustBeIdle startsFlight startsTemperature isEvent commandBusy beforeInitialize flightSideUnset temperatureSideUnset eventSideUnset commandUnset flightUnset temperatureUnset eventContinuous startsLeft beginsGroup goodAfter countsSound waitSound balanceSound sumAfter sumsAfter flightTicked clockStands runModel initialisedModel joined isTick stretchIn spanOf failedFlight failedDifference failedFlightModel history note noteTicks noteTick noteGood noteFailed opensGroup beginning wordsGood isGood isFailed isDelivery failureReported setupTold lastWord wordGiven countOf
 settled-told = (refl, refl)

@@ -13,7 +13,7 @@ use Rattle.unit.proofs.Cases.{by-eqb}
 use Rattle.numeral.specs.declared.Number.the-variants.{Value}
 use Rattle.numeral.specs.Digit.{digits}
 use Rattle.numeral.specs.Read.{readHex}
-use Rattle.numeral.specs.DigitLaws.{hex-reads-back}
+use Rattle.numeral.proofs.DigitLaws.{hex-reads-back}
 use Rattle.device.specs.declared.Model.{Model}
 use Rattle.device.specs.Model.{isSound}
 use Rattle.device.specs.Question.{peek}

@@ -3,32 +3,22 @@ use device::Model;
 use device::Told;
 use item_state::counts::RECORD;
 use item_state::counts::USED;
-use item_state::counts::more;
+use item_state::output::first_words;
 
-// The record has so many places.
-const PLACES: usize = 4096;
-
-pub fn lacks_room(n: usize, counts: &[usize; 21]) -> bool {
-    PLACES < more(counts[RECORD], at_least_one(n))
-}
-
-fn at_least_one(n: usize) -> usize {
-    if n == 0 { 1 } else { n }
-}
-
-// The line `record`: these differences, or TOF_DIFF as it stands.
-pub fn add(
+// The line `record`: the first n numbers, or TOF_DIFF as it stands.
+pub fn record(
     m: Model,
-    words: &[u32],
+    numbers: &[u32],
+    n: usize,
     kept: &mut [i32],
-    counts: &mut [usize; 21],
+    counts: &mut [usize; 22],
     answers: &mut [u8],
 ) {
-    if words.len() == 0 {
+    if n == 0 {
         let one = [tof_diff(m)];
         add_words(&one, kept, counts, answers);
     } else {
-        add_words(words, kept, counts, answers);
+        add_words(first_words(numbers, n), kept, counts, answers);
     }
 }
 
@@ -48,11 +38,11 @@ fn value(told: Told) -> u32 {
     }
 }
 
-fn add_words(words: &[u32], kept: &mut [i32], counts: &mut [usize; 21], answers: &mut [u8]) {
-    let start = numeral::put_text(answers, counts[USED], b"record");
+fn add_words(words: &[u32], kept: &mut [i32], counts: &mut [usize; 22], answers: &mut [u8]) {
+    let start = wording::heads::put_record(answers, counts[USED]);
     let end = put_each(answers, start, words);
     counts[RECORD] = store(words, kept, counts[RECORD]);
-    counts[USED] = numeral::put_text(answers, end, b"\n");
+    counts[USED] = wording::heads::put_end(answers, end);
 }
 
 fn put_each(answers: &mut [u8], at: usize, words: &[u32]) -> usize {

@@ -12,15 +12,14 @@ fn first_of(kept: &[i32], n: usize) -> &[i32] {
     if n <= kept.len() { &kept[..n] } else { kept }
 }
 
-pub fn list(old: bool, first: u32, kept: &[i32], counts: &mut [usize; 21], answers: &mut [u8]) {
+pub fn listing(old: bool, first: u32, kept: &[i32], counts: &mut [usize; 22], answers: &mut [u8]) {
     let at = counts[USED];
-    let a = numeral::put_text(answers, at, b"listing ");
-    let b = wording::end::put_count(answers, a, counts[RECORD] as u64, b"\n");
+    let b = wording::heads::put_listing(answers, at, counts[RECORD] as u64);
     let listed = lines(old, first, first_of(kept, counts[RECORD]), answers, b);
     match listed {
         Listed::Written(n) => count(counts, 0, more(b, n)),
         Listed::Refused(number) => {
-            let used = wording::kept::put_refused(answers, at, b"listing", number);
+            let used = wording::heads::put_listing_refused(answers, at, number);
             count(counts, 1, used);
         }
     }
@@ -38,7 +37,7 @@ fn width_of(old: bool) -> Width {
     if old { Width::Two } else { Width::Eight }
 }
 
-pub fn quietest(width: usize, kept: &[i32], counts: &mut [usize; 21], answers: &mut [u8]) {
+pub fn quietest(width: usize, kept: &[i32], counts: &mut [usize; 22], answers: &mut [u8]) {
     let place = quietest::quietest_place(first_of(kept, counts[RECORD]), width);
     match place {
         Place::At(start) => {
@@ -52,7 +51,7 @@ pub fn quietest(width: usize, kept: &[i32], counts: &mut [usize; 21], answers: &
             count(counts, 0, used);
         }
         Place::Refused(number) => {
-            let used = wording::kept::put_refused(answers, counts[USED], b"quietest", number);
+            let used = wording::heads::put_quietest_refused(answers, counts[USED], number);
             count(counts, 1, used);
         }
     }

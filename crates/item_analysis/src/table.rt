@@ -2,20 +2,18 @@
 use item_state::counts::PROBES;
 use item_state::counts::USED;
 use item_state::counts::count;
-use item_state::counts::more;
 use item_state::output::first_words;
 use thermometer::InDegrees;
 
-// The table has so many places.
-const PLACES: usize = 1024;
-
-pub fn lacks_room(n: usize, counts: &[usize; 21]) -> bool {
-    PLACES < more(counts[PROBES], n)
-}
-
-// The line `probe`.
-pub fn probe(entries: &[u32], probes: &mut [u32], counts: &mut [usize; 21], answers: &mut [u8]) {
-    let end = add(entries, probes, counts[PROBES]);
+// The line `probe`: the first n numbers.
+pub fn probe(
+    numbers: &[u32],
+    n: usize,
+    probes: &mut [u32],
+    counts: &mut [usize; 22],
+    answers: &mut [u8],
+) {
+    let end = add(first_words(numbers, n), probes, counts[PROBES]);
     counts[PROBES] = end;
     counts[USED] = wording::kept::put_probe(answers, counts[USED], end as u64);
 }
@@ -41,12 +39,12 @@ fn put(probes: &mut [u32], at: usize, entry: u32) -> usize {
 }
 
 // The line `degrees`.
-pub fn degrees(words: &[u32], probes: &[u32], counts: &mut [usize; 21], answers: &mut [u8]) {
+pub fn degrees(words: &[u32], probes: &[u32], counts: &mut [usize; 22], answers: &mut [u8]) {
     if words.len() < 2 {
         return;
     }
     let reading = reading(first_words(probes, counts[PROBES]), words[0], words[1]);
-    tell(reading, counts, answers);
+    put_reading(reading, counts, answers);
 }
 
 // By the item's own table, or PT1000's where it has none.
@@ -58,14 +56,14 @@ fn reading(table: &[u32], probe: u32, reference: u32) -> InDegrees {
     }
 }
 
-fn tell(reading: InDegrees, counts: &mut [usize; 21], answers: &mut [u8]) {
+fn put_reading(reading: InDegrees, counts: &mut [usize; 22], answers: &mut [u8]) {
     match reading {
         InDegrees::Thousandths(n) => {
             let used = wording::kept::put_degrees(answers, counts[USED], n);
             count(counts, 0, used);
         }
         InDegrees::Refused(number) => {
-            let used = wording::kept::put_refused(answers, counts[USED], b"degrees", number);
+            let used = wording::heads::put_degrees_refused(answers, counts[USED], number);
             count(counts, 1, used);
         }
     }

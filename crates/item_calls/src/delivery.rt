@@ -2,25 +2,37 @@
 use device::Model;
 use item_state::counts::USED;
 use item_state::counts::count_call;
+use item_state::output::first_words;
+use item_state::output::words_from;
 
+// The up words are the first numbers, and the down words stand behind them.
 pub fn flight(
     m: Model,
-    up: &[u32],
-    down: &[u32],
-    counts: &mut [usize; 21],
+    numbers: &[u32],
+    up: usize,
+    down: usize,
+    counts: &mut [usize; 22],
     answers: &mut [u8],
 ) -> Model {
-    let reply = converter::flight_delivery(m, up, down);
+    let ups = first_words(numbers, up);
+    let downs = first_words(words_from(numbers, up), down);
+    let reply = converter::flight_delivery(m, ups, downs);
     let answer = reply.answer;
-    let used = wording::delivery::put_delivery(answers, counts[USED], b"flight", answer);
+    let used = wording::heads::put_flight(answers, counts[USED], answer);
     count_call(counts, answer, used);
     reply.model
 }
 
-pub fn temperature(m: Model, words: &[u32], counts: &mut [usize; 21], answers: &mut [u8]) -> Model {
-    let reply = converter::temperature_delivery(m, words);
+pub fn temperature(
+    m: Model,
+    numbers: &[u32],
+    n: usize,
+    counts: &mut [usize; 22],
+    answers: &mut [u8],
+) -> Model {
+    let reply = converter::temperature_delivery(m, first_words(numbers, n));
     let answer = reply.answer;
-    let used = wording::delivery::put_delivery(answers, counts[USED], b"temperature", answer);
+    let used = wording::heads::put_temperature(answers, counts[USED], answer);
     count_call(counts, answer, used);
     reply.model
 }

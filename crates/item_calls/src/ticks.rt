@@ -11,17 +11,16 @@ use item_state::counts::more;
 use item_state::output::go_on;
 
 // n ticks.
-pub fn tick(m: Model, n: u32, counts: &mut [usize; 21], answers: &mut [u8]) -> Model {
+pub fn tick(m: Model, n: u32, counts: &mut [usize; 22], answers: &mut [u8]) -> Model {
     counts[MOMENT] = more(counts[MOMENT], n as usize);
     if n == 1 {
         return single(m, counts, answers);
     }
-    let a = numeral::put_text(answers, counts[USED], b"tick ");
-    counts[USED] = numeral::put_decimal(answers, a, n as u64);
+    counts[USED] = wording::heads::put_tick(answers, counts[USED], n);
     run(m, n, 0, counts, answers)
 }
 
-fn single(m: Model, counts: &mut [usize; 21], answers: &mut [u8]) -> Model {
+fn single(m: Model, counts: &mut [usize; 22], answers: &mut [u8]) -> Model {
     let reply = converter::tick(m);
     let answer = reply.answer;
     let used = wording::ticks::put_single(answers, counts[USED], answer);
@@ -30,11 +29,10 @@ fn single(m: Model, counts: &mut [usize; 21], answers: &mut [u8]) -> Model {
 }
 
 // Ticks up to the moment t, which has not passed.
-pub fn at(m: Model, t: u32, counts: &mut [usize; 21], answers: &mut [u8]) -> Model {
+pub fn at(m: Model, t: u32, counts: &mut [usize; 22], answers: &mut [u8]) -> Model {
     let passed = passed_of(counts[MOMENT], t);
     counts[MOMENT] = t as usize;
-    let a = numeral::put_text(answers, counts[USED], b"at ");
-    counts[USED] = numeral::put_decimal(answers, a, t as u64);
+    counts[USED] = wording::heads::put_at(answers, counts[USED], t);
     run(m, t - passed, passed, counts, answers)
 }
 
@@ -50,7 +48,7 @@ fn passed_of(moment: usize, t: u32) -> u32
 }
 
 // In stretches, which end as so many single ticks do. Reports are counted from `passed` on.
-fn run(m: Model, n: u32, passed: u32, counts: &mut [usize; 21], answers: &mut [u8]) -> Model {
+fn run(m: Model, n: u32, passed: u32, counts: &mut [usize; 22], answers: &mut [u8]) -> Model {
     let mut model = m;
     let mut done = 0;
     while done < n {
@@ -62,7 +60,7 @@ fn run(m: Model, n: u32, passed: u32, counts: &mut [usize; 21], answers: &mut [u
         add_reports(answers, answer, from, counts);
         done += span;
     }
-    let end = numeral::put_text(answers, counts[USED], b"\n");
+    let end = wording::heads::put_end(answers, counts[USED]);
     count(counts, 0, end);
     model
 }
@@ -75,7 +73,7 @@ fn span_of(left: u32) -> u32
     if left <= 16384 { left } else { 16384 }
 }
 
-fn add_reports(answers: &mut [u8], answer: Answer, done: u32, counts: &mut [usize; 21]) {
+fn add_reports(answers: &mut [u8], answer: Answer, done: u32, counts: &mut [usize; 22]) {
     match answer {
         Answer::Stretched(flight, temperature) => {
             if wording::ticks::none_named(flight, temperature) {
@@ -92,7 +90,7 @@ fn add_named(
     flight: StretchReport,
     temperature: StretchReport,
     done: u32,
-    counts: &mut [usize; 21],
+    counts: &mut [usize; 22],
 ) {
     let used = counts[USED];
     let place = go_on(answers, counts, used);
@@ -100,20 +98,14 @@ fn add_named(
 }
 
 // One stretch of n ticks.
-pub fn stretch(m: Model, n: u32, counts: &mut [usize; 21], answers: &mut [u8]) -> Model {
+pub fn stretch(m: Model, n: u32, counts: &mut [usize; 22], answers: &mut [u8]) -> Model {
     let reply = converter::stretch(m, n);
     let answer = reply.answer;
-    let used = put_stretch(answers, counts[USED], answer, n);
+    let used = wording::heads::put_stretch(answers, counts[USED], answer, n);
     let refused = item_state::counts::refusals(answer);
     if refused == 0 {
         counts[MOMENT] = more(counts[MOMENT], n as usize);
     }
     count(counts, refused, used);
     reply.model
-}
-
-fn put_stretch(answers: &mut [u8], at: usize, answer: Answer, n: u32) -> usize {
-    let a = numeral::put_text(answers, at, b"stretch");
-    let b = wording::ticks::put_stretched(answers, a, answer, n);
-    numeral::put_text(answers, b, b"\n")
 }

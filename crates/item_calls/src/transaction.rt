@@ -7,75 +7,46 @@ use item_state::counts::MOMENT;
 use item_state::counts::USED;
 use item_state::counts::count_call;
 use item_state::output::first_bytes;
+use item_state::output::first_places;
+use item_state::output::first_words;
 
+// With the output buffer that the bytes ask for.
 pub fn bus(
     m: Model,
-    words: &[u32],
-    counts: &mut [usize; 21],
+    numbers: &[u32],
+    bytes: usize,
+    counts: &mut [usize; 22],
     mem: &mut [u8],
     answers: &mut [u8],
 ) -> Model {
-    bus_out(m, words, buffer_size(words), counts, mem, answers)
+    let size = buffer_size(first_words(numbers, bytes));
+    bus_out(m, numbers, bytes, size, counts, mem, answers)
 }
 
-// A transaction of the low bytes of these words, with an output buffer of `size` bytes.
+// A transaction of the low bytes of the first numbers, with an output buffer of `size` bytes.
 pub fn bus_out(
     m: Model,
-    words: &[u32],
+    numbers: &[u32],
+    bytes: usize,
     size: usize,
-    counts: &mut [usize; 21],
+    counts: &mut [usize; 22],
     mem: &mut [u8],
     answers: &mut [u8],
 ) -> Model {
     let mut frame = [0u8; 200];
-    let n = numeral::put_low_bytes(&mut frame, 0, words);
+    let n = numeral::put_low_bytes(&mut frame, 0, first_words(numbers, bytes));
     let mut buffer = [238u8; 200];
-    bus_sized(
-        m,
-        first_bytes(&frame, n),
-        &mut buffer,
-        size,
-        counts,
-        mem,
-        answers,
-    )
-}
-
-// With the first `size` bytes of a buffer; all of it where it has fewer.
-fn bus_sized(
-    m: Model,
-    frame: &[u8],
-    buffer: &mut [u8],
-    size: usize,
-    counts: &mut [usize; 21],
-    mem: &mut [u8],
-    answers: &mut [u8],
-) -> Model {
-    if size <= buffer.len() {
-        bus_call(m, frame, &mut buffer[..size], counts, mem, answers)
-    } else {
-        bus_call(m, frame, buffer, counts, mem, answers)
-    }
-}
-
-fn bus_call(
-    m: Model,
-    frame: &[u8],
-    buffer: &mut [u8],
-    counts: &mut [usize; 21],
-    mem: &mut [u8],
-    answers: &mut [u8],
-) -> Model {
-    let reply = converter::transaction(m, frame, buffer, mem);
+    let out = first_places(&mut buffer, size);
+    let reply = converter::transaction(m, first_bytes(&frame, n), out, mem);
     let answer = reply.answer;
-    let used = wording::bus::put_bus(answers, counts[USED], answer, buffer);
+    let used = wording::bus::put_bus(answers, counts[USED], answer, out);
     start_moment(counts, answer);
     count_call(counts, answer, used);
     reply.model
 }
 
 // Moments count from a transaction that starts a measurement.
-fn start_moment(counts: &mut [usize; 21], answer: Answer) {
+fn start_moment(counts: &mut [usize; 22], answer: Answer) {
     match answer {
         Answer::Accepted(flight, temperature) => {
             if flight {
@@ -89,29 +60,20 @@ fn start_moment(counts: &mut [usize; 21], answer: Answer) {
     }
 }
 
-// A write of these words from the address a on.
+// A write of the first numbers, so many words, from the address a on.
 pub fn set(
     m: Model,
     a: u32,
-    words: &[u32],
-    counts: &mut [usize; 21],
+    numbers: &[u32],
+    words: usize,
+    counts: &mut [usize; 22],
     mem: &mut [u8],
     answers: &mut [u8],
 ) -> Model {
     let mut frame = [0u8; 200];
-    let n = put_write(&mut frame, a, words);
-    set_call(m, first_bytes(&frame, n), counts, mem, answers)
-}
-
-fn set_call(
-    m: Model,
-    frame: &[u8],
-    counts: &mut [usize; 21],
-    mem: &mut [u8],
-    answers: &mut [u8],
-) -> Model {
+    let n = put_write(&mut frame, a, first_words(numbers, words));
     let mut none = [0u8; 0];
-    let reply = converter::transaction(m, frame, &mut none, mem);
+    let reply = converter::transaction(m, first_bytes(&frame, n), &mut none, mem);
     let answer = reply.answer;
     let used = wording::bus::put_set(answers, counts[USED], answer);
     count_call(counts, answer, used);

@@ -12,7 +12,7 @@ use item_state::counts::USED;
 use item_state::counts::more;
 
 // The words that are expected from the address a on.
-pub fn expect(m: Model, a: u32, words: &[u32], counts: &mut [usize; 21], answers: &mut [u8])
+pub fn expect(m: Model, a: u32, words: &[u32], counts: &mut [usize; 22], answers: &mut [u8])
     ensures { λ _. ⌜ Expects m a (now (words .entry)) (now (counts .entry)) (now (answers .entry)) (now (counts .exit)) (now (answers .exit)) ⌝ }
 {
     let n = differing(m, a, words);

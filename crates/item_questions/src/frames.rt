@@ -4,7 +4,7 @@ use item_state::counts::USED;
 use item_state::counts::count;
 use setup_frames::Framed;
 
-pub fn frames(m: Model, counts: &mut [usize; 21], answers: &mut [u8]) {
+pub fn frames(m: Model, counts: &mut [usize; 22], answers: &mut [u8]) {
     let mut bytes = [0u8; 33];
     let mut lengths = [0u32; 8];
     let framed = setup_frames::setup_frames(m, &mut bytes, &mut lengths);

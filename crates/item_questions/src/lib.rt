@@ -1,22 +1,19 @@
-// The lines that ask, and those that are no calls: none changes the model.
+// The lines that ask the model and do not change it.
 mod expectation;
 mod frames;
 mod registers;
 
 use device::Model;
-use item_state::counts::BAD;
-use item_state::counts::LINES;
 use item_state::counts::USED;
-use item_state::counts::more;
 use item_state::output::first_words;
 use line::Content;
 
-// Answers such a line; any other as one that is no call.
-pub fn tell(
+// Answers such a line. Any other is passed over.
+pub fn answer_question(
     m: Model,
     content: Content,
     numbers: &[u32],
-    counts: &mut [usize; 21],
+    counts: &mut [usize; 22],
     answers: &mut [u8],
 ) {
     match content {
@@ -24,23 +21,10 @@ pub fn tell(
             expectation::expect(m, address, first_words(numbers, words), counts, answers);
         }
         Content::Frames => frames::frames(m, counts, answers),
-        _ => ask(m, content, counts, answers),
+        Content::Int => counts[USED] = registers::add_interrupt(answers, counts[USED], m),
+        Content::Awaited => counts[USED] = registers::add_awaited(answers, counts[USED], m),
+        Content::Regs => counts[USED] = registers::add_registers(answers, counts[USED], m),
+        Content::Show => counts[USED] = show::put_page(answers, counts[USED], m),
+        _ => {}
     }
-}
-
-fn ask(m: Model, content: Content, counts: &mut [usize; 21], answers: &mut [u8]) {
-    let used = counts[USED];
-    match content {
-        Content::Int => counts[USED] = registers::add_interrupt(answers, used, m),
-        Content::Awaited => counts[USED] = registers::add_awaited(answers, used, m),
-        Content::Regs => counts[USED] = registers::add_registers(answers, used, m),
-        Content::Show => counts[USED] = show::put_page(answers, used, m),
-        _ => bad(content, counts, answers),
-    }
-}
-
-// A line that is no call.
-pub fn bad(content: Content, counts: &mut [usize; 21], answers: &mut [u8]) {
-    counts[BAD] = more(counts[BAD], 1);
-    counts[USED] = wording::fault::put_fault(answers, counts[USED], counts[LINES] as u64, content);
 }

@@ -5,7 +5,7 @@ use device::Answer;
 
 // The places of the counts. Bytes of answers that are not written yet.
 pub const USED: usize = 0;
-// Bytes of the next line that are held.
+// Bytes of the next line that are held until the rest of it is read.
 pub const HELD: usize = 1;
 // Lines that were read.
 pub const LINES: usize = 2;
@@ -55,6 +55,20 @@ pub const OLD_TROUBLE: usize = 19;
 // Where the line's answer starts, behind its head in a check.
 pub const BODY: usize = 20;
 
+// How far reading the input has come: MORE, ENDED or UNREADABLE.
+pub const STATE: usize = 21;
+
+pub const MORE: usize = 0;
+
+pub const ENDED: usize = 1;
+
+pub const UNREADABLE: usize = 2;
+
+// The record and the probe table have so many places.
+pub const RECORD_PLACES: usize = 4096;
+
+pub const PROBE_PLACES: usize = 1024;
+
 // n + k, or the largest number that fits.
 pub fn more(n: usize, k: usize) -> usize
     ensures { λ r. ⌜ r ≡ min (n + k) 18446744073709551615 ⌝ }
@@ -75,12 +89,12 @@ pub fn refusals(answer: Answer) -> usize {
 }
 
 // After a call with this answer, when `used` bytes of answers are not written yet.
-pub fn count_call(counts: &mut [usize; 21], answer: Answer, used: usize) {
+pub fn count_call(counts: &mut [usize; 22], answer: Answer, used: usize) {
     count(counts, refusals(answer), used);
 }
 
 // After a call that was refused where `refused` is 1.
-pub fn count(counts: &mut [usize; 21], refused: usize, used: usize) {
+pub fn count(counts: &mut [usize; 22], refused: usize, used: usize) {
     counts[CALLS] = more(counts[CALLS], 1);
     counts[REFUSED] = more(counts[REFUSED], refused);
     counts[USED] = used;

@@ -14,6 +14,15 @@ pub fn first_bytes(bytes: &[u8], n: usize) -> &[u8]
     if n <= bytes.len() { &bytes[..n] } else { bytes }
 }
 
+// The first n places of a buffer, to be written; all of it where it has fewer.
+pub fn first_places(bytes: &mut [u8], n: usize) -> &mut [u8] {
+    if n <= bytes.len() {
+        &mut bytes[..n]
+    } else {
+        bytes
+    }
+}
+
 // The bytes from the place n on; none where it has fewer.
 pub fn bytes_from(bytes: &[u8], n: usize) -> &[u8]
     ensures { λ r. ⌜ now r ≡ drop n (now (bytes .entry)) ⌝ }
@@ -53,14 +62,14 @@ pub fn write_part(bytes: &[u8], from: usize, to: usize) {
 }
 
 // Writes the answers.
-pub fn write_answers(answers: &[u8], counts: &mut [usize; 21]) {
+pub fn write_answers(answers: &[u8], counts: &mut [usize; 22]) {
     write_part(answers, counts[WRITTEN], counts[USED]);
     counts[USED] = 0;
     counts[WRITTEN] = 0;
 }
 
 // Makes room for another answer.
-pub fn make_room(answers: &[u8], counts: &mut [usize; 21]) {
+pub fn make_room(answers: &[u8], counts: &mut [usize; 22]) {
     if FULL < counts[USED] {
         write_answers(answers, counts);
     }
@@ -68,7 +77,7 @@ pub fn make_room(answers: &[u8], counts: &mut [usize; 21]) {
 
 // The place at which an answer goes on: `at`, or one behind its kept start where the rest had to be
 // written, or is left out of a check.
-pub fn go_on(answers: &mut [u8], counts: &mut [usize; 21], at: usize) -> usize {
+pub fn go_on(answers: &mut [u8], counts: &mut [usize; 22], at: usize) -> usize {
     if at <= LONG {
         return at;
     }

@@ -1,18 +1,15 @@
-// Before a line's answer and after it: its head, what it expects, and what needs a look.
+// After a line's answer: what the line expects, and what needs a look.
 ghost use Prim.Native.Nat.{_≤_};
 ghost use lib.ListN.{length};
-use crate::lines::NAME_PLACE;
 use item_state::counts::BAD;
 use item_state::counts::BODY;
 use item_state::counts::CHECK;
 use item_state::counts::DIFFER;
 use item_state::counts::EXPECTED;
-use item_state::counts::LINES;
 use item_state::counts::NAME;
 use item_state::counts::OLD_BAD;
 use item_state::counts::OLD_REFUSED;
 use item_state::counts::OLD_TROUBLE;
-use item_state::counts::PATH;
 use item_state::counts::REFUSED;
 use item_state::counts::START;
 use item_state::counts::UNANNOUNCED;
@@ -20,34 +17,12 @@ use item_state::counts::USED;
 use item_state::counts::more;
 use item_state::output::bytes_from;
 use item_state::output::first_bytes;
-use item_state::output::make_room;
 
-// Another line begins.
-pub fn open(counts: &mut [usize; 21], names: &[u8], answers: &mut [u8]) {
-    counts[LINES] = more(counts[LINES], 1);
-    make_room(answers, counts);
-    counts[START] = counts[USED];
-    counts[OLD_REFUSED] = counts[REFUSED];
-    counts[OLD_BAD] = counts[BAD];
-    if counts[CHECK] != 0 {
-        put_head(counts, names, answers);
-        return;
-    }
-    counts[BODY] = counts[USED];
-}
-
-// `FILE:LINE: `
-fn put_head(counts: &mut [usize; 21], names: &[u8], answers: &mut [u8]) {
-    counts[OLD_TROUBLE] = trouble(counts);
-    let a = numeral::put_text(answers, counts[USED], first_bytes(names, counts[PATH]));
-    let b = numeral::put_text(answers, a, b":");
-    let c = wording::end::put_count(answers, b, counts[LINES] as u64, b": ");
-    counts[USED] = c;
-    counts[BODY] = c;
-}
+// The item's name stands behind the longest path.
+pub const NAME_PLACE: usize = 4096;
 
 // What needs a look.
-fn trouble(counts: &[usize; 21]) -> usize {
+pub fn trouble(counts: &[usize; 22]) -> usize {
     more(more(counts[BAD], counts[DIFFER]), counts[UNANNOUNCED])
 }
 
@@ -55,7 +30,7 @@ fn trouble(counts: &[usize; 21]) -> usize {
 pub fn close(
     text: &[u8],
     expected: usize,
-    counts: &mut [usize; 21],
+    counts: &mut [usize; 22],
     names: &[u8],
     answers: &mut [u8],
 ) {
@@ -67,7 +42,7 @@ pub fn close(
     keep_trouble(counts, names, answers);
 }
 
-fn count_unannounced(counts: &mut [usize; 21], announced: bool) {
+fn count_unannounced(counts: &mut [usize; 22], announced: bool) {
     if announced {
         return;
     }
@@ -78,7 +53,7 @@ fn count_unannounced(counts: &mut [usize; 21], announced: bool) {
 }
 
 // Whether the answer is one that the line expects.
-fn judged(text: &[u8], expected: usize, counts: &mut [usize; 21], answers: &mut [u8]) -> bool {
+fn judged(text: &[u8], expected: usize, counts: &mut [usize; 22], answers: &mut [u8]) -> bool {
     if expected == 0 {
         return false;
     }
@@ -89,7 +64,7 @@ fn judged(text: &[u8], expected: usize, counts: &mut [usize; 21], answers: &mut 
 }
 
 // Whether the answer is as expected; where it is not, what was expected goes behind its first line.
-fn judge(text: &[u8], counts: &mut [usize; 21], answers: &mut [u8]) -> bool {
+fn judge(text: &[u8], counts: &mut [usize; 22], answers: &mut [u8]) -> bool {
     let mut wanted = [0u8; 1024];
     let n = line::put_words(&mut wanted, 0, text);
     counts[EXPECTED] = more(counts[EXPECTED], 1);
@@ -145,7 +120,7 @@ fn place_of(bytes: &[u8], c: u8) -> usize
 }
 
 // The end of the answer's first line.
-fn first_end(counts: &[usize; 21], answers: &[u8]) -> usize {
+fn first_end(counts: &[usize; 22], answers: &[u8]) -> usize {
     more(
         counts[BODY],
         place_of(
@@ -156,11 +131,10 @@ fn first_end(counts: &[usize; 21], answers: &[u8]) -> usize {
 }
 
 // Puts ` expected ` and the words behind the answer's first line.
-fn insert(wanted: &[u8], counts: &mut [usize; 21], answers: &mut [u8]) {
+fn insert(wanted: &[u8], counts: &mut [usize; 22], answers: &mut [u8]) {
     let end = first_end(counts, answers);
     let used = counts[USED];
-    let a = numeral::put_text(answers, used, b" expected ");
-    let last = numeral::put_text(answers, a, wanted);
+    let last = wording::heads::put_expected(answers, used, wanted);
     rotate(answers, end, used, last);
     counts[USED] = last;
 }
@@ -183,21 +157,16 @@ fn rotate(text: &mut [u8], first: usize, middle: usize, last: usize) {
 
 // In a check an answer that needs no look is dropped, and of another the first line is kept, with the
 // item's name.
-fn keep_trouble(counts: &mut [usize; 21], names: &[u8], answers: &mut [u8]) {
+fn keep_trouble(counts: &mut [usize; 22], names: &[u8], answers: &mut [u8]) {
     if trouble(counts) == counts[OLD_TROUBLE] {
         counts[USED] = counts[START];
         return;
     }
     let end = first_end(counts, answers);
     if counts[NAME] == 0 {
-        counts[USED] = numeral::put_text(answers, end, b"\n");
+        counts[USED] = wording::heads::put_end(answers, end);
         return;
     }
-    let a = numeral::put_text(answers, end, b" (");
-    let b = numeral::put_text(
-        answers,
-        a,
-        bytes_from(first_bytes(names, counts[NAME]), NAME_PLACE),
-    );
-    counts[USED] = numeral::put_text(answers, b, b")\n");
+    let name = bytes_from(first_bytes(names, counts[NAME]), NAME_PLACE);
+    counts[USED] = wording::heads::put_name(answers, end, name);
 }

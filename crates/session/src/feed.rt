@@ -1,18 +1,23 @@
 // The input, line by line.
-ghost use Prim.Native.Nat.{_≤_, _+_};
+ghost use Prim.Native.Nat.{_≤_, _<_, _+_};
 ghost use lib.ListN.{length};
-use crate::lines::answer;
+use crate::lines::answer_line;
 use device::Model;
 use item_state::counts::BAD;
 use item_state::counts::CALLS;
 use item_state::counts::CHECK;
 use item_state::counts::DIFFER;
+use item_state::counts::ENDED;
 use item_state::counts::EXPECTED;
 use item_state::counts::HELD;
+use item_state::counts::MORE;
 use item_state::counts::PATH;
 use item_state::counts::REFUSED;
+use item_state::counts::STATE;
 use item_state::counts::UNANNOUNCED;
+use item_state::counts::UNREADABLE;
 use item_state::counts::USED;
+use item_state::counts::more;
 use item_state::output::first_bytes;
 use item_state::output::write_answers;
 
@@ -25,12 +30,8 @@ pub struct Outcome {
     pub differ: usize,
 }
 
-// How reading ended, or that it did not.
-const MORE: u8 = 0;
-
-const ENDED: u8 = 1;
-
-const UNREADABLE: u8 = 2;
+// As much of a line as is held: one with more bytes is too long, whatever they are.
+const LONGEST: usize = 1002;
 
 // Replays what a file has, to its end. With `check`, only what needs a look is written, by the file's
 // name and the line.
@@ -38,9 +39,8 @@ const UNREADABLE: u8 = 2;
 // Nothing says that the input ends, so the loop counts its turns down, from a number that no run
 // uses up.
 pub fn replay(fd: i32, path: &[u8], check: bool) -> Outcome {
-    let mut held = [0u8; 1002];
     let mut numbers = [0u32; 512];
-    let mut counts = [0usize; 21];
+    let mut counts = [0usize; 22];
     let mut mem = [255u8; 8192];
     let mut kept = [0i32; 4096];
     let mut probes = [0u32; 1024];
@@ -49,33 +49,13 @@ pub fn replay(fd: i32, path: &[u8], check: bool) -> Outcome {
     let mut part = io::large_buffer();
     let mut m = converter::fresh();
     let mut turns = u64::MAX;
-    let mut state = MORE;
     begin(path, check, &mut counts, &mut names);
-    while turns > 0 && state == MORE {
+    while turns > 0 && counts[STATE] == MORE {
         turns -= 1;
-        let got = libc::read(fd, &mut part);
-        state = state_of(got, path);
-        if state == MORE {
-            let n = io::count(got, &part);
-            m = feed(
-                m,
-                &part[..n],
-                &mut held,
-                &mut numbers,
-                &mut counts,
-                &mut mem,
-                &mut kept,
-                &mut probes,
-                &mut names,
-                &mut answers,
-            );
-            write_answers(&answers, &mut counts);
-        }
-    }
-    if state != UNREADABLE {
-        last_line(
+        let n = read_more(fd, path, &mut part, &mut counts);
+        m = answer_lines(
             m,
-            &held,
+            first_bytes(&part, n),
             &mut numbers,
             &mut counts,
             &mut mem,
@@ -84,42 +64,57 @@ pub fn replay(fd: i32, path: &[u8], check: bool) -> Outcome {
             &mut names,
             &mut answers,
         );
-        finish(&mut counts, &mut answers);
+        hold(&mut part, n, &mut counts);
+        write_answers(&answers, &mut counts);
     }
-    told(state, &counts)
+    end(&mut counts, &mut answers)
 }
 
-fn begin(path: &[u8], check: bool, counts: &mut [usize; 21], names: &mut [u8]) {
+fn begin(path: &[u8], check: bool, counts: &mut [usize; 22], names: &mut [u8]) {
     counts[PATH] = numeral::put_text(names, 0, path);
     if check {
         counts[CHECK] = 1;
     }
 }
 
-fn told(state: u8, counts: &[usize; 21]) -> Outcome {
-    Outcome {
-        whole: state != UNREADABLE,
-        unannounced: counts[UNANNOUNCED],
-        bad: counts[BAD],
-        expected: counts[EXPECTED],
-        differ: counts[DIFFER],
+// Reads on behind the bytes that are held, and answers how many stand there then. A last line without
+// a line feed gets one.
+fn read_more(fd: i32, path: &[u8], part: &mut [u8], counts: &mut [usize; 22]) -> usize {
+    let held = counts[HELD];
+    if part.len() <= held {
+        counts[STATE] = ENDED;
+        return 0;
     }
-}
-
-fn state_of(got: isize, path: &[u8]) -> u8 {
+    let got = libc::read(fd, &mut part[held..]);
     if got < 0 {
         os::fail(path);
-        return UNREADABLE;
+        counts[STATE] = UNREADABLE;
+        return 0;
     }
-    if got == 0 { ENDED } else { MORE }
+    if got == 0 {
+        counts[STATE] = ENDED;
+        return end_line(part, held);
+    }
+    more(held, io::count(got, &part[held..]))
 }
 
-fn feed(
+// Puts a line feed behind the bytes that are held, if some are.
+fn end_line(part: &mut [u8], held: usize) -> usize
+    requires { ⌜ held < length (now part) ⌝ }
+{
+    if held == 0 {
+        return 0;
+    }
+    part[held] = 10;
+    held + 1
+}
+
+// Answers the lines that end in these bytes, and counts those that are left.
+fn answer_lines(
     m: Model,
     part: &[u8],
-    held: &mut [u8],
     numbers: &mut [u32],
-    counts: &mut [usize; 21],
+    counts: &mut [usize; 22],
     mem: &mut [u8],
     kept: &mut [i32],
     probes: &mut [u32],
@@ -128,27 +123,23 @@ fn feed(
 ) -> Model {
     let mut model = m;
     let mut i = 0;
-    while i < part.len() {
-        let end = line_end(part, i);
-        if end < part.len() {
-            model = whole_line(
-                model,
-                &part[i..end],
-                held,
-                numbers,
-                counts,
-                mem,
-                kept,
-                probes,
-                names,
-                answers,
-            );
-            i = end + 1;
-        } else {
-            hold(&part[i..], held, counts);
-            return model;
-        }
+    let mut end = line_end(part, 0);
+    while end < part.len() {
+        model = answer_line(
+            model,
+            &part[i..end],
+            numbers,
+            counts,
+            mem,
+            kept,
+            probes,
+            names,
+            answers,
+        );
+        i = end + 1;
+        end = line_end(part, i);
     }
+    counts[HELD] = part.len() - i;
     model
 }
 
@@ -213,78 +204,55 @@ fn end_from(part: &[u8], at: usize) -> usize
     i
 }
 
-// Answers a line, of which `rest` is what is not held.
-fn whole_line(
-    m: Model,
-    rest: &[u8],
-    held: &mut [u8],
-    numbers: &mut [u32],
-    counts: &mut [usize; 21],
-    mem: &mut [u8],
-    kept: &mut [i32],
-    probes: &mut [u32],
-    names: &mut [u8],
-    answers: &mut [u8],
-) -> Model {
-    if counts[HELD] == 0 {
-        return answer(m, rest, numbers, counts, mem, kept, probes, names, answers);
-    }
-    hold(rest, held, counts);
-    last_line(m, held, numbers, counts, mem, kept, probes, names, answers)
-}
-
-// Answers the line that is held, if one is.
-fn last_line(
-    m: Model,
-    held: &[u8],
-    numbers: &mut [u32],
-    counts: &mut [usize; 21],
-    mem: &mut [u8],
-    kept: &mut [i32],
-    probes: &mut [u32],
-    names: &mut [u8],
-    answers: &mut [u8],
-) -> Model {
-    let n = counts[HELD];
-    if n == 0 {
-        return m;
-    }
-    counts[HELD] = 0;
-    answer(
-        m,
-        first_bytes(held, n),
-        numbers,
-        counts,
-        mem,
-        kept,
-        probes,
-        names,
-        answers,
-    )
-}
-
-// Holds more of a line.
-fn hold(bytes: &[u8], held: &mut [u8], counts: &mut [usize; 21]) {
-    let mut n = counts[HELD];
-    let mut i = 0;
-    while i < bytes.len() {
-        n = line::hold_byte(held, n, bytes[i]);
-        i += 1;
-    }
-    counts[HELD] = n;
-}
-
-// Adds the last line, which a check leaves out, and writes the answers.
-fn finish(counts: &mut [usize; 21], answers: &mut [u8]) {
-    if counts[CHECK] != 0 {
-        write_answers(answers, counts);
+// Brings what is left of the first n bytes to the front.
+fn hold(part: &mut [u8], n: usize, counts: &mut [usize; 22]) {
+    let left = counts[HELD];
+    if n < left {
         return;
     }
-    add_end(counts, answers);
-    write_answers(answers, counts);
+    counts[HELD] = bring_forward(part, n - left, n);
 }
 
-fn add_end(counts: &mut [usize; 21], answers: &mut [u8]) {
+// Brings the bytes from `at` to before n to the front, as many as are held of a line, and answers how
+// many.
+fn bring_forward(part: &mut [u8], at: usize, n: usize) -> usize {
+    let mut i = at;
+    let mut held = 0;
+    while i < n {
+        if LONGEST <= held {
+            return held;
+        }
+        if part.len() <= i {
+            return held;
+        }
+        part[held] = part[i];
+        held += 1;
+        i += 1;
+    }
+    held
+}
+
+// Writes what is left, and tells how the replay ended.
+fn end(counts: &mut [usize; 22], answers: &mut [u8]) -> Outcome {
+    put_end(counts, answers);
+    write_answers(answers, counts);
+    Outcome {
+        whole: counts[STATE] != UNREADABLE,
+        unannounced: counts[UNANNOUNCED],
+        bad: counts[BAD],
+        expected: counts[EXPECTED],
+        differ: counts[DIFFER],
+    }
+}
+
+// The last line, where the input was read to its end. A check has none.
+fn put_end(counts: &mut [usize; 22], answers: &mut [u8]) {
+    if counts[STATE] != ENDED {
+        return;
+    }
+    if counts[CHECK] != 0 {
+        return;
+    }
     let a = wording::end::put_calls(
         answers,
         counts[USED],

@@ -5,6 +5,7 @@ pub mod delivery;
 pub mod end;
 pub mod expectation;
 pub mod fault;
+pub mod heads;
 pub mod kept;
 pub mod refusal;
 pub mod ticks;

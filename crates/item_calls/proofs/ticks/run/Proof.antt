@@ -8,12 +8,12 @@ use Rattle.item_calls.proofs.ticks.run.Statement.{statement}
 use Rattle.item_calls.proofs.ticks.run.Tie as tie
 
 abbrev Inv-loop : tie.InvT-loop
-Inv-loop n passed counts₀ answers₀ model₀ done₀ t13 counts answers model done =
+Inv-loop n passed counts₀ answers₀ model₀ done₀ counts answers model done =
     (done ≤ n) ×
     (length answers ≡ length answers₀)
 
 abbrev μ-loop : tie.MeasureT-loop
-μ-loop n passed counts₀ answers₀ model₀ done₀ t13 counts answers model done = n - done
+μ-loop n passed counts₀ answers₀ model₀ done₀ counts answers model done = n - done
 
 loop-holds : tie.Need-loop-holds Inv-loop μ-loop
 loop-holds c = search needs
@@ -42,14 +42,11 @@ loop-less c = search needs
 loop-again : tie.Need-loop-again Inv-loop μ-loop
 loop-again c = search needs
 
-element-copy-out-put-text : tie.Need-element-copy-out-put-text Inv-loop μ-loop
-element-copy-out-put-text c = search needs
+element-copy-out-put-end : tie.Need-element-copy-out-put-end Inv-loop μ-loop
+element-copy-out-put-end c = search needs
 
-slice-aggregate-put-text : tie.Need-slice-aggregate-put-text Inv-loop μ-loop
-slice-aggregate-put-text c = search needs
-
-put-text-requires : tie.Need-put-text-requires Inv-loop μ-loop
-put-text-requires c κs = search needs
+put-end-requires : tie.Need-put-end-requires Inv-loop μ-loop
+put-end-requires c κs = search needs
 
 count-requires : tie.Need-count-requires Inv-loop μ-loop
 count-requires c κs = search needs
@@ -75,9 +72,8 @@ run-spec =
     add-done
     loop-less
     loop-again
-    element-copy-out-put-text
-    slice-aggregate-put-text
-    put-text-requires
+    element-copy-out-put-end
+    put-end-requires
     count-requires
     same-length
     returns)

@@ -9,10 +9,17 @@ use Rattle.session.proofs.feed.replay.Statement.{statement}
 use Rattle.session.proofs.feed.replay.Tie as tie
 
 abbrev Inv-loop : tie.InvT-loop
-Inv-loop fd path check held₀ numbers₀ counts₀ mem₀ kept₀ probes₀ names₀ answers₀ part₀ m₀ turns₀ state₀ held numbers counts mem kept probes names answers part m turns state = (length held ≡ 1002) × (length numbers ≡ 512) × (length mem ≡ 8192) × (length kept ≡ 4096) × (length probes ≡ 1024) × (length names ≡ 5120) × (length answers ≡ 163840) × (length part ≡ 65536)
+Inv-loop fd path check numbers₀ counts₀ mem₀ kept₀ probes₀ names₀ answers₀ part₀ m₀ turns₀ numbers counts mem kept probes names answers part m turns =
+    (length numbers ≡ 512) ×
+    (length mem ≡ 8192) ×
+    (length kept ≡ 4096) ×
+    (length probes ≡ 1024) ×
+    (length names ≡ 5120) ×
+    (length answers ≡ 163840) ×
+    (length part ≡ 65536)
 
 abbrev μ-loop : tie.MeasureT-loop
-μ-loop fd path check held₀ numbers₀ counts₀ mem₀ kept₀ probes₀ names₀ answers₀ part₀ m₀ turns₀ state₀ held numbers counts mem kept probes names answers part m turns state = turns
+μ-loop fd path check numbers₀ counts₀ mem₀ kept₀ probes₀ names₀ answers₀ part₀ m₀ turns₀ numbers counts mem kept probes names answers part m turns = turns
 
 large-buffer-requires : tie.Need-large-buffer-requires Inv-loop μ-loop
 large-buffer-requires c κs = search needs
@@ -29,53 +36,50 @@ begin-requires c κs = search needs
 loop-holds : tie.Need-loop-holds Inv-loop μ-loop
 loop-holds c = search needs
 
+array-read-if1 : tie.Need-array-read-if1 Inv-loop μ-loop
+array-read-if1 c = search needs
+
 sub-turns : tie.Need-sub-turns Inv-loop μ-loop
 sub-turns c = search needs
 
-slice-aggregate-read : tie.Need-slice-aggregate-read Inv-loop μ-loop
-slice-aggregate-read c = search needs
+slice-aggregate-read-more : tie.Need-slice-aggregate-read-more Inv-loop μ-loop
+slice-aggregate-read-more c = search needs
 
-read-requires : tie.Need-read-requires Inv-loop μ-loop
-read-requires c κs = search needs
+read-more-requires : tie.Need-read-more-requires Inv-loop μ-loop
+read-more-requires c κs = search needs
 
-state-of-requires : tie.Need-state-of-requires Inv-loop μ-loop
-state-of-requires c κs = search needs
+slice-aggregate-first-bytes : tie.Need-slice-aggregate-first-bytes Inv-loop μ-loop
+slice-aggregate-first-bytes c = search needs
 
-slice-aggregate-count : tie.Need-slice-aggregate-count Inv-loop μ-loop
-slice-aggregate-count c = search needs
+first-bytes-requires : tie.Need-first-bytes-requires Inv-loop μ-loop
+first-bytes-requires c κs = search needs
 
-count-requires : tie.Need-count-requires Inv-loop μ-loop
-count-requires c κs = search needs
+slice-aggregate-answer-lines : tie.Need-slice-aggregate-answer-lines Inv-loop μ-loop
+slice-aggregate-answer-lines c = search needs
 
-array-share-prefix-part : tie.Need-array-share-prefix-part Inv-loop μ-loop
-array-share-prefix-part c = search needs
+slice-aggregate-answer-lines-2 : tie.Need-slice-aggregate-answer-lines-2 Inv-loop μ-loop
+slice-aggregate-answer-lines-2 c = search needs
 
-slice-aggregate-feed : tie.Need-slice-aggregate-feed Inv-loop μ-loop
-slice-aggregate-feed c = search needs
+slice-aggregate-answer-lines-3 : tie.Need-slice-aggregate-answer-lines-3 Inv-loop μ-loop
+slice-aggregate-answer-lines-3 c = search needs
 
-slice-aggregate-feed-2 : tie.Need-slice-aggregate-feed-2 Inv-loop μ-loop
-slice-aggregate-feed-2 c = search needs
+slice-aggregate-answer-lines-4 : tie.Need-slice-aggregate-answer-lines-4 Inv-loop μ-loop
+slice-aggregate-answer-lines-4 c = search needs
 
-slice-aggregate-feed-3 : tie.Need-slice-aggregate-feed-3 Inv-loop μ-loop
-slice-aggregate-feed-3 c = search needs
+slice-aggregate-answer-lines-5 : tie.Need-slice-aggregate-answer-lines-5 Inv-loop μ-loop
+slice-aggregate-answer-lines-5 c = search needs
 
-slice-aggregate-feed-4 : tie.Need-slice-aggregate-feed-4 Inv-loop μ-loop
-slice-aggregate-feed-4 c = search needs
+slice-aggregate-answer-lines-6 : tie.Need-slice-aggregate-answer-lines-6 Inv-loop μ-loop
+slice-aggregate-answer-lines-6 c = search needs
 
-slice-aggregate-feed-5 : tie.Need-slice-aggregate-feed-5 Inv-loop μ-loop
-slice-aggregate-feed-5 c = search needs
+answer-lines-requires : tie.Need-answer-lines-requires Inv-loop μ-loop
+answer-lines-requires c κs = search needs
 
-slice-aggregate-feed-6 : tie.Need-slice-aggregate-feed-6 Inv-loop μ-loop
-slice-aggregate-feed-6 c = search needs
+slice-aggregate-hold : tie.Need-slice-aggregate-hold Inv-loop μ-loop
+slice-aggregate-hold c = search needs
 
-slice-aggregate-feed-7 : tie.Need-slice-aggregate-feed-7 Inv-loop μ-loop
-slice-aggregate-feed-7 c = search needs
-
-slice-aggregate-feed-8 : tie.Need-slice-aggregate-feed-8 Inv-loop μ-loop
-slice-aggregate-feed-8 c = search needs
-
-feed-requires : tie.Need-feed-requires Inv-loop μ-loop
-feed-requires c κs = search needs
+hold-requires : tie.Need-hold-requires Inv-loop μ-loop
+hold-requires c κs = search needs
 
 slice-aggregate-write-answers : tie.Need-slice-aggregate-write-answers Inv-loop μ-loop
 slice-aggregate-write-answers c = search needs
@@ -88,57 +92,23 @@ loop-less c = omega (arith, c .before .before .before .before .before .before .b
 
 loop-again : tie.Need-loop-again Inv-loop μ-loop
 loop-again c =
-    let fed = c .before .before .before .before .before .before .before .before .before .before .feed .kept in
-    let read = c .before .before .before .before .before .before .before .before .before .before .before .before .before .before .before .before .before .before .before .before .before .before .before .before .before .read .kept in
+    let fed = c .before .before .before .before .before .before .before .before .before .before .before .before .before .answer-lines .kept in
+    let read = c .before .before .before .before .before .before .before .before .before .before .before .before .before .before .before .before .before .before .before .before .before .before .before .before .read-more .kept in
     let inv = c .before .before .before .before .before .before .before .before .before .before .before .before .before .before .before .before .before .before .before .before .before .before .before .before .before .before .before .before .before .loop .inv in (
       fed .1 .1 .0 ∙ inv .0,
-      fed .1 .1 .1 .0 ∙ inv .1,
+      fed .1 .1 .1 .1 .0 ∙ inv .1,
       fed .1 .1 .1 .1 .1 .0 ∙ inv .2,
       fed .1 .1 .1 .1 .1 .1 .0 ∙ inv .3,
       fed .1 .1 .1 .1 .1 .1 .1 .0 ∙ inv .4,
       fed .1 .1 .1 .1 .1 .1 .1 .1 .0 ∙ inv .5,
-      fed .1 .1 .1 .1 .1 .1 .1 .1 .1 .0 ∙ inv .6,
-      read .1 .0 ∙ inv .7,
+      c .before .before .before .before .hold .kept .0 ∙ read .1 .1 .0 ∙ inv .6,
     )
 
-loop-less-2 : tie.Need-loop-less-2 Inv-loop μ-loop
-loop-less-2 c = search needs
+slice-aggregate-end : tie.Need-slice-aggregate-end Inv-loop μ-loop
+slice-aggregate-end c = search needs
 
-loop-again-2 : tie.Need-loop-again-2 Inv-loop μ-loop
-loop-again-2 c = search needs
-
-slice-aggregate-last-line : tie.Need-slice-aggregate-last-line Inv-loop μ-loop
-slice-aggregate-last-line c = search needs
-
-slice-aggregate-last-line-2 : tie.Need-slice-aggregate-last-line-2 Inv-loop μ-loop
-slice-aggregate-last-line-2 c = search needs
-
-slice-aggregate-last-line-3 : tie.Need-slice-aggregate-last-line-3 Inv-loop μ-loop
-slice-aggregate-last-line-3 c = search needs
-
-slice-aggregate-last-line-4 : tie.Need-slice-aggregate-last-line-4 Inv-loop μ-loop
-slice-aggregate-last-line-4 c = search needs
-
-slice-aggregate-last-line-5 : tie.Need-slice-aggregate-last-line-5 Inv-loop μ-loop
-slice-aggregate-last-line-5 c = search needs
-
-slice-aggregate-last-line-6 : tie.Need-slice-aggregate-last-line-6 Inv-loop μ-loop
-slice-aggregate-last-line-6 c = search needs
-
-slice-aggregate-last-line-7 : tie.Need-slice-aggregate-last-line-7 Inv-loop μ-loop
-slice-aggregate-last-line-7 c = search needs
-
-last-line-requires : tie.Need-last-line-requires Inv-loop μ-loop
-last-line-requires c κs = search needs
-
-slice-aggregate-finish : tie.Need-slice-aggregate-finish Inv-loop μ-loop
-slice-aggregate-finish c = search needs
-
-finish-requires : tie.Need-finish-requires Inv-loop μ-loop
-finish-requires c κs = search needs
-
-told-requires : tie.Need-told-requires Inv-loop μ-loop
-told-requires c κs = search needs
+end-requires : tie.Need-end-requires Inv-loop μ-loop
+end-requires c κs = search needs
 
 returns : tie.Need-returns Inv-loop μ-loop
 returns c = search needs
@@ -154,37 +124,25 @@ replay-spec =
     slice-aggregate-begin
     begin-requires
     loop-holds
+    array-read-if1
     sub-turns
-    slice-aggregate-read
-    read-requires
-    state-of-requires
-    slice-aggregate-count
-    count-requires
-    array-share-prefix-part
-    slice-aggregate-feed
-    slice-aggregate-feed-2
-    slice-aggregate-feed-3
-    slice-aggregate-feed-4
-    slice-aggregate-feed-5
-    slice-aggregate-feed-6
-    slice-aggregate-feed-7
-    slice-aggregate-feed-8
-    feed-requires
+    slice-aggregate-read-more
+    read-more-requires
+    slice-aggregate-first-bytes
+    first-bytes-requires
+    slice-aggregate-answer-lines
+    slice-aggregate-answer-lines-2
+    slice-aggregate-answer-lines-3
+    slice-aggregate-answer-lines-4
+    slice-aggregate-answer-lines-5
+    slice-aggregate-answer-lines-6
+    answer-lines-requires
+    slice-aggregate-hold
+    hold-requires
     slice-aggregate-write-answers
     write-answers-requires
     loop-less
     loop-again
-    loop-less-2
-    loop-again-2
-    slice-aggregate-last-line
-    slice-aggregate-last-line-2
-    slice-aggregate-last-line-3
-    slice-aggregate-last-line-4
-    slice-aggregate-last-line-5
-    slice-aggregate-last-line-6
-    slice-aggregate-last-line-7
-    last-line-requires
-    slice-aggregate-finish
-    finish-requires
-    told-requires
+    slice-aggregate-end
+    end-requires
     returns)

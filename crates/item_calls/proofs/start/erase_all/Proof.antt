@@ -1,11 +1,11 @@
--- `session::lines::erase_all` is safe and ends.
+-- `item_calls::start::erase_all` is safe and ends.
 use Prim.Native.Nat.{_-_, _≤_}
 use native.Mathlib.Omega.{arith}
 use mathlib.Core.Path.{_≡_, refl}
 use lib.ListN.{length, length-set}
 use borrow.Author.Needs.{needs}
-use Rattle.session.proofs.lines.erase_all.Statement.{statement}
-use Rattle.session.proofs.lines.erase_all.Tie as tie
+use Rattle.item_calls.proofs.start.erase_all.Statement.{statement}
+use Rattle.item_calls.proofs.start.erase_all.Tie as tie
 
 abbrev Inv-loop : tie.InvT-loop
 Inv-loop mem₀ i₀ mem i = length mem ≡ length mem₀

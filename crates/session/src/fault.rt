@@ -1,0 +1,47 @@
+// Lines that are no calls.
+use item_state::counts::BAD;
+use item_state::counts::LINES;
+use item_state::counts::MOMENT;
+use item_state::counts::PROBE_PLACES;
+use item_state::counts::PROBES;
+use item_state::counts::RECORD;
+use item_state::counts::RECORD_PLACES;
+use item_state::counts::USED;
+use item_state::counts::more;
+use line::Content;
+
+// What a line holds that is still to be answered: nothing where it is a fault, which is told.
+pub fn answer_fault(content: Content, counts: &mut [usize; 22], answers: &mut [u8]) -> Content {
+    if is_fault(content, counts) {
+        counts[BAD] = more(counts[BAD], 1);
+        let number = counts[LINES] as u64;
+        counts[USED] = wording::fault::put_fault(answers, counts[USED], number, content);
+        return Content::Nothing;
+    }
+    content
+}
+
+fn is_fault(content: Content, counts: &[usize; 22]) -> bool {
+    match content {
+        Content::TooLong => true,
+        Content::UnknownWord => true,
+        Content::BadNumber => true,
+        Content::WrongCount => true,
+        _ => comes_wrong(content, counts),
+    }
+}
+
+// A line that is no call because of what came before it: its moment has passed, or there is no room.
+fn comes_wrong(content: Content, counts: &[usize; 22]) -> bool {
+    match content {
+        Content::At(t) => (t as usize) < counts[MOMENT],
+        Content::Probe(n) => PROBE_PLACES < more(counts[PROBES], n),
+        Content::Record(n) => RECORD_PLACES < more(counts[RECORD], at_least_one(n)),
+        _ => false,
+    }
+}
+
+// A record without numbers takes one difference.
+fn at_least_one(n: usize) -> usize {
+    if n == 0 { 1 } else { n }
+}

@@ -1,0 +1,124 @@
+// The words with which answers begin, and answers that are few words.
+use crate::delivery::put_delivery;
+use crate::end::put_count;
+use crate::kept::put_refused;
+use device::Answer;
+
+// `tick N`
+pub fn put_tick(out: &mut [u8], at: usize, n: u32) -> usize {
+    put_number(out, at, b"tick ", n)
+}
+
+// `at T`
+pub fn put_at(out: &mut [u8], at: usize, t: u32) -> usize {
+    put_number(out, at, b"at ", t)
+}
+
+fn put_number(out: &mut [u8], at: usize, word: &[u8], n: u32) -> usize {
+    let a = numeral::put_text(out, at, word);
+    numeral::put_decimal(out, a, n as u64)
+}
+
+// `stretch` and what it reports, or its refusal.
+pub fn put_stretch(out: &mut [u8], at: usize, answer: Answer, n: u32) -> usize {
+    let a = numeral::put_text(out, at, b"stretch");
+    let b = crate::ticks::put_stretched(out, a, answer, n);
+    numeral::put_text(out, b, b"\n")
+}
+
+pub fn put_flight(out: &mut [u8], at: usize, answer: Answer) -> usize {
+    put_delivery(out, at, b"flight", answer)
+}
+
+pub fn put_temperature(out: &mut [u8], at: usize, answer: Answer) -> usize {
+    put_delivery(out, at, b"temperature", answer)
+}
+
+pub fn put_record(out: &mut [u8], at: usize) -> usize {
+    numeral::put_text(out, at, b"record")
+}
+
+// `listing N`, before its lines
+pub fn put_listing(out: &mut [u8], at: usize, n: u64) -> usize {
+    let a = numeral::put_text(out, at, b"listing ");
+    put_count(out, a, n, b"\n")
+}
+
+// `frames N`, before their lines
+pub fn put_frames(out: &mut [u8], at: usize, n: u64) -> usize {
+    let a = numeral::put_text(out, at, b"frames ");
+    put_count(out, a, n, b"\n")
+}
+
+// `frame`, before its bytes
+pub fn put_frame(out: &mut [u8], at: usize) -> usize {
+    numeral::put_text(out, at, b"frame")
+}
+
+pub fn put_degrees_refused(out: &mut [u8], at: usize, number: u32) -> usize {
+    put_refused(out, at, b"degrees", number)
+}
+
+pub fn put_listing_refused(out: &mut [u8], at: usize, number: u32) -> usize {
+    put_refused(out, at, b"listing", number)
+}
+
+pub fn put_quietest_refused(out: &mut [u8], at: usize, number: u32) -> usize {
+    put_refused(out, at, b"quietest", number)
+}
+
+pub fn put_frames_refused(out: &mut [u8], at: usize, number: u32) -> usize {
+    put_refused(out, at, b"frames", number)
+}
+
+// `int yes` or `int no`
+pub fn put_int(out: &mut [u8], at: usize, pending: bool) -> usize {
+    if pending {
+        return numeral::put_text(out, at, b"int yes\n");
+    }
+    numeral::put_text(out, at, b"int no\n")
+}
+
+// `awaited FLIGHT TEMPERATURE`
+pub fn put_awaited(out: &mut [u8], at: usize, flight: u32, temperature: u32) -> usize {
+    let a = numeral::put_text(out, at, b"awaited ");
+    let b = put_count(out, a, flight as u64, b" ");
+    put_count(out, b, temperature as u64, b"\n")
+}
+
+// ` W`, a register's word
+pub fn put_word(out: &mut [u8], at: usize, word: u32) -> usize {
+    let a = numeral::put_text(out, at, b" ");
+    numeral::put_hex(out, a, 4, word)
+}
+
+// ` B`, a frame's byte
+pub fn put_byte(out: &mut [u8], at: usize, byte: u32) -> usize {
+    let a = numeral::put_text(out, at, b" ");
+    numeral::put_hex(out, a, 2, byte)
+}
+
+// The end of a line.
+pub fn put_end(out: &mut [u8], at: usize) -> usize {
+    numeral::put_text(out, at, b"\n")
+}
+
+// `FILE:LINE: `
+pub fn put_place(out: &mut [u8], at: usize, file: &[u8], line: u64) -> usize {
+    let a = numeral::put_text(out, at, file);
+    let b = numeral::put_text(out, a, b":");
+    put_count(out, b, line, b": ")
+}
+
+// ` expected WORDS`
+pub fn put_expected(out: &mut [u8], at: usize, words: &[u8]) -> usize {
+    let a = numeral::put_text(out, at, b" expected ");
+    numeral::put_text(out, a, words)
+}
+
+// ` (NAME)`, the item's, at a line's end
+pub fn put_name(out: &mut [u8], at: usize, name: &[u8]) -> usize {
+    let a = numeral::put_text(out, at, b" (");
+    let b = numeral::put_text(out, a, name);
+    numeral::put_text(out, b, b")\n")
+}

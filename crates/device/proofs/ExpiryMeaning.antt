@@ -1,6 +1,6 @@
 -- A measurement that is not delivered: "A measurement undelivered 8,192 ticks after its start fails in that tick, as if all its words
 -- were late or open. This count runs even while the clock stands."
-use Prim.Native.Nat.{ℕ, zero, suc, _+_, _-_, _≤_, _<_}
+use Prim.Native.Nat.{ℕ, zero, suc, _+_, _-_, _≤_}
 use native.Mathlib.Omega.{arith}
 use mathlib.Core.Bool.{Bool, true, false}
 use mathlib.Core.List.{List, [], _∷_, map}
@@ -20,7 +20,7 @@ use Rattle.device.specs.Tick.{flightTicked, flightAfter, temperatureAfte
 use Rattle.device.specs.Stretch.{modelTicked, scheduleTicked}
 use Rattle.device.specs.Bus.{runModel}
 use Rattle.device.specs.Call.{flight, temperature, notAwaited}
-use Rattle.device.specs.Terms.{expiring, FlightStarts, TemperatureStarts}
+use Rattle.device.specs.Terms.{expiring, FlightStarts}
 use Rattle.device.proofs.StartMeaning.{Ended, ended-none, ended-ticked, flight-schedule, temperature-schedule, ended-flight, ended-temperature}
 use Rattle.device.proofs.StartMeaning.{starts-up, starts-down, starts-both, starts-temperature}
 

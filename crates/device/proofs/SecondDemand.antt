@@ -1,25 +1,21 @@
 -- The second demand: each part by the facts that stand in the files named after it.
-use Prim.Native.Nat.{ℕ, zero, suc, _+_, _-_, _*_, _/_, _%_, _^_, _≤_, _<_, min}
+use Prim.Native.Nat.{ℕ, zero, suc, _+_, _-_, _*_, _/_, _%_, _≤_, _<_}
 use native.Mathlib.Omega.{arith}
 use mathlib.Core.Bool.{Bool, true, false}
 use mathlib.Core.List.{List, [], _∷_, map}
 use mathlib.Core.Logic.{_↔_, _⊎_}
 use mathlib.Core.Path.{_≡_, refl, ap, sym, subst, _∙_}
 use lib.ListN.{length, getD}
-use borrow.Author.Tests.{le-ltb, lt-ltb, ne-eqb}
+use borrow.Author.Tests.{ne-eqb}
 use Rattle.unit.specs.Choice.{pick, either}
 use Rattle.unit.proofs.Cases.{by-test}
-use Rattle.calendar.specs.declared.Clock.{Clock}
 use Rattle.calendar.specs.Calendar.{clockValid}
-use Rattle.calendar.specs.Words.{word30, word31, word32, word33}
-use Rattle.calendar.specs.Bounds.{afterTicks}
 use Rattle.calendar.proofs.Laws.{after-weekday}
 use Rattle.calendar.proofs.Facts.{leap-months, common-months}
 use Rattle.calendar.proofs.Places.{seconds-shown, full-time-shown, half-time-shown, date-shown, year-shown}
 use Rattle.calendar.proofs.AlarmModes.{AlarmTime}
 use Rattle.setup.specs.Setup.{wordOf, hitCount, portCycle, clockStands}
 use Rattle.setup.proofs.Laws.{hits-are, hits-bounds}
-use Rattle.frame.specs.Frame.{wordAt}
 use Rattle.hit.specs.Limit.{openFrom}
 use Rattle.hit.specs.Difference.{differenceWord}
 use Rattle.hit.specs.Mean.{sum}
@@ -28,24 +24,20 @@ use Rattle.hit.proofs.Limits.{quotient-below}
 use Rattle.hit.proofs.Sum.{six-total}
 use Rattle.hit.proofs.Meaning.{difference-means, bits-means, mean-floor, words-floor}
 use Rattle.device.specs.declared.Status.{Status}
-use Rattle.device.specs.declared.Flight.{Flight}
 use Rattle.device.specs.declared.Model.{Model}
-use Rattle.device.specs.declared.Answer.{Answer}
 use Rattle.device.specs.declared.Answer.the-variants.{Good, Failed}
 use Rattle.device.specs.Model.{isSound, noFlight, noTemperature, freshWith, resetModel}
 use Rattle.device.specs.Event.{isAwaited, noSchedule}
 use Rattle.device.specs.Registers.{registerWord, calendarWord, flightWord, upwards}
-use Rattle.device.specs.Stretch.{modelTicked}
 use Rattle.device.specs.Status.{joined, ldoBit}
 use Rattle.device.specs.Bus.{supplied, runModel}
-use Rattle.device.specs.Write.{setupAfter, writeModel}
-use Rattle.device.specs.Delivery.{flightMiscounted, goodFlightModel, failedFlightModel}
-use Rattle.device.specs.Results.{goodFlight}
-use Rattle.device.specs.Call.{Call, transaction, flight, temperature, accepted, verdict, notAwaited, miscounted}
+use Rattle.device.specs.Write.{writeModel}
+use Rattle.device.specs.Delivery.{goodFlightModel, failedFlightModel}
+use Rattle.device.specs.Call.{transaction, flight, temperature, accepted, verdict, notAwaited, miscounted}
 use Rattle.device.specs.Reply.{anyLate, acceptedAnswer, acceptedModel}
 use Rattle.device.specs.Claim.{Holds}
-use Rattle.device.specs.Terms.{LeftOut, eoscOf, Some}
-use Rattle.device.specs.SecondDemand.{ReadsClaim, WritesClaim, CalendarClaim, MonthsClaim, AlarmClaim, FlightClaim, PortClaim, MeansClaim}
+use Rattle.device.specs.Terms.{eoscOf}
+use Rattle.device.specs.SecondDemand.{ReadsClaim, WritesClaim, CalendarClaim, AlarmClaim, FlightClaim, PortClaim}
 use Rattle.device.specs.SecondDemand.{BusClaim, BitsClaim, CommandsClaim, ExpiryClaim, SecondDemand}
 use Rattle.device.proofs.Sound.{hits-below}
 use Rattle.device.proofs.RegisterMeaning.{fresh-reads, reset-reads, reads-zero, reads-setup, reads-status, reads-ups, reads-downs, reads-difference, fill-bytes, fill-rest}

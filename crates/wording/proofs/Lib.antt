@@ -1,3 +1,4 @@
 pub mod Each
 pub mod Words
 pub mod Order
+pub mod Examples

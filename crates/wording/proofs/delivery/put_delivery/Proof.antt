@@ -1,7 +1,6 @@
 -- `wording::delivery::put_delivery` meets its contract.
 -- Assumes nothing.
 use borrow.Author.Needs.{needs}
-use Rattle.wording.specs.Text.{ascii}
 use Rattle.wording.specs.Wording.{delivery}
 use Rattle.wording.proofs.Each.{put-one, put-first, put-then}
 use Rattle.wording.proofs.delivery.put_delivery.Statement.{statement}

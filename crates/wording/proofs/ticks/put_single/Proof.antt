@@ -9,7 +9,6 @@ use Rattle.device.proofs.Answer.{the-type}
 use Rattle.device.specs.declared.Answer.{Answer}
 use Rattle.device.specs.declared.Answer.the-variants.{Refused, Accepted, Ticked, Stretched, Good, Failed}
 use Rattle.wording.specs.Text.{PutEach, ascii}
-use mathlib.Core.Path.{sym, _∙_}
 use Rattle.wording.specs.Wording.{single}
 use Rattle.wording.proofs.Each.{put-none, put-one}
 use Rattle.wording.proofs.ticks.put_single.Statement.{statement}

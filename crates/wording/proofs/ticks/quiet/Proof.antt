@@ -1,6 +1,5 @@
 -- `wording::ticks::quiet` meets its contract.
 -- Assumes nothing.
-use borrow.Author.Needs.{needs}
 use Rattle.wording.specs.Wording.{quiet}
 use Rattle.wording.proofs.ticks.quiet.Statement.{statement}
 use Rattle.wording.proofs.ticks.quiet.Tie as tie

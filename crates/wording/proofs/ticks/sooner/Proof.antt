@@ -1,6 +1,5 @@
 -- `wording::ticks::sooner` meets its contract.
 -- Assumes nothing.
-use borrow.Author.Needs.{needs}
 use borrow.Author.Tests.{le-leb, lt-leb, lt-ltb, le-ltb}
 use Rattle.wording.specs.Wording.{sooner}
 use Rattle.wording.proofs.ticks.sooner.Statement.{statement}

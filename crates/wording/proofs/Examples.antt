@@ -1,7 +1,7 @@
 -- Answers in plain bytes, the text of each beside it. Assumes nothing.
 use Prim.Native.Nat.{ℕ}
 use mathlib.Core.Bool.{Bool, true, false}
-use mathlib.Core.List.{List, [], _∷_, _++_}
+use mathlib.Core.List.{[], _∷_, _++_}
 use mathlib.Core.Path.{_≡_, refl}
 use Rattle.numeral.specs.Digit.{digits, glyph}
 use Rattle.numeral.specs.Place.{joined}

@@ -304,7 +304,7 @@ def stored_answers(text: str) -> tuple[list[str], set[int]]:
             bad.add(int(line.split()[1].rstrip(":")))
         elif not page:
             kept.append(line)
-        page = page and not line.startswith("FF ")
+        page = page and not line.startswith("30-43 ")
     return kept, bad
 
 

@@ -12,7 +12,8 @@ use Rattle.collection.specs.declared.Outcome.{Outcome}
 use Rattle.collection.specs.declared.Kinds.{Kinds}
 use Rattle.collection.specs.declared.Group.{Group}
 use Rattle.collection.specs.declared.Tally.{Tally}
-use Rattle.collection.specs.Puts.{Puts, puts-none, puts-first, puts-then}
+use Rattle.wording.specs.Text.{ascii, PutEach}
+use Rattle.wording.proofs.Each.{put-none, put-first, put-then}
 use Rattle.collection.specs.Kind.{kinds}
 use Rattle.collection.specs.Group.{oneMore, nameTexts, Members, joined}
 use Rattle.collection.specs.Tally.{Collection, collection, agreed, after}
@@ -44,24 +45,24 @@ unfolding after
 added o name t l₁ l₂ l₃ l₄ l₅ kind e₁ e₂ e₃ e₄ e₅ files agree = rw (← kind, ← e₁, ← e₂, ← e₃, ← e₄, ← e₅, files, agree)
 
 -- `  and N more`, or nothing.
-pub more-none : (g : Group) {l : List ℕ} {at : ℕ} → g .count ≤ g .named → Puts l at (moreTexts g) at l
-unfolding moreTexts
-more-none g {l} {at} all = rw (le-ltb (g .named) (g .count) all) (puts-none l at)
+pub more-none : (g : Group) {l : List ℕ} {at : ℕ} → g .count ≤ g .named → PutEach l at (moreTexts g) at l
+unfolding ascii moreTexts
+more-none g {l} {at} all = rw (le-ltb (g .named) (g .count) all) (put-none l at)
 
-pub more-some : (g : Group) {l l₁ l₂ : List ℕ} {at r₁ r₂ : ℕ} → g .named < g .count → Put l at (32 ∷ 32 ∷ 97 ∷ 110 ∷ 100 ∷ 32 ∷ []) r₁ l₁
-    → Puts l₁ r₁ (decimal (g .count - g .named) ∷ (32 ∷ 109 ∷ 111 ∷ 114 ∷ 101 ∷ 10 ∷ []) ∷ []) r₂ l₂ → Puts l at (moreTexts g) r₂ l₂
-unfolding moreTexts
-more-some g some first rest = rw (lt-ltb (g .named) (g .count) some) (puts-first first rest)
+pub more-some : (g : Group) {l l₁ l₂ : List ℕ} {at r₁ r₂ : ℕ} → g .named < g .count → Put l at (ascii "  and ") r₁ l₁
+    → PutEach l₁ r₁ (decimal (g .count - g .named) ∷ ascii " more\n" ∷ []) r₂ l₂ → PutEach l at (moreTexts g) r₂ l₂
+unfolding ascii moreTexts
+more-some g some first rest = rw (lt-ltb (g .named) (g .count) some) (put-first first rest)
 
 -- A group's part of the summary.
 module _ (what : List ℕ) (g : Group) (names : List ℕ) {l : List ℕ} {at : ℕ} where
-  pub group-none : g .count ≡ 0 → Puts l at (groupTexts what (record { group = g; names = names })) at l
+  pub group-none : g .count ≡ 0 → PutEach l at (groupTexts what (record { group = g; names = names })) at l
   unfolding groupTexts
-  group-none none = rw (eq-eqb (g .count) 0 none) (puts-none l at)
+  group-none none = rw (eq-eqb (g .count) 0 none) (put-none l at)
 
-  pub group-some : (g .count ≡ 0 → ⊥) → {l₁ l₂ l₃ l₄ l₅ part : List ℕ} {r₁ r₂ r₃ r₄ r₅ : ℕ} → Put l at what r₁ l₁ → Put l₁ r₁ (58 ∷ 32 ∷ []) r₂ l₂
-      → Puts l₂ r₂ (decimal (g .count) ∷ (10 ∷ []) ∷ []) r₃ l₃ → part ≡ take (g .used) names → Put l₃ r₃ part r₄ l₄ → Puts l₄ r₄ (moreTexts g) r₅ l₅
-      → Puts l at (groupTexts what (record { group = g; names = names })) r₅ l₅
-  unfolding groupTexts
+  pub group-some : (g .count ≡ 0 → ⊥) → {l₁ l₂ l₃ l₄ l₅ part : List ℕ} {r₁ r₂ r₃ r₄ r₅ : ℕ} → Put l at what r₁ l₁ → Put l₁ r₁ (ascii ": ") r₂ l₂
+      → PutEach l₂ r₂ (decimal (g .count) ∷ ascii "\n" ∷ []) r₃ l₃ → part ≡ take (g .used) names → Put l₃ r₃ part r₄ l₄ → PutEach l₄ r₄ (moreTexts g) r₅ l₅
+      → PutEach l at (groupTexts what (record { group = g; names = names })) r₅ l₅
+  unfolding ascii groupTexts
   group-some some a b c same d e =
-      rw (ne-eqb (g .count) 0 some, ← same) (puts-first a (puts-first b (puts-then c (puts-first d e))))
+      rw (ne-eqb (g .count) 0 some, ← same) (put-first a (put-first b (put-then c (put-first d e))))

@@ -5,6 +5,7 @@ use mathlib.Core.List.{List, [], _∷_}
 use lib.Dec.{eqb}
 use Rattle.numeral.specs.Place.{noRoom, Placed, putEach}
 use Rattle.collection.specs.declared.Group.{Group}
+use Rattle.wording.specs.Text.{ascii}
 
 -- one more, or the largest number that fits
 abbrev pub oneMore : ℕ → ℕ
@@ -12,7 +13,7 @@ oneMore n = min (n + 1) 18446744073709551615
 
 -- two blanks, the name and a line feed
 unfoldable pub nameTexts : List ℕ → List (List ℕ)
-nameTexts name = (32 ∷ 32 ∷ []) ∷ name ∷ (10 ∷ []) ∷ []
+nameTexts name = ascii "  " ∷ name ∷ ascii "\n" ∷ []
 
 -- a group, and the buffer that has the lines of its names
 pub record Members : Type 0 where

@@ -2,4 +2,3 @@ pub mod Kind
 pub mod Group
 pub mod Tally
 pub mod Summary
-pub mod Puts

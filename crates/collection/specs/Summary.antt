@@ -9,47 +9,48 @@ use Rattle.collection.specs.declared.Group.{Group}
 use Rattle.collection.specs.declared.Tally.{Tally}
 use Rattle.collection.specs.Group.{Members}
 use Rattle.collection.specs.Tally.{Collection, tallyOf}
+use Rattle.wording.specs.Text.{ascii}
 
 -- `== NAME ==`
 unfoldable pub headingTexts : List ℕ → List (List ℕ)
-headingTexts name = (61 ∷ 61 ∷ 32 ∷ []) ∷ name ∷ (32 ∷ 61 ∷ 61 ∷ 10 ∷ []) ∷ []
+headingTexts name = ascii "== " ∷ name ∷ ascii " ==\n" ∷ []
 
 -- `== N files ==`
 unfoldable pub headTexts : ℕ → List (List ℕ)
-headTexts n = (61 ∷ 61 ∷ 32 ∷ []) ∷ decimal n ∷ (32 ∷ 102 ∷ 105 ∷ 108 ∷ 101 ∷ 115 ∷ 32 ∷ 61 ∷ 61 ∷ 10 ∷ []) ∷ []
+headTexts n = ascii "== " ∷ decimal n ∷ ascii " files ==\n" ∷ []
 
 -- `  and N more`, where not every file of the group is named
 unfoldable pub moreTexts : Group → List (List ℕ)
 moreTexts g =
     cond (ltb (g .named) (g .count))
-    ((32 ∷ 32 ∷ 97 ∷ 110 ∷ 100 ∷ 32 ∷ []) ∷ decimal (g .count - g .named) ∷ (32 ∷ 109 ∷ 111 ∷ 114 ∷ 101 ∷ 10 ∷ []) ∷ [])
+    (ascii "  and " ∷ decimal (g .count - g .named) ∷ ascii " more\n" ∷ [])
     []
 
 -- `WHAT: N`, and a line for each name; nothing of a group without files
 unfoldable pub groupTexts : List ℕ → Members → List (List ℕ)
 groupTexts what m =
     cond (eqb (m .group .count) 0) []
-    (what ∷ (58 ∷ 32 ∷ []) ∷ decimal (m .group .count) ∷ (10 ∷ []) ∷ take (m .group .used) (m .names) ∷ moreTexts (m .group))
+    (what ∷ ascii ": " ∷ decimal (m .group .count) ∷ ascii "\n" ∷ take (m .group .used) (m .names) ∷ moreTexts (m .group))
 
 -- `expectations differ`
 abbrev pub expectationsDiffer : List ℕ
-expectationsDiffer = 101 ∷ 120 ∷ 112 ∷ 101 ∷ 99 ∷ 116 ∷ 97 ∷ 116 ∷ 105 ∷ 111 ∷ 110 ∷ 115 ∷ 32 ∷ 100 ∷ 105 ∷ 102 ∷ 102 ∷ 101 ∷ 114 ∷ []
+expectationsDiffer = ascii "expectations differ"
 
 -- `unannounced refusals`
 abbrev pub unannouncedRefusals : List ℕ
-unannouncedRefusals = 117 ∷ 110 ∷ 97 ∷ 110 ∷ 110 ∷ 111 ∷ 117 ∷ 110 ∷ 99 ∷ 101 ∷ 100 ∷ 32 ∷ 114 ∷ 101 ∷ 102 ∷ 117 ∷ 115 ∷ 97 ∷ 108 ∷ 115 ∷ []
+unannouncedRefusals = ascii "unannounced refusals"
 
 -- `bad lines`
 abbrev pub badLines : List ℕ
-badLines = 98 ∷ 97 ∷ 100 ∷ 32 ∷ 108 ∷ 105 ∷ 110 ∷ 101 ∷ 115 ∷ []
+badLines = ascii "bad lines"
 
 -- `cannot be read`
 abbrev pub cannotBeRead : List ℕ
-cannotBeRead = 99 ∷ 97 ∷ 110 ∷ 110 ∷ 111 ∷ 116 ∷ 32 ∷ 98 ∷ 101 ∷ 32 ∷ 114 ∷ 101 ∷ 97 ∷ 100 ∷ []
+cannotBeRead = ascii "cannot be read"
 
 -- `no expectation`
 abbrev pub noExpectation : List ℕ
-noExpectation = 110 ∷ 111 ∷ 32 ∷ 101 ∷ 120 ∷ 112 ∷ 101 ∷ 99 ∷ 116 ∷ 97 ∷ 116 ∷ 105 ∷ 111 ∷ 110 ∷ []
+noExpectation = ascii "no expectation"
 
 unfoldable pub groupsTexts : Collection → List (List ℕ)
 groupsTexts c =
@@ -62,19 +63,19 @@ groupsTexts c =
 -- "The run's very last line counts all of these": `end N files, N agree, N differ, N unannounced, ` and
 unfoldable pub firstCounts : Tally → List (List ℕ)
 firstCounts t =
-    (101 ∷ 110 ∷ 100 ∷ 32 ∷ [])
-    ∷ decimal (t .files) ∷ (32 ∷ 102 ∷ 105 ∷ 108 ∷ 101 ∷ 115 ∷ 44 ∷ 32 ∷ [])
-    ∷ decimal (t .agree) ∷ (32 ∷ 97 ∷ 103 ∷ 114 ∷ 101 ∷ 101 ∷ 44 ∷ 32 ∷ [])
-    ∷ decimal (t .differ .count) ∷ (32 ∷ 100 ∷ 105 ∷ 102 ∷ 102 ∷ 101 ∷ 114 ∷ 44 ∷ 32 ∷ [])
-    ∷ decimal (t .unannounced .count) ∷ (32 ∷ 117 ∷ 110 ∷ 97 ∷ 110 ∷ 110 ∷ 111 ∷ 117 ∷ 110 ∷ 99 ∷ 101 ∷ 100 ∷ 44 ∷ 32 ∷ [])
+    ascii "end "
+    ∷ decimal (t .files) ∷ ascii " files, "
+    ∷ decimal (t .agree) ∷ ascii " agree, "
+    ∷ decimal (t .differ .count) ∷ ascii " differ, "
+    ∷ decimal (t .unannounced .count) ∷ ascii " unannounced, "
     ∷ []
 
 -- `N bad lines, N cannot be read, N no expectation`
 unfoldable pub lastCounts : Tally → List (List ℕ)
 lastCounts t =
-    decimal (t .bad .count) ∷ (32 ∷ 98 ∷ 97 ∷ 100 ∷ 32 ∷ 108 ∷ 105 ∷ 110 ∷ 101 ∷ 115 ∷ 44 ∷ 32 ∷ [])
-    ∷ decimal (t .unread .count) ∷ (32 ∷ 99 ∷ 97 ∷ 110 ∷ 110 ∷ 111 ∷ 116 ∷ 32 ∷ 98 ∷ 101 ∷ 32 ∷ 114 ∷ 101 ∷ 97 ∷ 100 ∷ 44 ∷ 32 ∷ [])
-    ∷ decimal (t .plain .count) ∷ (32 ∷ 110 ∷ 111 ∷ 32 ∷ 101 ∷ 120 ∷ 112 ∷ 101 ∷ 99 ∷ 116 ∷ 97 ∷ 116 ∷ 105 ∷ 111 ∷ 110 ∷ 10 ∷ [])
+    decimal (t .bad .count) ∷ ascii " bad lines, "
+    ∷ decimal (t .unread .count) ∷ ascii " cannot be read, "
+    ∷ decimal (t .plain .count) ∷ ascii " no expectation\n"
     ∷ []
 
 unfoldable pub summaryTexts : Collection → List (List ℕ)

@@ -44,17 +44,6 @@ pub fn put_listing(out: &mut [u8], at: usize, n: u64) -> usize {
     put_count(out, a, n, b"\n")
 }
 
-// `frames N`, before their lines
-pub fn put_frames(out: &mut [u8], at: usize, n: u64) -> usize {
-    let a = numeral::put_text(out, at, b"frames ");
-    put_count(out, a, n, b"\n")
-}
-
-// `frame`, before its bytes
-pub fn put_frame(out: &mut [u8], at: usize) -> usize {
-    numeral::put_text(out, at, b"frame")
-}
-
 pub fn put_degrees_refused(out: &mut [u8], at: usize, number: u32) -> usize {
     put_refused(out, at, b"degrees", number)
 }
@@ -65,37 +54,6 @@ pub fn put_listing_refused(out: &mut [u8], at: usize, number: u32) -> usize {
 
 pub fn put_quietest_refused(out: &mut [u8], at: usize, number: u32) -> usize {
     put_refused(out, at, b"quietest", number)
-}
-
-pub fn put_frames_refused(out: &mut [u8], at: usize, number: u32) -> usize {
-    put_refused(out, at, b"frames", number)
-}
-
-// `int yes` or `int no`
-pub fn put_int(out: &mut [u8], at: usize, pending: bool) -> usize {
-    if pending {
-        return numeral::put_text(out, at, b"int yes\n");
-    }
-    numeral::put_text(out, at, b"int no\n")
-}
-
-// `awaited FLIGHT TEMPERATURE`
-pub fn put_awaited(out: &mut [u8], at: usize, flight: u32, temperature: u32) -> usize {
-    let a = numeral::put_text(out, at, b"awaited ");
-    let b = put_count(out, a, flight as u64, b" ");
-    put_count(out, b, temperature as u64, b"\n")
-}
-
-// ` W`, a register's word
-pub fn put_word(out: &mut [u8], at: usize, word: u32) -> usize {
-    let a = numeral::put_text(out, at, b" ");
-    numeral::put_hex(out, a, 4, word)
-}
-
-// ` B`, a frame's byte
-pub fn put_byte(out: &mut [u8], at: usize, byte: u32) -> usize {
-    let a = numeral::put_text(out, at, b" ");
-    numeral::put_hex(out, a, 2, byte)
 }
 
 // The end of a line.

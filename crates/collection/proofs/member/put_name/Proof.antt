@@ -4,6 +4,7 @@ use Rattle.collection.specs.Group.{nameTexts}
 use borrow.Author.Needs.{needs}
 use Rattle.collection.proofs.member.put_name.Statement.{statement}
 use Rattle.collection.proofs.member.put_name.Tie as tie
+use Rattle.wording.specs.Text.{ascii}
 
 slice-aggregate-put-text : tie.Need-slice-aggregate-put-text
 slice-aggregate-put-text c = search needs
@@ -24,7 +25,7 @@ same-length : tie.Need-same-length
 same-length c = search needs
 
 returns : tie.Need-returns
-unfolding nameTexts putEach
+unfolding ascii nameTexts putEach
 returns c = cc
 
 pub put-name-spec : {M : Type 1} → statement M

@@ -15,7 +15,7 @@ same-length c = search needs
 
 returns : tie.Need-returns
 unfolding putEach
-returns c = record { placed = cc }
+returns c = record { next = cc; bytes = cc }
 
 pub put-count-spec : {M : Type 1} → statement M
 put-count-spec = tie.close (tie.spec put-decimal-requires put-text-requires same-length returns)

@@ -1,10 +1,11 @@
 -- `collection::summary::put_first_counts` meets its contract.
 -- Assumes nothing.
 use borrow.Author.Needs.{needs}
-use Rattle.collection.specs.Puts.{puts-first, puts-then}
+use Rattle.wording.proofs.Each.{put-first, put-then}
 use Rattle.collection.specs.Summary.{firstCounts}
 use Rattle.collection.proofs.summary.put_first_counts.Statement.{statement}
 use Rattle.collection.proofs.summary.put_first_counts.Tie as tie
+use Rattle.wording.specs.Text.{ascii}
 
 slice-aggregate-put-text : tie.Need-slice-aggregate-put-text
 slice-aggregate-put-text c = search needs
@@ -40,8 +41,8 @@ same-length : tie.Need-same-length
 same-length c = search needs
 
 returns : tie.Need-returns
-unfolding firstCounts
-returns c = puts-first (c .before .before .before .before .before .before .before .before .before .before .before .before .before .before .before .before .before .before .before .before .before .before .put-text .ensures) (puts-then (c .before .before .before .before .before .before .before .before .before .before .before .before .before .before .before .before .before .put-count .ensures) (puts-then (c .before .before .before .before .before .before .before .before .before .before .before .before .put-count2 .ensures) (puts-then (c .before .before .before .before .before .before .before .put-count3 .ensures) (c .before .before .put-count4 .ensures))))
+unfolding ascii firstCounts
+returns c = put-first (c .before .before .before .before .before .before .before .before .before .before .before .before .before .before .before .before .before .before .before .before .before .before .put-text .ensures) (put-then (c .before .before .before .before .before .before .before .before .before .before .before .before .before .before .before .before .before .put-count .ensures) (put-then (c .before .before .before .before .before .before .before .before .before .before .before .before .put-count2 .ensures) (put-then (c .before .before .before .before .before .before .before .put-count3 .ensures) (c .before .before .put-count4 .ensures))))
 
 pub put-first-counts-spec : {M : Type 1} → statement M
 put-first-counts-spec =

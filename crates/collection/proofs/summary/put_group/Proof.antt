@@ -1,6 +1,7 @@
 -- `collection::summary::put_group` meets its contract.
 -- Assumes nothing.
 use borrow.Author.Needs.{needs}
+use Rattle.wording.specs.Text.{ascii}
 use Rattle.collection.proofs.Parts.{group-some, group-none}
 use Rattle.collection.proofs.summary.put_group.Statement.{statement}
 use Rattle.collection.proofs.summary.put_group.Tie as tie
@@ -36,6 +37,7 @@ same-length : tie.Need-same-length
 same-length c = search needs
 
 returns-2 : tie.Need-returns-2
+unfolding ascii
 returns-2 c = group-some _ _ _ (c .before .before .before .before .before .before .before .before .before .before .before .before .before .before .before .before .before .before .before .before .before .before .before .if1 .left) (c .before .before .before .before .before .before .before .before .before .before .before .before .before .before .before .before .before .before .before .before .before .put-text .ensures) (c .before .before .before .before .before .before .before .before .before .before .before .before .before .before .before .before .put-text2 .ensures) (c .before .before .before .before .before .before .before .before .before .before .before .put-count .ensures) (c .before .before .before .before .before .before .before .first-bytes .ensures) (c .before .before .before .before .before .before .put-text3 .ensures) (c .before .before .put-more .ensures)
 
 pub put-group-spec : {M : Type 1} → statement M

@@ -1,10 +1,11 @@
 -- `collection::summary::put_groups` meets its contract.
 -- Assumes nothing.
 use borrow.Author.Needs.{needs}
-use Rattle.collection.specs.Puts.{puts-then}
+use Rattle.wording.proofs.Each.{put-then}
 use Rattle.collection.specs.Summary.{groupsTexts}
 use Rattle.collection.proofs.summary.put_groups.Statement.{statement}
 use Rattle.collection.proofs.summary.put_groups.Tie as tie
+use Rattle.wording.specs.Text.{ascii}
 
 slice-aggregate-put-group : tie.Need-slice-aggregate-put-group
 slice-aggregate-put-group c = search needs
@@ -40,8 +41,8 @@ same-length : tie.Need-same-length
 same-length c = search needs
 
 returns : tie.Need-returns
-unfolding groupsTexts
-returns c = puts-then (c .before .before .before .before .before .before .before .before .before .before .before .before .before .before .before .before .before .before .before .before .before .before .put-group .ensures) (puts-then (c .before .before .before .before .before .before .before .before .before .before .before .before .before .before .before .before .before .put-group2 .ensures) (puts-then (c .before .before .before .before .before .before .before .before .before .before .before .before .put-group3 .ensures) (puts-then (c .before .before .before .before .before .before .before .put-group4 .ensures) (c .before .before .put-group5 .ensures))))
+unfolding ascii groupsTexts
+returns c = put-then (c .before .before .before .before .before .before .before .before .before .before .before .before .before .before .before .before .before .before .before .before .before .before .put-group .ensures) (put-then (c .before .before .before .before .before .before .before .before .before .before .before .before .before .before .before .before .before .put-group2 .ensures) (put-then (c .before .before .before .before .before .before .before .before .before .before .before .before .put-group3 .ensures) (put-then (c .before .before .before .before .before .before .before .put-group4 .ensures) (c .before .before .put-group5 .ensures))))
 
 pub put-groups-spec : {M : Type 1} → statement M
 put-groups-spec =

@@ -4,6 +4,7 @@ use Rattle.collection.specs.Summary.{headTexts}
 use borrow.Author.Needs.{needs}
 use Rattle.collection.proofs.summary.put_head.Statement.{statement}
 use Rattle.collection.proofs.summary.put_head.Tie as tie
+use Rattle.wording.specs.Text.{ascii}
 
 slice-aggregate-put-text : tie.Need-slice-aggregate-put-text
 slice-aggregate-put-text c = search needs
@@ -21,8 +22,8 @@ same-length : tie.Need-same-length
 same-length c = search needs
 
 returns : tie.Need-returns
-unfolding headTexts putEach
-returns c = record { placed = cc }
+unfolding ascii headTexts putEach
+returns c = record { next = cc; bytes = cc }
 
 pub put-head-spec : {M : Type 1} → statement M
 put-head-spec =

@@ -1,10 +1,11 @@
 -- `collection::summary::put_heading` meets its contract.
 -- Assumes nothing.
 use borrow.Author.Needs.{needs}
-use Rattle.collection.specs.Puts.{puts-one, puts-first}
+use Rattle.wording.proofs.Each.{put-one, put-first}
 use Rattle.collection.specs.Summary.{headingTexts}
 use Rattle.collection.proofs.summary.put_heading.Statement.{statement}
 use Rattle.collection.proofs.summary.put_heading.Tie as tie
+use Rattle.wording.specs.Text.{ascii}
 
 slice-aggregate-put-text : tie.Need-slice-aggregate-put-text
 slice-aggregate-put-text c = search needs
@@ -25,8 +26,8 @@ same-length : tie.Need-same-length
 same-length c = search needs
 
 returns : tie.Need-returns
-unfolding headingTexts
-returns c = puts-first (c .before .before .before .before .before .before .before .before .before .before .before .put-text .ensures) (puts-first (c .before .before .before .before .before .before .before .put-text2 .ensures) (puts-one (c .before .before .put-text3 .ensures)))
+unfolding ascii headingTexts
+returns c = put-first (c .before .before .before .before .before .before .before .before .before .before .before .put-text .ensures) (put-first (c .before .before .before .before .before .before .before .put-text2 .ensures) (put-one (c .before .before .put-text3 .ensures)))
 
 pub put-heading-spec : {M : Type 1} → statement M
 put-heading-spec =

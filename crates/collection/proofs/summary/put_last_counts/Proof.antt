@@ -1,10 +1,11 @@
 -- `collection::summary::put_last_counts` meets its contract.
 -- Assumes nothing.
 use borrow.Author.Needs.{needs}
-use Rattle.collection.specs.Puts.{puts-then}
+use Rattle.wording.proofs.Each.{put-then}
 use Rattle.collection.specs.Summary.{lastCounts}
 use Rattle.collection.proofs.summary.put_last_counts.Statement.{statement}
 use Rattle.collection.proofs.summary.put_last_counts.Tie as tie
+use Rattle.wording.specs.Text.{ascii}
 
 slice-aggregate-put-count : tie.Need-slice-aggregate-put-count
 slice-aggregate-put-count c = search needs
@@ -28,8 +29,8 @@ same-length : tie.Need-same-length
 same-length c = search needs
 
 returns : tie.Need-returns
-unfolding lastCounts
-returns c = puts-then (c .before .before .before .before .before .before .before .before .before .before .before .before .put-count .ensures) (puts-then (c .before .before .before .before .before .before .before .put-count2 .ensures) (c .before .before .put-count3 .ensures))
+unfolding ascii lastCounts
+returns c = put-then (c .before .before .before .before .before .before .before .before .before .before .before .before .put-count .ensures) (put-then (c .before .before .before .before .before .before .before .put-count2 .ensures) (c .before .before .put-count3 .ensures))
 
 pub put-last-counts-spec : {M : Type 1} → statement M
 put-last-counts-spec =

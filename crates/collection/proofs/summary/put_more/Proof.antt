@@ -1,6 +1,7 @@
 -- `collection::summary::put_more` meets its contract.
 -- Assumes nothing.
 use borrow.Author.Needs.{needs}
+use Rattle.wording.specs.Text.{ascii}
 use Rattle.collection.proofs.Parts.{more-some, more-none}
 use Rattle.collection.proofs.summary.put_more.Statement.{statement}
 use Rattle.collection.proofs.summary.put_more.Tie as tie
@@ -24,6 +25,7 @@ same-length : tie.Need-same-length
 same-length c = search needs
 
 returns : tie.Need-returns
+unfolding ascii
 returns c = more-some _ (c .before .before .before .before .before .before .before .before .before .before .before .if1 .taken) (c .before .before .before .before .before .before .before .before .put-text .ensures) (c .before .before .put-count .ensures)
 
 returns-2 : tie.Need-returns-2

@@ -1,10 +1,11 @@
 -- `collection::summary::put_summary` meets its contract.
 -- Assumes nothing.
 use borrow.Author.Needs.{needs}
-use Rattle.collection.specs.Puts.{puts-then}
+use Rattle.wording.proofs.Each.{put-then}
 use Rattle.collection.specs.Summary.{summaryTexts, firstCounts, lastCounts}
 use Rattle.collection.proofs.summary.put_summary.Statement.{statement}
 use Rattle.collection.proofs.summary.put_summary.Tie as tie
+use Rattle.wording.specs.Text.{ascii}
 
 put-head-requires : tie.Need-put-head-requires
 put-head-requires c κs = search needs
@@ -22,8 +23,8 @@ same-length : tie.Need-same-length
 same-length c = search needs
 
 returns : tie.Need-returns
-unfolding summaryTexts firstCounts lastCounts
-returns c = puts-then (c .before .before .before .before .before .before .before .before .before .before .before .before .before .before .put-head .ensures) (puts-then (c .before .before .before .before .before .before .before .before .before .before .put-groups .ensures) (puts-then (c .before .before .before .before .before .before .put-first-counts .ensures) (c .before .before .put-last-counts .ensures)))
+unfolding ascii summaryTexts firstCounts lastCounts
+returns c = put-then (c .before .before .before .before .before .before .before .before .before .before .before .before .before .before .put-head .ensures) (put-then (c .before .before .before .before .before .before .before .before .before .before .put-groups .ensures) (put-then (c .before .before .before .before .before .before .put-first-counts .ensures) (c .before .before .put-last-counts .ensures)))
 
 pub put-summary-spec : {M : Type 1} → statement M
 put-summary-spec =

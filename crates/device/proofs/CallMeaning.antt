@@ -95,6 +95,36 @@ awaited-temperature m s w =
     (λ c. rw (a, c) (λ e. let z : _≡_ {A = ℕ} 0 1 = cc in absurd (omega arith), λ e. let z : _≡_ {A = ℕ} 11 10 = cc in absurd (omega arith))))
     (λ a. rw a (λ e. refl, λ e. refl)))
 
+-- "a delivery with another number of words": number 11, both ways, of a kind that is awaited
+module _ (m : Model) (s : isSound m ≡ true) where
+  pub flight-count :
+      (u d : List ℕ) →
+      notAwaited m (flight u d) ≡ false →
+      (verdict m (flight u d) ≡ refused 11)
+      ↔ (¬ ((length u ≡ pick (m .flight .up) (hitCount (m .setup)) 0) × (length d ≡ pick (m .flight .down) (hitCount (m .setup)) 0)))
+  unfolding verdict table firstOf noFrame notCarried wrongLength pastRegisters shortOutput whileBusy supplyOff unreachable unerased badCalendar notInitialised badSetup notAwaited miscounted tooLong
+  flight-count u d =
+      rw s
+      (by-test (isAwaited (m .flight .schedule))
+      (λ a. by-test (flightMiscounted (m .flight) (hitCount (m .setup)) (length u) (length d))
+      (λ c. rw (a, c) (λ _. (λ x y. differ (sym (count-means (m .flight) (hitCount (m .setup)) (length u) (length d) .1 y) ∙ c), λ n. refl)))
+      (λ c. rw (a, c) (λ _. (λ x. let z : _≡_ {A = ℕ} 0 1 = cc in absurd (omega arith), λ n. absurd (n (count-means (m .flight) (hitCount (m .setup)) (length u) (length d) .0 c))))))
+      (λ a. rw a (λ x. let z : _≡_ {A = ℕ} 0 1 = cc in absurd (omega arith))))
+    where
+      differ : _≡_ {A = Bool} false true → ⊥
+      differ e = let z : _≡_ {A = ℕ} 0 1 = cc in omega arith
+
+  pub temperature-count :
+      (w : List ℕ) → notAwaited m (temperature w) ≡ false → (verdict m (temperature w) ≡ refused 11) ↔ (¬ (length w ≡ 4))
+  unfolding verdict table firstOf noFrame notCarried wrongLength pastRegisters shortOutput whileBusy supplyOff unreachable unerased badCalendar notInitialised badSetup notAwaited miscounted tooLong
+  temperature-count w =
+      rw s
+      (by-test (isAwaited (m .temperature .schedule))
+      (λ a. by-eqb (length w) 4
+      (λ h c. rw (a, c) (λ _. (λ x. let z : _≡_ {A = ℕ} 0 1 = cc in absurd (omega arith), λ n. absurd (n h))))
+      (λ h c. rw (a, c) (λ _. (λ x. h, λ n. refl))))
+      (λ a. rw a (λ x. let z : _≡_ {A = ℕ} 0 1 = cc in absurd (omega arith))))
+
 pub awaited-one : (m : Model) (k : Schedule) → isSound m ≡ true → (awaitedTold m k ≡ Value 1) ↔ (0 < k .left .0)
 unfolding awaitedTold isAwaited
 awaited-one m k s =

@@ -35,6 +35,7 @@ pub mod FlashMeaning
 pub mod Form
 pub mod Initialised
 pub mod SetupTold
+pub mod Stores
 pub mod ProbesBlanked
 pub mod Probes
 pub mod StatusKept

@@ -38,14 +38,14 @@ use Rattle.device.specs.Reply.{anyLate, acceptedAnswer, acceptedModel}
 use Rattle.device.specs.Claim.{Holds}
 use Rattle.device.specs.Terms.{eoscOf}
 use Rattle.device.specs.SecondDemand.{ReadsClaim, WritesClaim, CalendarClaim, AlarmClaim, FlightClaim, PortClaim}
-use Rattle.device.specs.SecondDemand.{BusClaim, BitsClaim, CommandsClaim, ExpiryClaim, SecondDemand}
+use Rattle.device.specs.SecondDemand.{BusClaim, CountsClaim, BitsClaim, CommandsClaim, ExpiryClaim, SecondDemand}
 use Rattle.device.proofs.Sound.{hits-below}
 use Rattle.device.proofs.RegisterMeaning.{fresh-reads, reset-reads, reads-zero, reads-setup, reads-status, reads-ups, reads-downs, reads-difference, fill-bytes, fill-rest}
 use Rattle.device.proofs.RegisterMeaning.{setup-written, setup-kept, word-means}
 use Rattle.device.proofs.WriteMeaning.{ticks-set, ticks-kept, write-judged, write-reads}
 use Rattle.device.proofs.ClockMeaning.{alarm-00, alarm-01, alarm-10, alarm-11, clock-stands, clock-moves}
 use Rattle.device.proofs.Stretch.{clock-ticked}
-use Rattle.device.proofs.CallMeaning.{count-means}
+use Rattle.device.proofs.CallMeaning.{count-means, flight-count, temperature-count}
 use Rattle.device.proofs.DeliveryMeaning.{good-ups-kept, good-downs-kept, good-difference-kept, failed-ups-kept, failed-downs-kept, failed-difference-kept}
 use Rattle.device.proofs.DeliveryMeaning.{good-ups, good-downs, good-difference, failed-ups, failed-downs, failed-difference, open-port, short-port, whole-port, good-words}
 use Rattle.device.proofs.StatusMeaning.{status-means, initialised-means, halted-status, interrupt-yes}
@@ -55,6 +55,7 @@ use Rattle.device.proofs.CommandMeaning.{zeroed-differences, zeroed-tem
 use Rattle.device.proofs.BusMeaning.{read-bytes, read-rest, read-keeps, write-leaves, write-output, command-leaves, command-output}
 use Rattle.device.proofs.ExpiryMeaning.{expired-ups, expired-downs, expired-difference, expired-ports, single-flight-expires, single-temperature-expires}
 use Rattle.device.proofs.Form.{form-kept}
+use Rattle.device.proofs.Stores.{only-store}
 use Rattle.device.proofs.Initialised.{initialised-until-reset}
 
 reads : ReadsClaim
@@ -125,6 +126,10 @@ alarm m minute hour c t =
       mode-10 = alarm-10 m c minute hour t;
       mode-11 = alarm-11 m c minute hour t;
     }
+
+counts : (m : Model) → isSound m ≡ true → CountsClaim m
+counts m s =
+    record { flights = λ u d a. rw (← hits-are (m .setup)) (flight-count m s u d a); temperatures = temperature-count m s }
 
 -- What the registers of a direction, and TOF_DIFF, read is in its part of the model.
 ups-read :
@@ -370,10 +375,12 @@ second-demand =
       reads = reads;
       bus = bus;
       writes = writes;
+      stores = only-store;
       calendar = calendar;
       months = λ y. record { leap = leap-months y; common = common-months y };
       form = form-kept;
       alarm = alarm;
+      counts = counts;
       flights = flights;
       ports = ports;
       judged = good-words;

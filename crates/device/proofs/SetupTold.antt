@@ -50,9 +50,9 @@ unfolding flashModel
 flash-setup m op = by-test (eqb op 0x90) (λ e. rw e) (λ e. rw e)
 
 -- What one accepted call does to the set-up, and that its answer is no refusal.
-record Given (m : Model) (c : Call) : Type 0 where
-  long : length (acceptedModel m c .setup) ≡ 16
-  word : (a : ℕ) → 0x34 ≤ a → a ≤ 0x43 → wordOf (acceptedModel m c .setup) a ≡ wordGiven a c (wordOf (m .setup) a)
+pub record Given (m : Model) (c : Call) : Type 0 where
+  pub long : length (acceptedModel m c .setup) ≡ 16
+  pub word : (a : ℕ) → 0x34 ≤ a → a ≤ 0x43 → wordOf (acceptedModel m c .setup) a ≡ wordGiven a c (wordOf (m .setup) a)
   told : isRefusal (acceptedAnswer m c) ≡ false
 
 factory-long : length factory ≡ 16
@@ -81,7 +81,7 @@ write-long : (m : Model) (bytes : List ℕ) (op n : ℕ) → length (m .setup) �
 unfolding writeModel
 write-long m bytes op n l = setup-length bytes op (m .setup) n ∙ l
 
-given : (m : Model) (c : Call) → length (m .setup) ≡ 16 → Given m c
+pub given : (m : Model) (c : Call) → length (m .setup) ≡ 16 → Given m c
 unfolding acceptedModel acceptedAnswer wordGiven isRefusal written tickModel failedFlightModel goodFlightModel failedTemperatureModel goodTemperatureModel
 given m (transaction f o x) l =
     by-test (isCommand (opcode f))

@@ -12,7 +12,7 @@ use lib.ListN.{length, getD, drop}
 use lib.Dec.{leb, eqb}
 use mir.Syntax.{w32}
 use mir.Val.{toZ}
-use Rattle.unit.specs.Choice.{both, either}
+use Rattle.unit.specs.Choice.{pick, both, either}
 use Rattle.calendar.specs.Calendar.{clockValid, monthLength}
 use Rattle.calendar.specs.Moment.{moment, midnights}
 use Rattle.calendar.specs.Alarm.{alarmRings}
@@ -25,19 +25,19 @@ use Rattle.device.specs.declared.Model.{Model}
 use Rattle.device.specs.declared.Answer.the-variants.{Ticked, Good, Failed}
 use Rattle.device.specs.declared.Told.the-variants.{Value}
 use Rattle.device.specs.Status.{joined}
-use Rattle.device.specs.Model.{isSound, isBusy, freshModel}
+use Rattle.device.specs.Model.{isSound, isBusy, freshModel, withSetup}
 use Rattle.device.specs.Registers.{registerWord, fillWords, upwards}
 use Rattle.device.specs.Write.{writeInvalid, writeModel}
 use Rattle.device.specs.Tick.{tickModel, reportOf}
 use Rattle.device.specs.Stretch.{modelTicked}
 use Rattle.device.specs.Bus.{runModel}
-use Rattle.device.specs.Call.{Call, transaction, tick, flight, temperature, accepted, verdict, notAwaited, miscounted}
+use Rattle.device.specs.Call.{Call, transaction, tick, flight, temperature, accepted, refused, verdict, notAwaited, miscounted}
 use Rattle.device.specs.Reply.{anyLate, anyOpen, acceptedAnswer, acceptedModel, reply, output}
 use Rattle.device.specs.Question.{interruptPending}
 use Rattle.device.specs.Claim.{Holds, Whole}
 use Rattle.device.specs.Form.{FormClaim}
 use Rattle.device.specs.Initialised.{InitialisedClaim}
-use Rattle.device.specs.Terms.{LeftOut, After, CalendarAfter, modeOf, eoscOf, Places, onlyBits, expiring, nth, told, Some}
+use Rattle.device.specs.Terms.{OtherStored, LeftOut, After, CalendarAfter, modeOf, eoscOf, Places, onlyBits, expiring, nth, told, Some}
 use Rattle.device.specs.Terms.{Kept, ReadsStatus, Clears, SwitchesOff, maySet, Under, FlightStarts, TemperatureStarts, Command, Write, Read}
 
 -- the sixteen words from address a on
@@ -113,6 +113,17 @@ pub record WritesClaim (m : Model) (bytes : List ℕ) (op n : ℕ) : Type 0 wher
       (c * 32768 ≤ s * 100) × (s * 100 < c * 32768 + 100)
   -- "any other write keeps s"
   pub kept : LeftOut op n 0x30 → (writeModel bytes op n m) .clock .ticks ≡ m .clock .ticks
+
+-- "34h, 36h and 37h only store": a model that has the words of `t` there in place of its own. Every call answers the same and leaves the
+-- same but for these words; every other register reads the same, and so does INT.
+pub record StoresClaim (m : Model) (t : List ℕ) : Type 0 where
+  pub answers : (c : Call) → reply (withSetup m t) c .answer ≡ reply m c .answer
+  pub leaves :
+      (c : Call) →
+      let n : Model = reply (withSetup m t) c .model in
+      (n ≡ withSetup (reply m c .model) (n .setup)) × OtherStored (reply m c .model .setup) (n .setup)
+  pub reads : (a : ℕ) → ¬ (a ≡ 0xB4) → ¬ (a ≡ 0xB6) → ¬ (a ≡ 0xB7) → registerWord (withSetup m t) a ≡ registerWord m a
+  pub interrupt : interruptPending (withSetup m t) ≡ interruptPending m
 
 -- "for words going in over the bus and for words coming out": what an accepted transaction makes of its frame `f` and of the output
 -- buffer `o`. `writeModel` and `runModel` are what the claims on writes and commands are about.
@@ -250,6 +261,20 @@ pub record FlightClaim (m : Model) (u d : List ℕ) : Type 0 where
   pub difference-kept :
       (m .flight .up ≡ false) ⊎ (m .flight .down ≡ false) →
       map (registerWord (acceptedModel m (flight u d))) (0xE2 ∷ 0xE3 ∷ []) ≡ map (registerWord m) (0xE2 ∷ 0xE3 ∷ [])
+
+-- Number 11, "a delivery with another number of words", both ways, where a sound model awaits the kind.
+pub record CountsClaim (m : Model) : Type 0 where
+  -- "an up list and a down list, each of H words, H = STOP + 1 and at most 6 (STOP is 15:13 of 39h); the unmeasured direction's list is
+  -- empty"
+  pub flights :
+      (u d : List ℕ) →
+      notAwaited m (flight u d) ≡ false →
+      let h : ℕ = min (wordOf (m .setup) 0x39 / 8192 % 8 + 1) 6 in
+      (verdict m (flight u d) ≡ refused 11)
+      ↔ (¬ ((length u ≡ pick (m .flight .up) h 0) × (length d ≡ pick (m .flight .down) h 0)))
+  -- "Temperature delivery: four words"
+  pub temperatures :
+      (w : List ℕ) → notAwaited m (temperature w) ≡ false → (verdict m (temperature w) ≡ refused 11) ↔ (¬ (length w ≡ 4))
 
 -- "temperatures": port i, 0 to 3, of a delivery of four words, each by its own word whatever the others are.
 pub record PortClaim (m : Model) (w : List ℕ) (i : ℕ) : Type 0 where
@@ -460,6 +485,7 @@ pub record SecondDemand : Type 0 where
   pub reads : ReadsClaim
   pub bus : (m : Model) (f o x : List ℕ) → verdict m (transaction f o x) ≡ accepted → BusClaim m f o x
   pub writes : (m : Model) (bytes : List ℕ) (op n : ℕ) → isSound m ≡ true → length (m .setup) ≡ 16 → WritesClaim m bytes op n
+  pub stores : (m : Model) (t : List ℕ) → OtherStored (m .setup) t → StoresClaim m t
   pub calendar : (m : Model) → clockValid (m .clock) ≡ true → CalendarClaim m
   pub months : (y : ℕ) → MonthsClaim y
   -- "A clock keeps the form it was last written in." (Note 2)
@@ -469,6 +495,7 @@ pub record SecondDemand : Type 0 where
       m .status .alarm ≡ false →
       AlarmTime (wordOf (m .setup) 0x35) minute hour →
       AlarmClaim m minute hour
+  pub counts : (m : Model) → isSound m ≡ true → CountsClaim m
   pub flights : (m : Model) (u d : List ℕ) → miscounted m (flight u d) ≡ false → FlightClaim m u d
   pub ports : (m : Model) (w : List ℕ) (i : ℕ) → miscounted m (temperature w) ≡ false → i < 4 → PortClaim m w i
   -- "its delivery, single or of an event, is answered failed" (Note 3): good exactly where all words are neither short nor open

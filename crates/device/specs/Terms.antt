@@ -30,6 +30,11 @@ pub record CalendarAfter (bytes : List ℕ) (op n : ℕ) (m : Model) (w30 w31 w3
   pub at32 : After bytes op n m 0x32 w32
   pub at33 : After bytes op n m 0x33 w33
 
+-- Set-ups that differ at most in the words of 34h, 36h and 37h.
+pub record OtherStored (s t : List ℕ) : Type 0 where
+  pub long : (length s ≡ 16) × (length t ≡ 16)
+  pub words : (a : ℕ) → 0x34 < a → a ≤ 0x43 → ¬ (a ≡ 0x36) → ¬ (a ≡ 0x37) → wordOf t a ≡ wordOf s a
+
 -- AM, "(3:2 of 43h)"
 abbrev pub modeOf : Model → ℕ
 modeOf m = wordOf (m .setup) 0x43 / 4 % 4

@@ -1,11 +1,11 @@
 -- The printed STOP table gives 01's H at all eight values, the TIMOUT table 01's timeouts.
-use Prim.Native.Nat.{ℕ, _+_, _*_, _^_, _<_, min}
+use Prim.Native.Nat.{ℕ, _+_, _*_, _^_, _≤_, _<_, min}
 use native.Mathlib.Omega.{arith}
 use mathlib.Core.Bool.{true}
-use mathlib.Core.Path.{_≡_, refl}
+use mathlib.Core.Path.{_≡_, refl, sym}
 use mathlib.Core.List.{List}
 use Rattle.unit.specs.Bits.{bits}
-use Rattle.unit.proofs.Rows.{agree, agree-at}
+use Rattle.unit.proofs.Rows.{agree, agree-at, past-last}
 use Rattle.setup.specs.Setup.{wordOf, hitCount}
 use Rattle.setup.specs.Table11.{stopTable, stopRow, timeoutTable, timeoutRow}
 use Rattle.setup.proofs.Laws.{hits-are}
@@ -38,3 +38,8 @@ eight-timeouts = refl
 
 pub timeout-periods : (k : ℕ) → k < 8 → timeoutRow k * 4 ≡ 512 * 2 ^ k
 timeout-periods = agree-at printed periods 8 eight-timeouts
+
+-- past the table both are the last row
+pub last-row : (n : ℕ) → 8 ≤ n → (stopRow n ≡ 6) × (timeoutRow n ≡ 16384)
+unfolding stopTable stopRow timeoutTable timeoutRow
+last-row n past = (sym (past-last stopTable 6 n refl (omega arith)), sym (past-last timeoutTable 16384 n refl (omega arith)))

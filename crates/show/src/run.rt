@@ -5,8 +5,8 @@ use device::Answer;
 use device::Model;
 use device::Told;
 use model::refusal::SET_UP;
-use question::Place;
-use question::Placed;
+use run_state::Place;
+use run_state::Placed;
 
 // What stands for a frame that would be accepted: no number of a refusal.
 pub const ACCEPTED: u32 = 255;
@@ -23,12 +23,12 @@ pub fn run_number(m: Model, x: u8) -> u32 {
 // that stand in the way of measurements; t and u: the bits of TP. Any other letter: whether the model is initialised.
 fn small(m: Model, x: u8) -> u32 {
     if x < b'h' {
-        return of_kind(question::flight_place(m), question::flight_left(m), x);
+        return of_kind(run_state::flight_place(m), run_state::flight_left(m), x);
     }
     if x < b'p' {
         return of_kind(
-            question::temperature_place(m),
-            question::temperature_left(m),
+            run_state::temperature_place(m),
+            run_state::temperature_left(m),
             x - 8,
         );
     }
@@ -36,7 +36,7 @@ fn small(m: Model, x: u8) -> u32 {
         b'p' | b'q' | b'r' | b's' => in_the_way(m, x),
         b't' => word(m, 0xc0) / 64 % 2,
         b'u' => word(m, 0xc0) / 32 % 2,
-        _ => told(question::initialised(m)),
+        _ => told(run_state::initialised(m)),
     }
 }
 

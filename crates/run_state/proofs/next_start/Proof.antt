@@ -1,12 +1,12 @@
--- `question::next_start` meets its contract.
+-- `run_state::next_start` meets its contract.
 use Rattle.device.specs.Event.{startsLeft}
 use Rattle.unit.proofs.Tests.{tests}
-use Rattle.question.specs.Event.{nextStart}
+use Rattle.run_state.specs.Event.{nextStart}
 use borrow.Author.Needs.{needs}
-use Rattle.question.proofs.next_start.Statement.{statement}
-use Rattle.question.proofs.next_start.Tie as tie
-use Rattle.question.proofs.next_start.Reads as reads
-use Rattle.question.proofs.next_start.Lts as lts
+use Rattle.run_state.proofs.next_start.Statement.{statement}
+use Rattle.run_state.proofs.next_start.Tie as tie
+use Rattle.run_state.proofs.next_start.Reads as reads
+use Rattle.run_state.proofs.next_start.Lts as lts
 
 returns : tie.Need-returns
 unfolding nextStart startsLeft

@@ -7,9 +7,9 @@ use Rattle.device.specs.declared.Schedule.{Schedule}
 use Rattle.device.specs.declared.Model.{Model}
 use Rattle.device.specs.Event.{ticks, inEvent, startsLeft}
 use Rattle.device.specs.Model.{isSound}
-use Rattle.question.specs.declared.Place.{Place}
-use Rattle.question.specs.declared.Placed.{Placed}
-use Rattle.question.specs.declared.Placed.the-variants.{NoEvent, Event, Refused}
+use Rattle.run_state.specs.declared.Place.{Place}
+use Rattle.run_state.specs.declared.Placed.{Placed}
+use Rattle.run_state.specs.declared.Placed.the-variants.{NoEvent, Event, Refused}
 
 -- A place by its parts: planned, started, settled, good, next, continuous.
 abbrev pub placeBy : ℕ → ℕ → ℕ → ℕ → Ticks → Bool → Place

@@ -1,8 +1,8 @@
--- `question::initialised` meets its contract.
-use Rattle.question.specs.State.{initialisedTold}
+-- `run_state::initialised` meets its contract.
+use Rattle.run_state.specs.State.{initialisedTold}
 use borrow.Author.Needs.{needs}
-use Rattle.question.proofs.initialised.Statement.{statement}
-use Rattle.question.proofs.initialised.Tie as tie
+use Rattle.run_state.proofs.initialised.Statement.{statement}
+use Rattle.run_state.proofs.initialised.Tie as tie
 
 is-sound-requires : tie.Need-is-sound-requires
 is-sound-requires c κs = search needs

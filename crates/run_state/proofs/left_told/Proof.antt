@@ -1,8 +1,8 @@
--- `question::left_told` meets its contract.
-use Rattle.question.specs.State.{leftTold}
+-- `run_state::left_told` meets its contract.
+use Rattle.run_state.specs.State.{leftTold}
 use borrow.Author.Needs.{needs}
-use Rattle.question.proofs.left_told.Statement.{statement}
-use Rattle.question.proofs.left_told.Tie as tie
+use Rattle.run_state.proofs.left_told.Statement.{statement}
+use Rattle.run_state.proofs.left_told.Tie as tie
 
 is-sound-requires : tie.Need-is-sound-requires
 is-sound-requires c κs = search needs

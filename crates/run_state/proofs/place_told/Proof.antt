@@ -1,8 +1,8 @@
--- `question::place_told` meets its contract.
-use Rattle.question.specs.Event.{placeTold}
+-- `run_state::place_told` meets its contract.
+use Rattle.run_state.specs.Event.{placeTold}
 use borrow.Author.Needs.{needs}
-use Rattle.question.proofs.place_told.Statement.{statement}
-use Rattle.question.proofs.place_told.Tie as tie
+use Rattle.run_state.proofs.place_told.Statement.{statement}
+use Rattle.run_state.proofs.place_told.Tie as tie
 
 is-sound-requires : tie.Need-is-sound-requires
 is-sound-requires c κs = search needs

@@ -10,9 +10,9 @@ use Rattle.device.specs.Event.{leftAfter, waitAfter, startedAfter, settledAfter
 use Rattle.device.specs.Model.{freshModel, freshWith, isSound}
 use Rattle.device.specs.Bus.{initialisedModel}
 use Rattle.device.proofs.Sound.{fresh-sound}
-use Rattle.question.specs.declared.Placed.the-variants.{NoEvent, Event}
-use Rattle.question.specs.State.{initialisedTold, leftTold}
-use Rattle.question.specs.Event.{placeBy, nextStart, placeOf, placeTold}
+use Rattle.run_state.specs.declared.Placed.the-variants.{NoEvent, Event}
+use Rattle.run_state.specs.State.{initialisedTold, leftTold}
+use Rattle.run_state.specs.Event.{placeBy, nextStart, placeOf, placeTold}
 
 initialised-is : (m : Model) → isSound m ≡ true → initialisedTold m ≡ pick (m .initialised) (Value 1) (Value 0)
 unfolding initialisedTold

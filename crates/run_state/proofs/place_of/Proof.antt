@@ -1,9 +1,9 @@
--- `question::place_of` meets its contract.
+-- `run_state::place_of` meets its contract.
 use Rattle.unit.proofs.Tests.{tests}
-use Rattle.question.specs.Event.{placeOf}
+use Rattle.run_state.specs.Event.{placeOf}
 use borrow.Author.Needs.{needs}
-use Rattle.question.proofs.place_of.Statement.{statement}
-use Rattle.question.proofs.place_of.Tie as tie
+use Rattle.run_state.proofs.place_of.Statement.{statement}
+use Rattle.run_state.proofs.place_of.Tie as tie
 
 next-start-requires : tie.Need-next-start-requires
 next-start-requires c κs = search needs

@@ -1,4 +1,2 @@
-// Delivered hit words: which are late, open or short, hits and averages of a direction, differences, means.
-pub mod difference;
-pub mod limit;
-pub mod words;
+// Delivered hit words: which are late, open or short, the hits and averages of a direction, differences, means. The definitions and
+// their laws stand in specs/ and proofs/; `evaluation` has the code.

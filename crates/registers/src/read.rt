@@ -7,8 +7,8 @@ ghost use Rattle.device.specs.Registers.{half, calendarWord, flightWord, temper
 use device::Flight;
 use device::Model;
 use device::Temperature;
-use hit::difference::difference_mean;
-use hit::difference::port_mean;
+use evaluation::difference::difference_mean;
+use evaluation::difference::port_mean;
 use status::no_bits;
 use status::status_word;
 

@@ -9,13 +9,13 @@ ghost use Rattle.device.specs.Results.{goodDifference, goodSum, goodFlight, goo
 use device::Flight;
 use device::Schedule;
 use device::Temperature;
-use hit::difference::biased;
-use hit::difference::difference_word;
-use hit::words::average;
-use hit::words::choose_pairs;
-use hit::words::failed_pairs;
-use hit::words::filled;
-use hit::words::plus_each;
+use evaluation::difference::biased;
+use evaluation::difference::difference_word;
+use evaluation::words::average;
+use evaluation::words::choose_pairs;
+use evaluation::words::failed_pairs;
+use evaluation::words::filled;
+use evaluation::words::plus_each;
 use schedule::settle;
 use unit::Quanta;
 

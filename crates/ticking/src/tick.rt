@@ -8,7 +8,7 @@ use device::Report;
 use device::Schedule;
 use device::Status;
 use device::Temperature;
-use hit::words::failed_ports;
+use evaluation::words::failed_ports;
 use results::failed_flight;
 use schedule::begins;
 use schedule::begins_group;

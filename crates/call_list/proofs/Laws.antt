@@ -14,7 +14,7 @@ use Rattle.device.specs.declared.Reply.{Reply}
 use Rattle.device.specs.Model.{isSound}
 use Rattle.device.specs.Call.{Call, transaction, tick, flight, temperature, stretch}
 use Rattle.device.specs.Reply.{reply, output, memory, bufferOf, memoryOf}
-use Rattle.device.proofs.Decode.{reply-unsound}
+use Rattle.reply_parts.proofs.Decode.{reply-unsound}
 use Rattle.device.proofs.Sound.{keeps-sound}
 use Rattle.call_list.specs.declared.Entry.{Entry}
 use Rattle.call_list.specs.declared.Place.{Place}

@@ -3,7 +3,6 @@ pub mod Table
 pub mod FirstDemand
 pub mod TickCases
 pub mod Sound
-pub mod Decode
 pub mod Awaited
 pub mod StatusRead
 pub mod WriteTogether
@@ -20,7 +19,6 @@ pub mod AnswerMeaning
 pub mod StartMeaning
 pub mod EventSchedule
 pub mod Stretch
-pub mod Quiet
 pub mod StretchMeaning
 pub mod ClockMeaning
 pub mod CallSteps

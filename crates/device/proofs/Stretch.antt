@@ -38,6 +38,12 @@ unfolding modelTicked scheduleTicked
 schedule-ticked k zero m = refl
 schedule-ticked k (suc n) m = schedule-tick k (modelTicked n m) ∙ ap tickSchedule (schedule-ticked k n m)
 
+-- ticks after ticks
+pub ticked-later : (a b : ℕ) (m : Model) → modelTicked a (modelTicked b m) ≡ modelTicked (b + a) m
+unfolding modelTicked
+ticked-later zero b m = let e : b + 0 ≡ b = omega arith in rw e
+ticked-later (suc a) b m = let e : b + suc a ≡ suc (b + a) = omega arith in rw e (ap tickModel (ticked-later a b m))
+
 -- ticks keep the set-up, and move a clock that does not stand
 pub setup-ticked : (n : ℕ) (m : Model) → (modelTicked n m) .setup ≡ m .setup
 unfolding modelTicked tickModel

@@ -18,7 +18,7 @@ use Rattle.device.specs.Reply.{refuse, reply}
 use Rattle.device.specs.History.{after}
 use Rattle.device.proofs.Sound.{keeps-sound}
 use Rattle.device.proofs.Replies.{reply-tick, reply-stretch}
-use Rattle.device.proofs.Quiet.{ticked-later}
+use Rattle.device.proofs.Stretch.{ticked-later}
 
 -- "with the same end as n single ticks"
 unfoldable pub singleTicks : ℕ → List Call

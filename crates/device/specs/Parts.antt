@@ -1,5 +1,5 @@
 -- The code's own: the parts of a sound model's replies, as the code takes them apart. Nothing here is to be believed: the laws of
--- proofs/Decode.antt equate them with `reply`, `output` and `memory`.
+-- `reply_parts` equate them with `reply`, `output` and `memory`.
 use Prim.Native.Nat.{ℕ, _+_, _*_}
 use mathlib.Core.Bool.{Bool, true, false}
 use mathlib.Core.List.{List}

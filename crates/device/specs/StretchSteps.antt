@@ -1,5 +1,5 @@
 -- The code's own: how a stretch moves on, by as many ticks at once as pass with nothing to report and no second's end, else by a
--- single one. Nothing here is to be believed: proofs/Stretch.antt and Quiet.antt equate it with single ticks.
+-- single one. Nothing here is to be believed: Quiet.antt of ticking's proofs equates it with single ticks.
 use Prim.Native.Nat.{ℕ, _+_, _-_}
 use lib.Dec.{ltb, leb, eqb}
 use Rattle.unit.specs.Choice.{pick}

@@ -24,7 +24,7 @@ use Rattle.device.specs.Parts.{writeReply}
 use Rattle.device.specs.History.{after}
 use Rattle.device.proofs.Sound.{fresh-sound, keeps-sound}
 use Rattle.device.proofs.WriteTogether.{judged-by-alarm}
-use Rattle.device.proofs.Decode.{reply-write}
+use Rattle.reply_parts.proofs.Decode.{reply-write}
 use Rattle.setup_frames.specs.Frames.{differs, differsBefore, starts, runLength, bytesOf, frameAt, framesFrom, frames}
 use Rattle.setup_frames.specs.Sending.{sent, setupFrom, Words}
 use Rattle.setup_frames.proofs.Weight.{before-next, length-bytes, run-goes-on}

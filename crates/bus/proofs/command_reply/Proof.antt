@@ -1,4 +1,4 @@
--- `converter::command_reply` meets its contract.
+-- `bus::command_reply` meets its contract.
 use Rattle.device.specs.Parts.{commandReply}
 use borrow.Author.Needs.{needs}
 use Rattle.bus.proofs.command_reply.Statement.{statement}

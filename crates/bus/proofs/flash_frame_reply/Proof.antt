@@ -1,7 +1,7 @@
--- `converter::flash_frame_reply` meets its contract.
+-- `bus::flash_frame_reply` meets its contract.
 use Rattle.device.specs.Parts.{readReply, readOutput, flashReply, flashOut, flashLeft, flashFrameReply, flashFrameOutput, flashFrameMemory}
 use Rattle.device.specs.declared.Model.{Model}
-use Rattle.device.proofs.Decode.{flash-bounds}
+use Rattle.reply_parts.proofs.Decode.{flash-bounds}
 use Rattle.frame.proofs.Decoded.{the-type}
 use Rattle.frame.specs.declared.Decoded.{Decoded}
 use Rattle.frame.specs.declared.Decoded.the-variants.{Command, Read, Write, Flash, Refusal}

@@ -1,5 +1,5 @@
--- `converter::read_reply` meets its contract.
-use Rattle.device.proofs.Decode.{read-bounds}
+-- `bus::read_reply` meets its contract.
+use Rattle.reply_parts.proofs.Decode.{read-bounds}
 use Rattle.device.specs.Reply.{refuse}
 use Rattle.device.specs.Parts.{accept, refusalNumber}
 use Rattle.device.specs.Bus.{readModel}

@@ -1,4 +1,4 @@
--- `converter::refusal_number` meets its contract.
+-- `bus::refusal_number` meets its contract.
 use Rattle.device.specs.Parts.{refusalNumber}
 use Rattle.frame.proofs.Decoded.{the-type}
 use Rattle.frame.specs.declared.Decoded.{Decoded}

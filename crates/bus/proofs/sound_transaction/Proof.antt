@@ -1,11 +1,11 @@
--- `converter::sound_transaction` meets its contract.
+-- `bus::sound_transaction` meets its contract.
 use Rattle.device.specs.Call.{transaction}
 use Rattle.device.specs.Reply.{reply, output, memory, bufferOf, memoryOf}
 use Rattle.device.specs.Parts.{wordsReply, flashFrameOutput, flashFrameMemory}
 use Rattle.device.specs.Model.{isSound}
 use Rattle.device.specs.declared.Model.{Model}
 use Rattle.frame.specs.Decoding.{decodeFrame}
-use Rattle.device.proofs.Decode.{tail-whole, read-fits, frame-fits, reply-empty, reply-command, reply-other}
+use Rattle.reply_parts.proofs.Decode.{tail-whole, read-fits, frame-fits, reply-empty, reply-command, reply-other}
 use Rattle.frame.proofs.Decoded.{the-type}
 use Rattle.frame.specs.declared.Decoded.{Decoded}
 use Rattle.frame.specs.declared.Decoded.the-variants.{Command, Read, Write, Flash, Refusal}

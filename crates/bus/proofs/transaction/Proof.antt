@@ -1,8 +1,8 @@
--- `converter::transaction` meets its contract.
+-- `bus::transaction` meets its contract.
 use Rattle.device.specs.Call.{transaction}
 use Rattle.device.specs.Reply.{bufferOf, memoryOf}
 use Rattle.device.specs.Model.{isSound}
-use Rattle.device.proofs.Decode.{reply-unsound}
+use Rattle.reply_parts.proofs.Decode.{reply-unsound}
 use denote.Ref.{now}
 use mathlib.Core.Bool.{false}
 use mathlib.Core.Path.{_≡_, sym, _∙_}

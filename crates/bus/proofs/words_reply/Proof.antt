@@ -1,7 +1,7 @@
--- `converter::words_reply` meets its contract.
+-- `bus::words_reply` meets its contract.
 use Rattle.device.specs.Parts.{writeReply, readOutput, flashFrameReply, flashFrameOutput, flashFrameMemory, wordsReply}
 use Rattle.device.specs.declared.Model.{Model}
-use Rattle.device.proofs.Decode.{write-bounds}
+use Rattle.reply_parts.proofs.Decode.{write-bounds}
 use Rattle.frame.proofs.Decoded.{the-type}
 use Rattle.frame.specs.declared.Decoded.{Decoded}
 use Rattle.frame.specs.declared.Decoded.the-variants.{Command, Read, Write, Flash, Refusal}

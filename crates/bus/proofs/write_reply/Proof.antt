@@ -1,4 +1,4 @@
--- `converter::write_reply` meets its contract.
+-- `bus::write_reply` meets its contract.
 use Rattle.device.specs.Parts.{writeReply}
 use borrow.Author.Needs.{needs}
 use Rattle.bus.proofs.write_reply.Statement.{statement}

@@ -3,7 +3,7 @@ use mathlib.Core.Bool.{false}
 use mathlib.Core.Path.{_≡_, sym, _∙_}
 use denote.Ref.{now}
 use Rattle.device.specs.Model.{isSound}
-use Rattle.device.proofs.Decode.{reply-unsound}
+use Rattle.reply_parts.proofs.Decode.{reply-unsound}
 use Rattle.call_list.specs.CallList.{callOf}
 use Rattle.call_list.proofs.Laws.{unsound-leaves}
 use borrow.Author.Needs.{needs}

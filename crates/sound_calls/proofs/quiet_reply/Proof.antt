@@ -1,6 +1,6 @@
--- `converter::quiet_reply` meets its contract.
+-- `sound_calls::quiet_reply` meets its contract.
 use Rattle.device.proofs.Replies.{reply-tick}
-use Rattle.device.proofs.Quiet.{quiet-flight, quiet-temperature}
+use Rattle.ticking.proofs.Quiet.{quiet-flight, quiet-temperature}
 use borrow.Author.Needs.{needs}
 use Rattle.sound_calls.proofs.quiet_reply.Statement.{statement}
 use Rattle.sound_calls.proofs.quiet_reply.Tie as tie

@@ -1,4 +1,4 @@
--- `converter::sound_flight_delivery` meets its contract.
+-- `sound_calls::sound_flight_delivery` meets its contract.
 use Rattle.device.proofs.Sound.{fits-ready}
 use denote.Ref.{now}
 use Rattle.device.proofs.Replies.{reply-flight}

@@ -1,4 +1,4 @@
--- `converter::sound_stretch` meets its contract.
+-- `sound_calls::sound_stretch` meets its contract.
 use borrow.Author.Tests.{lt-ltb, le-ltb}
 use Rattle.device.proofs.Replies.{reply-stretch}
 use Rattle.device.specs.Call.{stretch}

@@ -1,4 +1,4 @@
--- `converter::sound_temperature_delivery` meets its contract.
+-- `sound_calls::sound_temperature_delivery` meets its contract.
 use borrow.Author.Tests.{eq-eqb, ne-eqb}
 use denote.Ref.{now}
 use Rattle.device.proofs.Replies.{reply-temperature}

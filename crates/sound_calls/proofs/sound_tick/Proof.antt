@@ -1,4 +1,4 @@
--- `converter::sound_tick` meets its contract.
+-- `sound_calls::sound_tick` meets its contract.
 use Rattle.device.specs.Call.{tick}
 use Rattle.device.specs.Model.{isSound}
 use mathlib.Core.Bool.{true, false}

@@ -1,4 +1,4 @@
--- `converter::tick_reply` meets its contract.
+-- `sound_calls::tick_reply` meets its contract.
 use Rattle.device.proofs.Replies.{reply-tick}
 use borrow.Author.Needs.{needs}
 use Rattle.sound_calls.proofs.tick_reply.Statement.{statement}

@@ -1,4 +1,4 @@
--- `calendar::alarm::alarm_rings` meets its contract.
+-- `clock::alarm::alarm_rings` meets its contract.
 use borrow.Author.Tests.{eq-eqb, ne-eqb}
 use Rattle.unit.proofs.Tests.{tests}
 use Rattle.calendar.specs.Alarm.{alarmRings}

@@ -1,4 +1,4 @@
--- `calendar::alarm::reaches` meets its contract.
+-- `clock::alarm::reaches` meets its contract.
 use borrow.Author.Needs.{needs}
 use Rattle.unit.proofs.Tests.{tests}
 use Rattle.calendar.specs.Alarm.{reaches}

@@ -1,4 +1,4 @@
--- `calendar::date::clock_valid` meets its contract.
+-- `clock::date::clock_valid` meets its contract.
 use Rattle.unit.proofs.Tests.{tests}
 use Rattle.calendar.specs.Calendar.{clockValid}
 use borrow.Author.Needs.{needs}

@@ -1,4 +1,4 @@
--- `calendar::date::date_fits` meets its contract.
+-- `clock::date::date_fits` meets its contract.
 use Rattle.unit.proofs.Tests.{tests}
 use Rattle.calendar.specs.Calendar.{dateFits}
 use borrow.Author.Needs.{needs}

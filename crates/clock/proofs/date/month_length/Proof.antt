@@ -1,4 +1,4 @@
--- `calendar::date::month_length` meets its contract.
+-- `clock::date::month_length` meets its contract.
 use Rattle.unit.proofs.Tests.{tests}
 use Rattle.calendar.specs.Calendar.{monthLength}
 use borrow.Author.Needs.{needs}

@@ -1,4 +1,4 @@
--- `calendar::date::start` meets its contract.
+-- `clock::date::start` meets its contract.
 use borrow.Author.Needs.{needs}
 use Rattle.unit.proofs.Tests.{tests}
 use Rattle.calendar.specs.Calendar.{start}

@@ -1,4 +1,4 @@
--- `calendar::date::time_fits` meets its contract.
+-- `clock::date::time_fits` meets its contract.
 use borrow.Author.Needs.{needs}
 use Rattle.unit.proofs.Tests.{tests}
 use Rattle.calendar.specs.Calendar.{timeFits}

@@ -1,4 +1,4 @@
--- `calendar::step::next_date` meets its contract.
+-- `clock::step::next_date` meets its contract.
 use Rattle.unit.proofs.Tests.{tests}
 use Rattle.calendar.specs.Calendar.{nextDate}
 use borrow.Author.Needs.{needs}

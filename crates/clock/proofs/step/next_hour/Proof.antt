@@ -1,4 +1,4 @@
--- `calendar::step::next_hour` meets its contract.
+-- `clock::step::next_hour` meets its contract.
 use Rattle.unit.proofs.Tests.{tests}
 use Rattle.calendar.specs.Calendar.{nextHour}
 use borrow.Author.Needs.{needs}

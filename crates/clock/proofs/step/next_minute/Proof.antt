@@ -1,4 +1,4 @@
--- `calendar::step::next_minute` meets its contract.
+-- `clock::step::next_minute` meets its contract.
 use Rattle.unit.proofs.Tests.{tests}
 use Rattle.calendar.specs.Calendar.{nextMinute}
 use borrow.Author.Needs.{needs}

@@ -1,4 +1,4 @@
--- `calendar::step::next_month` meets its contract.
+-- `clock::step::next_month` meets its contract.
 use Rattle.unit.proofs.Tests.{tests}
 use Rattle.calendar.specs.Calendar.{nextMonth}
 use borrow.Author.Needs.{needs}

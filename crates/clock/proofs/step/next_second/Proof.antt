@@ -1,4 +1,4 @@
--- `calendar::step::next_second` meets its contract.
+-- `clock::step::next_second` meets its contract.
 use Rattle.unit.proofs.Tests.{tests}
 use Rattle.calendar.specs.Calendar.{nextSecond}
 use borrow.Author.Needs.{needs}

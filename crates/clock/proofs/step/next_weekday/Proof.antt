@@ -1,4 +1,4 @@
--- `calendar::step::next_weekday` meets its contract.
+-- `clock::step::next_weekday` meets its contract.
 use Rattle.unit.proofs.Tests.{tests}
 use Rattle.calendar.specs.Calendar.{nextWeekday}
 use borrow.Author.Needs.{needs}

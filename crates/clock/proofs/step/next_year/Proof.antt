@@ -1,4 +1,4 @@
--- `calendar::step::next_year` meets its contract.
+-- `clock::step::next_year` meets its contract.
 use Rattle.unit.proofs.Tests.{tests}
 use Rattle.calendar.specs.Calendar.{nextYear}
 use borrow.Author.Needs.{needs}

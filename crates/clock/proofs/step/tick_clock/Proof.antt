@@ -1,4 +1,4 @@
--- `calendar::step::tick_clock` meets its contract.
+-- `clock::step::tick_clock` meets its contract.
 use Rattle.unit.proofs.Tests.{tests}
 use Rattle.calendar.specs.Calendar.{tickClock}
 use borrow.Author.Needs.{needs}

@@ -1,4 +1,4 @@
--- `calendar::words::alarm_valid` meets its contract.
+-- `clock::words::alarm_valid` meets its contract.
 use borrow.Author.Needs.{needs}
 use Rattle.unit.proofs.Tests.{tests}
 use Rattle.calendar.specs.Words.{alarmValid}

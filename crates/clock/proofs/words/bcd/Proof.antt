@@ -1,4 +1,4 @@
--- `calendar::words::bcd` meets its contract.
+-- `clock::words::bcd` meets its contract.
 use Rattle.unit.proofs.Tests.{tests}
 use Rattle.calendar.specs.Words.{bcd}
 use borrow.Author.Needs.{needs}

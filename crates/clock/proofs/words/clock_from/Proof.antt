@@ -1,4 +1,4 @@
--- `calendar::words::clock_from` meets its contract.
+-- `clock::words::clock_from` meets its contract.
 use borrow.Author.Needs.{needs}
 use Rattle.unit.proofs.Tests.{tests}
 use Rattle.calendar.specs.Words.{clockFrom}

@@ -1,4 +1,4 @@
--- `calendar::words::digits_fit` meets its contract.
+-- `clock::words::digits_fit` meets its contract.
 use Rattle.unit.proofs.Tests.{tests}
 use Rattle.calendar.specs.Words.{digitsFit}
 use borrow.Author.Needs.{needs}

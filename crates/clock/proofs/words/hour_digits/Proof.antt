@@ -1,4 +1,4 @@
--- `calendar::words::hour_digits` meets its contract.
+-- `clock::words::hour_digits` meets its contract.
 use borrow.Author.Needs.{needs}
 use borrow.Author.Tests.{le-leb, lt-leb}
 use Rattle.calendar.specs.Words.{hourDigits}

@@ -1,4 +1,4 @@
--- `calendar::words::hour_in` meets its contract.
+-- `clock::words::hour_in` meets its contract.
 use borrow.Author.Needs.{needs}
 use borrow.Author.Tests.{eq-eqb, ne-eqb}
 use Rattle.calendar.specs.Words.{hourIn}

@@ -1,4 +1,4 @@
--- `calendar::words::hour_named` meets its contract.
+-- `clock::words::hour_named` meets its contract.
 use borrow.Author.Needs.{needs}
 use Rattle.unit.proofs.Tests.{tests}
 use Rattle.calendar.specs.Words.{hourNamed}

@@ -1,4 +1,4 @@
--- `calendar::words::hundredths_of` meets its contract.
+-- `clock::words::hundredths_of` meets its contract.
 use Rattle.unit.proofs.Tests.{tests}
 use Rattle.calendar.specs.Words.{hundredthsOf}
 use borrow.Author.Needs.{needs}

@@ -1,4 +1,4 @@
--- `calendar::words::minute_in` meets its contract.
+-- `clock::words::minute_in` meets its contract.
 use Rattle.unit.proofs.Tests.{tests}
 use Rattle.calendar.specs.Words.{minuteIn}
 use borrow.Author.Needs.{needs}

@@ -1,4 +1,4 @@
--- `calendar::words::ticks_in` meets its contract.
+-- `clock::words::ticks_in` meets its contract.
 use Rattle.unit.proofs.Tests.{tests}
 use Rattle.calendar.specs.Words.{ticksIn}
 use borrow.Author.Needs.{needs}

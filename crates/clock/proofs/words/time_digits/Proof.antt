@@ -1,4 +1,4 @@
--- `calendar::words::time_digits` meets its contract.
+-- `clock::words::time_digits` meets its contract.
 use borrow.Author.Needs.{needs}
 use Rattle.unit.proofs.Tests.{tests}
 use Rattle.calendar.specs.Words.{timeDigits}

@@ -1,4 +1,4 @@
--- `calendar::words::twelve_hour` meets its contract.
+-- `clock::words::twelve_hour` meets its contract.
 use borrow.Author.Needs.{needs}
 use Rattle.unit.proofs.Tests.{tests}
 use Rattle.calendar.specs.Words.{twelveHour}

@@ -1,4 +1,4 @@
--- `calendar::words::twelve_in` meets its contract.
+-- `clock::words::twelve_in` meets its contract.
 use borrow.Author.Needs.{needs}
 use Rattle.unit.proofs.Tests.{tests}
 use Rattle.calendar.specs.Words.{twelveIn}

@@ -1,4 +1,4 @@
--- `calendar::words::word30` meets its contract.
+-- `clock::words::word30` meets its contract.
 use Rattle.unit.proofs.Tests.{tests}
 use Rattle.calendar.specs.Words.{word30}
 use borrow.Author.Needs.{needs}

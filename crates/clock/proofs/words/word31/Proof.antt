@@ -1,4 +1,4 @@
--- `calendar::words::word31` meets its contract.
+-- `clock::words::word31` meets its contract.
 use borrow.Author.Needs.{needs}
 use Rattle.unit.proofs.Tests.{tests}
 use Rattle.calendar.specs.Words.{word31}

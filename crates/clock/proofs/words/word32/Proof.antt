@@ -1,4 +1,4 @@
--- `calendar::words::word32` meets its contract.
+-- `clock::words::word32` meets its contract.
 use Rattle.unit.proofs.Tests.{tests}
 use Rattle.calendar.specs.Words.{word32}
 use borrow.Author.Needs.{needs}

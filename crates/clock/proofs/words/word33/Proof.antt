@@ -1,4 +1,4 @@
--- `calendar::words::word33` meets its contract.
+-- `clock::words::word33` meets its contract.
 use Rattle.unit.proofs.Tests.{tests}
 use Rattle.calendar.specs.Words.{word33}
 use borrow.Author.Needs.{needs}

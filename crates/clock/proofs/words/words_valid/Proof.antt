@@ -1,4 +1,4 @@
--- `calendar::words::words_valid` meets its contract.
+-- `clock::words::words_valid` meets its contract.
 use borrow.Author.Needs.{needs}
 use Rattle.unit.proofs.Tests.{tests}
 use Rattle.calendar.specs.Words.{wordsValid}

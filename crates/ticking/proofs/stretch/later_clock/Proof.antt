@@ -2,7 +2,7 @@
 use Rattle.device.specs.StretchSteps.{laterClock}
 use native.Mathlib.Omega.{arith}
 use mathlib.Core.Path.{sym, _∙_}
-use Rattle.device.proofs.Quiet.{clock-room}
+use Rattle.ticking.proofs.Quiet.{clock-room}
 use borrow.Author.Needs.{needs}
 use Rattle.ticking.proofs.stretch.later_clock.Statement.{statement}
 use Rattle.ticking.proofs.stretch.later_clock.Tie as tie

@@ -3,7 +3,7 @@ use borrow.Author.Tests.{lt-ltb, le-ltb}
 use Rattle.device.specs.StretchSteps.{moved}
 use native.Mathlib.Omega.{arith}
 use mathlib.Core.Path.{sym}
-use Rattle.device.proofs.Quiet.{step-fits}
+use Rattle.ticking.proofs.Quiet.{step-fits}
 use borrow.Author.Needs.{needs}
 use Rattle.ticking.proofs.stretch.moved.Statement.{statement}
 use Rattle.ticking.proofs.stretch.moved.Tie as tie

@@ -1,6 +1,6 @@
 -- `ticking::stretch::quiet_tick` meets its contract.
 use mathlib.Core.Path.{sym, _∙_}
-use Rattle.device.proofs.Quiet.{quiet-tick, quiet-fits}
+use Rattle.ticking.proofs.Quiet.{quiet-tick, quiet-fits}
 use Rattle.ticking.proofs.stretch.quiet_tick.Statement.{statement}
 use Rattle.ticking.proofs.stretch.quiet_tick.Tie as tie
 

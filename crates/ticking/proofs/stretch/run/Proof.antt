@@ -3,7 +3,7 @@ use Prim.Native.Nat.{_-_, _≤_}
 use native.Mathlib.Omega.{arith}
 use mathlib.Core.Path.{_≡_}
 use Rattle.device.specs.StretchSteps.{progress}
-use Rattle.device.proofs.Quiet.{loop-keeps, loop-starts, loop-ends}
+use Rattle.ticking.proofs.Quiet.{loop-keeps, loop-starts, loop-ends}
 use borrow.Author.Needs.{needs}
 use Rattle.ticking.proofs.stretch.run.Statement.{statement}
 use Rattle.ticking.proofs.stretch.run.Tie as tie

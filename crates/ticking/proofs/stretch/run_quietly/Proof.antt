@@ -4,7 +4,7 @@ use mathlib.Core.Path.{_≡_, ap}
 use Rattle.device.specs.declared.Progress.{Progress}
 use Rattle.device.specs.StretchSteps.{progress}
 use Rattle.device.specs.Stretch.{modelTicked}
-use Rattle.device.proofs.Quiet.{quiet-run, quiet-fits}
+use Rattle.ticking.proofs.Quiet.{quiet-run, quiet-fits}
 use borrow.Author.Needs.{needs}
 use Rattle.ticking.proofs.stretch.run_quietly.Statement.{statement}
 use Rattle.ticking.proofs.stretch.run_quietly.Tie as tie

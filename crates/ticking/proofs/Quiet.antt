@@ -12,19 +12,19 @@ use Rattle.unit.proofs.Cases.{by-test, by-ltb, by-eqb}
 use Rattle.calendar.specs.Calendar.{tickClock}
 use Rattle.calendar.proofs.AlarmModes.{same-time}
 use Rattle.setup.specs.Setup.{clockStands, alarmWord, alarmMode}
 use Rattle.device.specs.declared.Schedule.{Schedule}
 use Rattle.device.specs.declared.Model.{Model}
 use Rattle.device.specs.declared.Progress.{Progress}
 use Rattle.device.specs.Event.{startsLeft, begins, beginsGroup, fails, leftAfter, waitAfter, startedAfter, settledAfter, goodAfter, tickSchedule}
 use Rattle.device.specs.Status.{flightBits, temperatureBits}
 use Rattle.device.specs.Tick.{sumAfter, sumsAfter, flightTicked, flightAfter, temperatureAfter, clockTicked, tickRings, tickStatus, tickModel, reportOf}
 use Rattle.device.specs.Stretch.{modelTicked, scheduleTicked, lastTick, stretchReport}
 use Rattle.device.specs.StretchSteps.{least, quietLeft, quietWait, quietClock, quietSchedule, quietFor}
 use Rattle.device.specs.StretchSteps.{laterSchedule, laterClock, laterModel, progress, movedQuietly, noted, movedByOne, moved}
 use Rattle.device.specs.History.{Kind, differences, temperatures}
 use Rattle.device.proofs.CallMeaning.{no-bits, no-alarm}
 use Rattle.device.proofs.TickCases.{no-group}
-use Rattle.device.proofs.Stretch.{scheduleOf, schedule-ticked}
+use Rattle.device.proofs.Stretch.{scheduleOf, schedule-ticked, ticked-later}
 
 below-left : (a b : ℕ) {q : ℕ} → q < least a b → q < a
 unfolding least
@@ -213,11 +213,6 @@ unfolding modelTicked
 quiet-ticked m zero l = sym (none-later m)
 quiet-ticked m (suc q) l =
     ap tickModel (quiet-ticked m q (omega arith)) ∙ model-later m q (omega arith) ∙ ap (λ n. laterModel n m) (add-one q)
-
-pub ticked-later : (a b : ℕ) (m : Model) → modelTicked a (modelTicked b m) ≡ modelTicked (b + a) m
-unfolding modelTicked
-ticked-later zero b m = let e : b + 0 ≡ b = omega arith in rw e
-ticked-later (suc a) b m = let e : b + suc a ≡ suc (b + a) = omega arith in rw e (ap tickModel (ticked-later a b m))
 
 -- nothing is reported meanwhile
 quiet-report :

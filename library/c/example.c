@@ -1,7 +1,7 @@
 /*
  * One difference measurement: set-up, start, waiting, delivery, and the result in nanoseconds.
  *
- *     cc -Wall -Wextra -Werror -Iinclude library/c/example.c target/staticlib/libmax35101.a -o example
+ *     cc -Wall -Wextra -Werror -Iinclude library/c/example.c target/library/libmax35101.a -o example
  */
 #include <inttypes.h>
 #include <stdio.h>

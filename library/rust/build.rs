@@ -1,10 +1,10 @@
-//! Links the archive that `rt staticlib max35101` writes.
+//! Links the archive that `library/build` makes.
 
 use std::path::PathBuf;
 
 fn main() {
     let here = PathBuf::from(std::env::var("CARGO_MANIFEST_DIR").expect("cargo sets it"));
-    let archives = here.join("../../target/staticlib");
+    let archives = here.join("../../target/library");
     println!("cargo:rustc-link-search=native={}", archives.display());
     println!("cargo:rustc-link-lib=static=max35101");
     println!(

@@ -11,9 +11,14 @@ use Rattle.unit.specs.Choice.{pick}
 use Rattle.unit.proofs.Joined.{both-true}
 use Rattle.device.specs.declared.Model.{Model}
 use Rattle.device.specs.declared.Reply.{Reply}
+use Rattle.device.specs.declared.Answer.{Answer}
 use Rattle.device.specs.Model.{isSound}
 use Rattle.device.specs.Call.{Call, transaction, tick, flight, temperature, stretch}
 use Rattle.device.specs.Reply.{reply, output, memory, bufferOf, memoryOf}
+use Rattle.device.specs.Tick.{tickModel}
+use Rattle.device.specs.StretchSteps.{quietFor}
+use Rattle.device.proofs.Replies.{reply-tick}
+use Rattle.ticking.proofs.Quiet.{quiet-flight, quiet-temperature}
 use Rattle.reply_parts.proofs.Decode.{reply-unsound}
 use Rattle.device.proofs.Sound.{keeps-sound}
 use Rattle.call_list.specs.declared.Entry.{Entry}
@@ -212,6 +217,31 @@ pub step-is :
     _≡_ {A = Run} record { progress = record { model = r .model; place = place }; output = out; flash = flash; answers = answers } (stepBy e c s)
 unfolding stepBy
 step-is e c s r place out flash answers a b d f g = rw (g, f, d, b, a) refl
+
+-- A tick in which nothing happens.
+pub quiet-reply :
+    (m : Model) →
+    isSound m ≡ true →
+    1 ≤ quietFor m →
+    reply m tick
+    ≡ record {
+      answer = Answer.Ticked record { started = false; failed = false } record { started = false; failed = false };
+      model = tickModel m;
+    }
+quiet-reply m s q = simp (reply-tick m s, quiet-flight m q, quiet-temperature m q)
+
+-- A tick is a step that leaves the output and the user flash.
+pub tick-step :
+    (frames hits : List ℕ) (e : Entry) (s : Run) (r : Progress) (answers : List ℕ) →
+    e .kind ≡ 1 →
+    r ≡ record { model = reply (s .progress .model) tick .model; place = placeAfter e (s .progress .place) } →
+    answers ≡ answersAfter (reply (s .progress .model) tick .answer) (5 * s .progress .place .calls) (s .answers) →
+    _≡_ {A = Run} record { progress = r; output = s .output; flash = s .flash; answers = answers } (step frames hits e s)
+unfolding step
+tick-step frames hits e s r answers k a b =
+    let (o, f) = others-leave e (s .progress .place) (s .progress .model) tick (s .output) (s .flash) (λ z. omega arith) in
+    rw a (step-is e tick s (reply (s .progress .model) tick) _ _ _ _ refl refl o f b)
+    ∙ ap (λ (c : Call). stepBy e c s) (tick-is e (s .progress .place) frames hits (s .output) (s .flash) k)
 
 -- A run of one more call, and where it ends.
 pub run-more :

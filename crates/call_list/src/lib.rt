@@ -6,12 +6,14 @@ ghost use Prim.Native.Nat.{_+_, _-_, _*_, _/_, _<_, _≤_};
 ghost use lib.ListN.{length};
 ghost use Rattle.device.specs.Model.{isSound};
 ghost use Rattle.device.specs.Call.{Call};
+ghost use Rattle.device.specs.StretchSteps.{quietFor};
 ghost use Rattle.device.specs.Reply.{reply, output, memory};
 ghost use Rattle.call_list.specs.CallList.{Room, answersAfter, beginning, callFits, callOf, entryAt, entryFits, flashAfter, outputAfter, part, placeAfter, runs, step, within};
 use bus::sound_transaction;
 use device::Answer;
 use device::Model;
 use device::Reply;
+use device::Report;
 use model::refusal::NOT_SOUND;
 use model::reply::refuse;
 use model::state::is_sound;
@@ -20,6 +22,8 @@ use sound_calls::sound_flight_delivery;
 use sound_calls::sound_stretch;
 use sound_calls::sound_temperature_delivery;
 use sound_calls::sound_tick;
+use ticking::stretch::next_is_quiet;
+use ticking::stretch::quiet_tick;
 
 // The kinds of a list's calls.
 const TRANSACTION: u32 = 0;
@@ -228,8 +232,25 @@ fn tell(a: Answer, at: usize, answers: &mut [u32])
     answers[at] = code;
 }
 
-// One call that fits.
-fn one(
+// A tick in which nothing happens: the most frequent call, apart from the others so that it is compiled to a few instructions.
+fn quiet(p: Progress, e: Entry, answers: &mut [u32]) -> Progress
+    requires { ⌜ (isSound (p .model) ≡ true) × (1 ≤ quietFor (p .model)) × (p .place .frames < 9223372036854775808) × (p .place .hits < 9223372036854775808) × (p .place .output < 9223372036854775808) × (5 * p .place .calls + 5 ≤ length (now answers)) ⌝ }
+    ensures { λ r. ⌜ (r ≡ record { model = reply (p .model) Call.tick .model; place = placeAfter e (p .place) }) × (now (answers .exit) ≡ answersAfter (reply (p .model) Call.tick .answer) (5 * p .place .calls) (now (answers .entry))) ⌝ }
+{
+    let place = p.place;
+    let none = Report {
+        started: false,
+        failed: false,
+    };
+    let a = Answer::Ticked(none, none);
+    tell(a, 5 * place.calls, answers);
+    let model = quiet_tick(p.model);
+    let place = place_after(e, place);
+    Progress { model, place }
+}
+
+// Any call that fits.
+fn usual(
     sound: bool,
     p: Progress,
     e: Entry,
@@ -249,6 +270,30 @@ fn one(
     let model = r.model;
     let place = place_after(e, place);
     Progress { model, place }
+}
+
+// One call that fits.
+fn one(
+    sound: bool,
+    p: Progress,
+    e: Entry,
+    frames: &[u8],
+    hits: &[u32],
+    out: &mut [u8],
+    flash: &mut [u8],
+    answers: &mut [u32],
+) -> Progress
+    requires { ⌜ (sound ≡ isSound (p .model)) × Room e (p .place) (length (now frames)) (length (now hits)) (length (now out)) (length (now answers)) ⌝ }
+    ensures { λ r. ⌜ record { progress = r; output = now (out .exit); flash = now (flash .exit); answers = now (answers .exit) } ≡ step (now (frames .entry)) (now (hits .entry)) e record { progress = p; output = now (out .entry); flash = now (flash .entry); answers = now (answers .entry) } ⌝ }
+{
+    if e.kind == TICK {
+        if sound {
+            if next_is_quiet(p.model) {
+                return quiet(p, e, answers);
+            }
+        }
+    }
+    usual(sound, p, e, frames, hits, out, flash, answers)
 }
 
 fn begin(m: Model) -> Progress

@@ -8,8 +8,9 @@ use std::time::{Duration, Instant};
 use max35101::{Answers, Calls, Model};
 use second_model::Model as Second;
 
-const ROUNDS: usize = 15;
-const ROUND: Duration = Duration::from_millis(40);
+const ROUNDS: usize = 200;
+/// Shorter than a turn on the processor, so that the best round has no other work in it.
+const ROUND: Duration = Duration::from_millis(3);
 
 /// The best rate of several rounds, in calls a second.
 fn rate(rounds: &mut f64, calls: u32, mut run: impl FnMut()) {

@@ -1,6 +1,6 @@
 //! The proved model of the MAX35101 time-to-digital converter, for Rust.
 //!
-//! Every call goes to the archive that `rt staticlib max35101` writes, whose functions are proved
+//! Every call goes to the archive that `library/build` makes, whose functions are proved
 //! against the definitions of the model. `docs/LIBRARY.md` tells more.
 //!
 //! ```

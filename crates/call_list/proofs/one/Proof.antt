@@ -1,31 +1,41 @@
 -- `call_list::one` meets its contract.
 use native.Mathlib.Omega.{arith}
+use mathlib.Core.Path.{sym, _∙_}
 use denote.Ref.{now}
-use Rattle.call_list.specs.CallList.{callOf, step}
-use Rattle.call_list.proofs.Laws.{fits-parts, step-is}
+use borrow.Author.Tests.{ltb-true}
+use Rattle.call_list.proofs.Laws.{fits-parts, tick-step}
 use borrow.Author.Needs.{needs}
 use Rattle.call_list.proofs.one.Statement.{statement}
 use Rattle.call_list.proofs.one.Tie as tie
 
-reply-to-requires : tie.Need-reply-to-requires
-reply-to-requires c κs =
-    let s = c .before .before .before .before .before .before .before .before .pre in
-    (s .0, s .1 .inFrames, s .1 .inHits, s .1 .inOutput, fits-parts _ _ _ _ _ _ (s .1 .enough) .1)
+next-is-quiet-requires : tie.Need-next-is-quiet-requires
+next-is-quiet-requires c κs = search needs
 
-mul-tell : tie.Need-mul-tell
-mul-tell c = let five = fits-parts _ _ _ _ _ _ (c .before .before .before .before .before .before .before .before .before .before .before .before .before .before .pre .1 .enough) .0 in omega (arith, c .before .before .before .before .before .before .before .before .before .before .before .before .before .before .good)
-
-tell-requires : tie.Need-tell-requires
-tell-requires c κs = let five = fits-parts _ _ _ _ _ _ (c .before .before .before .before .before .before .before .before .before .before .before .before .before .before .before .pre .1 .enough) .0 in omega arith
-
-place-after-requires : tie.Need-place-after-requires
-place-after-requires c κs =
-    let s = c .before .before .before .before .before .before .before .before .before .before .before .before .before .before .before .before .before .before .before in
-    let five = fits-parts _ _ _ _ _ _ (s .pre .1 .enough) .0 in
-    omega (arith, s .pre .1 .inFrames, s .pre .1 .inHits, s .pre .1 .inOutput, s .good)
+quiet-requires : tie.Need-quiet-requires
+quiet-requires c κs =
+    let s = c .before .before .before .before .before .before .before .before .before .before .before in
+    let room = s .pre .1 in
+    let five = fits-parts _ _ _ _ _ _ (room .enough) .0 in (
+      sym (s .pre .0) ∙ c .before .before .before .if2 .taken,
+      ltb-true _ _ (sym (c .before .before .next-is-quiet .ensures) ∙ c .before .if3 .taken),
+      omega (arith, room .inFrames, s .good),
+      omega (arith, room .inHits, s .good),
+      omega (arith, room .inOutput, s .good),
+      omega arith,
+    )
 
 same-length : tie.Need-same-length
 same-length c = search needs
+
+returns : tie.Need-returns
+returns c =
+    let s = c .before .before .before .before .before .before .before .before .before .before .before .before .before .before .args in
+    let k = c .before .before .quiet .ensures in
+    tick-step (now (s .frames)) (now (s .hits)) (s .e) record { progress = s .p; output = now (s .out); flash = now (s .flash); answers = now (s .answers) } _ _
+    (c .before .before .before .before .before .before .before .if1 .taken) (k .0) (k .1)
+
+usual-requires : tie.Need-usual-requires
+usual-requires c κs = search needs
 
 same-length-2 : tie.Need-same-length-2
 same-length-2 c = search needs
@@ -33,14 +43,13 @@ same-length-2 c = search needs
 same-length-3 : tie.Need-same-length-3
 same-length-3 c = search needs
 
-returns : tie.Need-returns
-unfolding step
-returns c =
-    let s = c .before .before .before .before .before .before .before .before .before .before .before .before .before .before .before .before .before .before .before .before .args in
-    let k = c .before .before .before .before .before .before .before .before .before .before .before .reply-to .ensures in
-    step-is (s .e) (callOf (s .e) (s .p .place) (now (s .frames)) (now (s .hits)) (now (s .out)) (now (s .flash)))
-    record { progress = s .p; output = now (s .out); flash = now (s .flash); answers = now (s .answers) } _ _ _ _ _
-    (k .0) (c .place-after .ensures) (k .1) (k .2) (c .before .before .before .before .tell .ensures)
+same-length-4 : tie.Need-same-length-4
+same-length-4 c = search needs
+
+returns-2 : tie.Need-returns-2
+returns-2 c = search needs
 
 pub one-spec : {M : Type 1} → statement M
-one-spec = tie.close (tie.spec reply-to-requires mul-tell tell-requires place-after-requires same-length same-length-2 same-length-3 returns)
+one-spec =
+    tie.close
+    (tie.spec next-is-quiet-requires quiet-requires same-length returns usual-requires same-length-2 same-length-3 same-length-4 returns-2)

@@ -1,0 +1,33 @@
+-- `max35101_analysis::max35101_write_listing` meets its contract.
+use Rattle.listing.specs.Listing.{Outcome}
+use Rattle.outcome.specs.Code.{filled, listedCode, listedWords}
+use Rattle.max35101_analysis.specs.Listed.{listedNumber, listedOut, listedSizes}
+use denote.Ref.{now}
+use mathlib.Core.Path.{refl, ap, _∙_}
+use borrow.Author.Needs.{needs}
+use Rattle.max35101_analysis.proofs.max35101_write_listing.Statement.{statement}
+use Rattle.max35101_analysis.proofs.max35101_write_listing.Tie as tie
+
+write-listing-requires : tie.Need-write-listing-requires
+write-listing-requires c κs = search needs
+
+listed-requires : tie.Need-listed-requires
+listed-requires c κs = search needs
+
+same-length : tie.Need-same-length
+same-length c = search needs
+
+same-length-2 : tie.Need-same-length-2
+same-length-2 c = search needs
+
+returns : tie.Need-returns
+unfolding listedNumber listedOut listedSizes
+returns c = (
+  c .before .before .listed .ensures .0 ∙ ap (λ (o : Outcome). listedCode (o .answer)) (c .before .before .before .before .before .before .write-listing .ensures),
+  ap (λ (o : Outcome). o .bytes) (c .before .before .before .before .before .before .write-listing .ensures),
+  c .before .before .listed .ensures .1 ∙ ap (λ (o : Outcome). filled (now (c .before .before .before .before .before .before .before .before .before .before .args .answer)) (listedWords (o .answer))) (c .before .before .before .before .before .before .write-listing .ensures),
+)
+
+pub max35101-write-listing-spec : {M : Type 1} → statement M
+max35101-write-listing-spec =
+    tie.close (tie.spec write-listing-requires listed-requires same-length same-length-2 returns)

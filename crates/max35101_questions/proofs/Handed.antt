@@ -1,0 +1,14 @@
+-- What a question hands over, for another text of its answer.
+use Prim.Native.Nat.{ℕ}
+use mathlib.Core.List.{List}
+use mathlib.Core.Path.{_≡_, subst}
+use Rattle.device.specs.declared.Told.{Told}
+use Rattle.outcome.specs.Code.{filled, toldCode, toldWords}
+
+pub told-by :
+    {t u : Told} (words : List ℕ) {words′ : List ℕ} {code : ℕ} →
+    t ≡ u →
+    (code ≡ toldCode t) × (words′ ≡ filled words (toldWords t)) →
+    (code ≡ toldCode u) × (words′ ≡ filled words (toldWords u))
+told-by w {words′ = w′} {code = n} e h =
+    subst (λ (q : Told). (n ≡ toldCode q) × (w′ ≡ filled w (toldWords q))) e h

@@ -1,0 +1,69 @@
+// Questions about a model, which change nothing. Each value goes to the first place of the lent words.
+ghost use mathlib.Core.Path.{_≡_};
+ghost use Rattle.device.specs.Question.{interruptPending, awaitedTold, regulatorOn, peek};
+ghost use Rattle.max35101_questions.specs.Frames.{SetUp};
+ghost use Rattle.snapshot.specs.Layout.{loaded};
+ghost use Rattle.outcome.specs.Code.{filled, toldCode, toldWords};
+use converter::flight_awaited;
+use converter::interrupt_pending;
+use converter::peek;
+use converter::regulator_on;
+use converter::temperature_awaited;
+use outcome::framed;
+use outcome::told;
+use setup_frames::setup_frames;
+use snapshot::load;
+
+// The INT answer: 1 for yes, 0 for no.
+#[no_mangle]
+pub extern "C" fn max35101_interrupt_pending(model: &[u8], answer: &mut [u32]) -> u32
+    ensures { λ r. ⌜ (r ≡ toldCode (interruptPending (loaded (now (model .entry))))) × (now (answer .exit) ≡ filled (now (answer .entry)) (toldWords (interruptPending (loaded (now (model .entry)))))) ⌝ }
+{
+    told(interrupt_pending(load(model)), answer)
+}
+
+// Whether a flight measurement is awaited: 1 or 0.
+#[no_mangle]
+pub extern "C" fn max35101_flight_awaited(model: &[u8], answer: &mut [u32]) -> u32
+    ensures { λ r. ⌜ (r ≡ toldCode (awaitedTold (loaded (now (model .entry))) (loaded (now (model .entry)) .flight .schedule))) × (now (answer .exit) ≡ filled (now (answer .entry)) (toldWords (awaitedTold (loaded (now (model .entry))) (loaded (now (model .entry)) .flight .schedule)))) ⌝ }
+{
+    told(flight_awaited(load(model)), answer)
+}
+
+// Whether a temperature measurement is awaited: 1 or 0.
+#[no_mangle]
+pub extern "C" fn max35101_temperature_awaited(model: &[u8], answer: &mut [u32]) -> u32
+    ensures { λ r. ⌜ (r ≡ toldCode (awaitedTold (loaded (now (model .entry))) (loaded (now (model .entry)) .temperature .schedule))) × (now (answer .exit) ≡ filled (now (answer .entry)) (toldWords (awaitedTold (loaded (now (model .entry))) (loaded (now (model .entry)) .temperature .schedule)))) ⌝ }
+{
+    told(temperature_awaited(load(model)), answer)
+}
+
+// Whether the regulator of the user flash is on: 1 or 0.
+#[no_mangle]
+pub extern "C" fn max35101_regulator_on(model: &[u8], answer: &mut [u32]) -> u32
+    ensures { λ r. ⌜ (r ≡ toldCode (regulatorOn (loaded (now (model .entry))))) × (now (answer .exit) ≡ filled (now (answer .entry)) (toldWords (regulatorOn (loaded (now (model .entry)))))) ⌝ }
+{
+    told(regulator_on(load(model)), answer)
+}
+
+// The word that a read at an address, B0h to FFh, would give, with nothing cleared.
+#[no_mangle]
+pub extern "C" fn max35101_peek(model: &[u8], address: u32, answer: &mut [u32]) -> u32
+    ensures { λ r. ⌜ (r ≡ toldCode (peek (loaded (now (model .entry))) address)) × (now (answer .exit) ≡ filled (now (answer .entry)) (toldWords (peek (loaded (now (model .entry))) address))) ⌝ }
+{
+    told(peek(load(model), address), answer)
+}
+
+// The model's set-up as bus frames, and the length of each. The answer's sizes: how many bytes, and how many frames.
+#[no_mangle]
+pub extern "C" fn max35101_setup_frames(
+    model: &[u8],
+    bytes: &mut [u8],
+    lengths: &mut [u32],
+    answer: &mut [usize],
+) -> u32
+    ensures { λ r. ⌜ SetUp (loaded (now (model .entry))) (now (bytes .entry)) (now (lengths .entry)) (now (answer .entry)) r (now (bytes .exit)) (now (lengths .exit)) (now (answer .exit)) ⌝ }
+{
+    let f = setup_frames(load(model), bytes, lengths);
+    framed(f, answer)
+}

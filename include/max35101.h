@@ -19,7 +19,7 @@
  *
  * NO TWO BUFFERS OF ONE CALL MAY OVERLAP, unless the call takes both as const.
  *
- * Answers go to the first places of `answer`, as many as it has: 4 words are
+ * Answers go to the first places of `answer`, as many as it has: 7 words are
  * always enough, fewer leave the last ones out, NULL with 0 all of them.
  */
 #ifndef MAX35101_H
@@ -154,6 +154,27 @@ uint32_t max35101_temperature_awaited(const uint8_t *model, size_t model_size,
                                       uint32_t *answer, size_t answer_count);
 uint32_t max35101_regulator_on(const uint8_t *model, size_t model_size,
                                uint32_t *answer, size_t answer_count);
+
+uint32_t max35101_initialised(const uint8_t *model, size_t model_size,
+                              uint32_t *answer, size_t answer_count);
+
+/* In how many ticks the awaited measurement fails. answer: { ticks, or 0 where none is awaited }. */
+uint32_t max35101_flight_left(const uint8_t *model, size_t model_size,
+                              uint32_t *answer, size_t answer_count);
+uint32_t max35101_temperature_left(const uint8_t *model, size_t model_size,
+                                   uint32_t *answer, size_t answer_count);
+
+/*
+ * The place of the event of differences, and of temperatures.
+ * answer: { 0 } where none runs, else { 1, measurements that it makes, started,
+ * settled, good, ticks until the next start or 0 where all are started,
+ * 1 for a continuous event or 0 }. Of a continuous event the numbers are those
+ * of the current group.
+ */
+uint32_t max35101_flight_place(const uint8_t *model, size_t model_size,
+                               uint32_t *answer, size_t answer_count);
+uint32_t max35101_temperature_place(const uint8_t *model, size_t model_size,
+                                    uint32_t *answer, size_t answer_count);
 
 /* The word of a register, at its read address B0h to FFh, with nothing cleared. answer: { word }. */
 uint32_t max35101_peek(const uint8_t *model, size_t model_size, uint32_t address,

@@ -105,6 +105,13 @@ static void questions_on(size_t size, size_t n, size_t m)
     expect(max35101_flight_awaited(model, size, answer, m) == told, "flight_awaited");
     expect(max35101_temperature_awaited(model, size, answer, m) == told, "temperature_awaited");
     expect(max35101_regulator_on(model, size, answer, m) == told, "regulator_on");
+    expect(max35101_initialised(model, size, answer, m) == told, "initialised");
+    expect(max35101_flight_left(model, size, answer, m) == told, "flight_left");
+    expect(max35101_temperature_left(model, size, answer, m) == told, "temperature_left");
+    expect(max35101_flight_place(model, size, answer, m) == told, "flight_place");
+    expect(max35101_temperature_place(model, size, answer, m) == told, "temperature_place");
+    expect(!fresh || !m || answer[0] == 0, "no event runs in a fresh model");
+    expect(m < 2 || answer[1] == 0x07070707u, "and no further word is told");
     expect(max35101_peek(model, size, 0xFE, answer, m) == told, "peek");
     expect(!fresh || !m || answer[0] == 4, "POR is what a fresh model has");
     expect(max35101_peek(model, size, UINT32_MAX, answer, m) == (fresh ? 4u : 0u), "peek past the registers");

@@ -97,6 +97,21 @@ class Calls(unittest.TestCase):
         self.assertTrue(model.regulator_on())
         self.refused(Refusal.NOT_ERASED, model.transaction, bytes.fromhex("1000005678"))
 
+    def test_the_state_of_the_run(self) -> None:
+        model = Model()
+        self.assertFalse(model.initialised())
+        self.assertIsNone(model.flight_place())
+        for frame in ("381010", "3f0100", "05", "08"):
+            model.transaction(bytes.fromhex(frame))
+        self.assertTrue(model.initialised())
+        model.tick()
+        self.assertEqual((model.flight_left(), model.temperature_left()), (8191, 0))
+        place = max35101.EventPlace(planned=3, started=1, settled=0, good=0, next_start=16383, continuous=False)
+        self.assertEqual(model.flight_place(), place)
+        model.deliver_flight([100], [90])
+        self.assertEqual(model.flight_place(), place._replace(settled=1, good=1))
+        self.assertEqual((model.flight_left(), model.temperature_place()), (0, None))
+
     def test_set_up_frames(self) -> None:
         model = Model()
         self.assertEqual(model.setup_frames(), [])

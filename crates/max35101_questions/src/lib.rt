@@ -1,16 +1,29 @@
 // Questions about a model, which change nothing. Each value goes to the first place of the lent words.
 ghost use mathlib.Core.Path.{_≡_};
 ghost use Rattle.device.specs.Question.{interruptPending, awaitedTold, regulatorOn, peek};
+ghost use Rattle.run_state.specs.State.{initialisedTold, leftTold};
+ghost use Rattle.run_state.specs.Event.{placeTold};
 ghost use Rattle.max35101_questions.specs.Frames.{SetUp};
+ghost use Rattle.max35101_questions.specs.Places.{placeWords, placedCode, placedWords};
 ghost use Rattle.snapshot.specs.Layout.{loaded};
 ghost use Rattle.outcome.specs.Code.{filled, toldCode, toldWords};
 use converter::flight_awaited;
+use converter::flight_left;
+use converter::flight_place;
+use converter::initialised;
 use converter::interrupt_pending;
 use converter::peek;
 use converter::regulator_on;
 use converter::temperature_awaited;
+use converter::temperature_left;
+use converter::temperature_place;
+use outcome::ACCEPTED;
 use outcome::framed;
+use outcome::put;
+use outcome::put_four;
 use outcome::told;
+use run_state::Place;
+use run_state::Placed;
 use setup_frames::setup_frames;
 use snapshot::load;
 
@@ -36,6 +49,79 @@ pub extern "C" fn max35101_temperature_awaited(model: &[u8], answer: &mut [u32])
     ensures { λ r. ⌜ (r ≡ toldCode (awaitedTold (loaded (now (model .entry))) (loaded (now (model .entry)) .temperature .schedule))) × (now (answer .exit) ≡ filled (now (answer .entry)) (toldWords (awaitedTold (loaded (now (model .entry))) (loaded (now (model .entry)) .temperature .schedule)))) ⌝ }
 {
     told(temperature_awaited(load(model)), answer)
+}
+
+// In how many ticks the awaited flight measurement fails; 0 where none is awaited.
+#[no_mangle]
+pub extern "C" fn max35101_flight_left(model: &[u8], answer: &mut [u32]) -> u32
+    ensures { λ r. ⌜ (r ≡ toldCode (leftTold (loaded (now (model .entry))) (loaded (now (model .entry)) .flight .schedule))) × (now (answer .exit) ≡ filled (now (answer .entry)) (toldWords (leftTold (loaded (now (model .entry))) (loaded (now (model .entry)) .flight .schedule)))) ⌝ }
+{
+    told(flight_left(load(model)), answer)
+}
+
+// In how many ticks the awaited temperature measurement fails; 0 where none is awaited.
+#[no_mangle]
+pub extern "C" fn max35101_temperature_left(model: &[u8], answer: &mut [u32]) -> u32
+    ensures { λ r. ⌜ (r ≡ toldCode (leftTold (loaded (now (model .entry))) (loaded (now (model .entry)) .temperature .schedule))) × (now (answer .exit) ≡ filled (now (answer .entry)) (toldWords (leftTold (loaded (now (model .entry))) (loaded (now (model .entry)) .temperature .schedule)))) ⌝ }
+{
+    told(temperature_left(load(model)), answer)
+}
+
+fn put_place(p: Place, words: &mut [u32])
+    ensures { λ r. ⌜ now (words .exit) ≡ filled (now (words .entry)) (placeWords p) ⌝ }
+{
+    let next = p.next;
+    put_four(
+        words,
+        1,
+        p.planned as u32,
+        p.started as u32,
+        p.settled as u32,
+    );
+    put(words, 4, p.good as u32);
+    put(words, 5, next.0);
+    put(words, 6, p.continuous as u32);
+}
+
+fn placed(p: Placed, words: &mut [u32]) -> u32
+    ensures { λ r. ⌜ (r ≡ placedCode p) × (now (words .exit) ≡ filled (now (words .entry)) (placedWords p)) ⌝ }
+{
+    match p {
+        Placed::Refused(number) => number,
+        Placed::NoEvent => {
+            put(words, 0, 0);
+            ACCEPTED
+        }
+        Placed::Event(place) => {
+            put_place(place, words);
+            ACCEPTED
+        }
+    }
+}
+
+// The place of the event of differences. The answer's words: 0 where none runs; else 1, how many measurements it makes, how many are
+// started, settled and good, the ticks until the next start, and whether it is a continuous event.
+#[no_mangle]
+pub extern "C" fn max35101_flight_place(model: &[u8], answer: &mut [u32]) -> u32
+    ensures { λ r. ⌜ (r ≡ placedCode (placeTold (loaded (now (model .entry))) (loaded (now (model .entry)) .flight .schedule))) × (now (answer .exit) ≡ filled (now (answer .entry)) (placedWords (placeTold (loaded (now (model .entry))) (loaded (now (model .entry)) .flight .schedule)))) ⌝ }
+{
+    placed(flight_place(load(model)), answer)
+}
+
+// The same of the event of temperatures.
+#[no_mangle]
+pub extern "C" fn max35101_temperature_place(model: &[u8], answer: &mut [u32]) -> u32
+    ensures { λ r. ⌜ (r ≡ placedCode (placeTold (loaded (now (model .entry))) (loaded (now (model .entry)) .temperature .schedule))) × (now (answer .exit) ≡ filled (now (answer .entry)) (placedWords (placeTold (loaded (now (model .entry))) (loaded (now (model .entry)) .temperature .schedule)))) ⌝ }
+{
+    placed(temperature_place(load(model)), answer)
+}
+
+// Whether the model is initialised: 1 or 0.
+#[no_mangle]
+pub extern "C" fn max35101_initialised(model: &[u8], answer: &mut [u32]) -> u32
+    ensures { λ r. ⌜ (r ≡ toldCode (initialisedTold (loaded (now (model .entry))))) × (now (answer .exit) ≡ filled (now (answer .entry)) (toldWords (initialisedTold (loaded (now (model .entry)))))) ⌝ }
+{
+    told(initialised(load(model)), answer)
 }
 
 // Whether the regulator of the user flash is on: 1 or 0.

@@ -20,7 +20,8 @@ pub const ACCEPTED: u32 = 0xffffffff;
 
 pub const FAILED: u32 = 0xfffffffe;
 
-fn put(words: &mut [u32], i: usize, w: u32)
+// A word at a place of the buffer, where it has one.
+pub fn put(words: &mut [u32], i: usize, w: u32)
     ensures { λ r. ⌜ now (words .exit) ≡ set (now (words .entry)) i w ⌝ }
 {
     if i < words.len() {
@@ -36,7 +37,8 @@ fn put_size(sizes: &mut [usize], i: usize, n: usize)
     }
 }
 
-fn put_four(words: &mut [u32], a: u32, b: u32, c: u32, d: u32)
+// Four words at its first places.
+pub fn put_four(words: &mut [u32], a: u32, b: u32, c: u32, d: u32)
     ensures { λ r. ⌜ now (words .exit) ≡ set (set (set (set (now (words .entry)) 0 a) 1 b) 2 c) 3 d ⌝ }
 {
     put(words, 0, a);

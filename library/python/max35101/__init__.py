@@ -24,6 +24,7 @@ from typing import Callable, NamedTuple, Sequence, Union
 
 __all__ = [
     "Calls",
+    "EventPlace",
     "FLASH_SIZE",
     "LONGEST_STRETCH",
     "MODEL_SIZE",
@@ -115,6 +116,18 @@ class Stretched(NamedTuple):
     temperature_failed: int
 
 
+class EventPlace(NamedTuple):
+    """The place of an event that runs; of a continuous one, that of its current group."""
+
+    planned: int
+    started: int
+    settled: int
+    good: int
+    next_start: int
+    """Ticks until the next start; 0 where all are started."""
+    continuous: bool
+
+
 def _load() -> ctypes.CDLL:
     """The shared library: ``MAX35101_LIBRARY``, or where ``library/build`` puts it."""
     built = Path(__file__).resolve().parents[3] / "target" / "library" / "libmax35101.so"
@@ -150,6 +163,11 @@ _interrupt_pending = _function("interrupt_pending", *_MODEL, *_ANSWER)
 _flight_awaited = _function("flight_awaited", *_MODEL, *_ANSWER)
 _temperature_awaited = _function("temperature_awaited", *_MODEL, *_ANSWER)
 _regulator_on = _function("regulator_on", *_MODEL, *_ANSWER)
+_initialised = _function("initialised", *_MODEL, *_ANSWER)
+_flight_left = _function("flight_left", *_MODEL, *_ANSWER)
+_temperature_left = _function("temperature_left", *_MODEL, *_ANSWER)
+_flight_place = _function("flight_place", *_MODEL, *_ANSWER)
+_temperature_place = _function("temperature_place", *_MODEL, *_ANSWER)
 _peek = _function("peek", *_MODEL, _WORD, *_ANSWER)
 _setup_frames = _function("setup_frames", *_MODEL, *_MODEL, *_ANSWER, _SIZES, _SIZE)
 _degrees = _function("degrees", _WORD, _WORD, *_ANSWER)
@@ -348,26 +366,50 @@ class Model:
         _accept(code)
         return True
 
-    def _ask(self, question: Callable[..., int]) -> bool:
-        answer = (ctypes.c_uint32 * 1)()
-        _accept(question(self._bytes, MODEL_SIZE, answer, 1))
-        return bool(answer[0])
+    def _ask(self, question: Callable[..., int], words: int = 1) -> list[int]:
+        answer = (ctypes.c_uint32 * words)()
+        _accept(question(self._bytes, MODEL_SIZE, answer, words))
+        return list(answer)
+
+    def _place(self, question: Callable[..., int]) -> EventPlace | None:
+        runs, *numbers, continuous = self._ask(question, 7)
+        return EventPlace(*numbers, bool(continuous)) if runs else None
 
     def interrupt_pending(self) -> bool:
         """Whether the INT pin is driven."""
-        return self._ask(_interrupt_pending)
+        return self._ask(_interrupt_pending) == [1]
 
     def flight_awaited(self) -> bool:
         """Whether a flight measurement is awaited."""
-        return self._ask(_flight_awaited)
+        return self._ask(_flight_awaited) == [1]
 
     def temperature_awaited(self) -> bool:
         """Whether a temperature measurement is awaited."""
-        return self._ask(_temperature_awaited)
+        return self._ask(_temperature_awaited) == [1]
 
     def regulator_on(self) -> bool:
         """Whether the regulator that supplies the user flash is on."""
-        return self._ask(_regulator_on)
+        return self._ask(_regulator_on) == [1]
+
+    def initialised(self) -> bool:
+        """Whether the model is initialised."""
+        return self._ask(_initialised) == [1]
+
+    def flight_left(self) -> int:
+        """In how many ticks the awaited flight measurement fails; 0 where none is awaited."""
+        return self._ask(_flight_left)[0]
+
+    def temperature_left(self) -> int:
+        """In how many ticks the awaited temperature measurement fails; 0 where none is awaited."""
+        return self._ask(_temperature_left)[0]
+
+    def flight_place(self) -> EventPlace | None:
+        """The place of the event of differences that runs."""
+        return self._place(_flight_place)
+
+    def temperature_place(self) -> EventPlace | None:
+        """The place of the event of temperatures that runs."""
+        return self._place(_temperature_place)
 
     def peek(self, address: int) -> int:
         """A register's word, at its read address B0h to FFh, with nothing cleared."""

@@ -168,3 +168,30 @@ pub(crate) fn delivered(code: u32) -> Result<Delivered, Refusal> {
         code => accepted(code).map(|()| Delivered::Good),
     }
 }
+
+/// The place of an event that runs; of a continuous one, that of its current group.
+#[derive(Clone, Copy, Debug, PartialEq, Eq)]
+pub struct EventPlace {
+    /// How many measurements it makes.
+    pub planned: u32,
+    pub started: u32,
+    pub settled: u32,
+    pub good: u32,
+    /// Ticks until the next start; 0 where all are started.
+    pub next_start: u32,
+    pub continuous: bool,
+}
+
+impl EventPlace {
+    pub(crate) fn of(words: [u32; 7]) -> Option<EventPlace> {
+        let [runs, planned, started, settled, good, next_start, continuous] = words;
+        (runs == 1).then_some(EventPlace {
+            planned,
+            started,
+            settled,
+            good,
+            next_start,
+            continuous: continuous == 1,
+        })
+    }
+}

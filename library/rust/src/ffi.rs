@@ -80,6 +80,36 @@ extern "C" {
         answer: *mut u32,
         count: usize,
     ) -> u32;
+    pub fn max35101_initialised(
+        model: *const u8,
+        size: usize,
+        answer: *mut u32,
+        count: usize,
+    ) -> u32;
+    pub fn max35101_flight_left(
+        model: *const u8,
+        size: usize,
+        answer: *mut u32,
+        count: usize,
+    ) -> u32;
+    pub fn max35101_temperature_left(
+        model: *const u8,
+        size: usize,
+        answer: *mut u32,
+        count: usize,
+    ) -> u32;
+    pub fn max35101_flight_place(
+        model: *const u8,
+        size: usize,
+        answer: *mut u32,
+        count: usize,
+    ) -> u32;
+    pub fn max35101_temperature_place(
+        model: *const u8,
+        size: usize,
+        answer: *mut u32,
+        count: usize,
+    ) -> u32;
     pub fn max35101_peek(
         model: *const u8,
         size: usize,

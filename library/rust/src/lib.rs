@@ -27,6 +27,6 @@ mod model;
 pub use analysis::{
     degrees, degrees_by, listing, nanoseconds, quietest, quietest_place, write_listing, Digits,
 };
-pub use answer::{Delivered, Refusal, Started, Stretched, Ticked};
+pub use answer::{Delivered, EventPlace, Refusal, Started, Stretched, Ticked};
 pub use calls::{Answer, Answers, Calls};
 pub use model::{Model, FLASH_SIZE, LONGEST_STRETCH, MODEL_SIZE};

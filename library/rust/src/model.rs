@@ -1,6 +1,8 @@
 //! A model, and the calls on it.
 
-use crate::answer::{accepted, delivered, Delivered, Refusal, Started, Stretched, Ticked};
+use crate::answer::{
+    accepted, delivered, Delivered, EventPlace, Refusal, Started, Stretched, Ticked,
+};
 use crate::calls::{Answers, Calls};
 use crate::ffi;
 
@@ -51,7 +53,7 @@ impl Model {
         let bytes = bytes.try_into().map_err(|_| Refusal::Unsound)?;
         let model = Model { bytes };
         model
-            .ask(ffi::max35101_interrupt_pending)
+            .ask::<0>(ffi::max35101_interrupt_pending)
             .map(|_| model.clone())
     }
 
@@ -192,8 +194,8 @@ impl Model {
         assert_eq!(done, calls.len(), "a list with room for each call");
     }
 
-    fn ask(&self, question: Question) -> Result<u32, Refusal> {
-        let mut answer = [0];
+    fn ask<const N: usize>(&self, question: Question) -> Result<[u32; N], Refusal> {
+        let mut answer = [0; N];
         // SAFETY: the answer is exclusive, both buffers are as long as is said.
         let code = unsafe {
             question(
@@ -203,11 +205,15 @@ impl Model {
                 answer.len(),
             )
         };
-        accepted(code).map(|()| answer[0])
+        accepted(code).map(|()| answer)
+    }
+
+    fn told<const N: usize>(&self, question: Question) -> [u32; N] {
+        self.ask(question).expect("a sound model")
     }
 
     fn tells(&self, question: Question) -> bool {
-        self.ask(question).expect("a sound model") == 1
+        self.told(question) == [1]
     }
 
     /// Whether the INT pin is driven.
@@ -230,6 +236,37 @@ impl Model {
     #[must_use]
     pub fn regulator_on(&self) -> bool {
         self.tells(ffi::max35101_regulator_on)
+    }
+
+    #[must_use]
+    pub fn initialised(&self) -> bool {
+        self.tells(ffi::max35101_initialised)
+    }
+
+    /// In how many ticks the awaited flight measurement fails; 0 where none is awaited.
+    #[must_use]
+    pub fn flight_left(&self) -> u32 {
+        let [ticks] = self.told(ffi::max35101_flight_left);
+        ticks
+    }
+
+    /// In how many ticks the awaited temperature measurement fails; 0 where none is awaited.
+    #[must_use]
+    pub fn temperature_left(&self) -> u32 {
+        let [ticks] = self.told(ffi::max35101_temperature_left);
+        ticks
+    }
+
+    /// The place of the event of differences that runs.
+    #[must_use]
+    pub fn flight_place(&self) -> Option<EventPlace> {
+        EventPlace::of(self.told(ffi::max35101_flight_place))
+    }
+
+    /// The place of the event of temperatures that runs.
+    #[must_use]
+    pub fn temperature_place(&self) -> Option<EventPlace> {
+        EventPlace::of(self.told(ffi::max35101_temperature_place))
     }
 
     /// A register's word, at its read address B0h to FFh, with nothing cleared.

@@ -2,8 +2,8 @@
 
 use max35101::{
     degrees, degrees_by, listing, nanoseconds, quietest, quietest_place, write_listing, Answer,
-    Answers, Calls, Delivered, Digits, Model, Refusal, Started, Stretched, Ticked, LONGEST_STRETCH,
-    MODEL_SIZE,
+    Answers, Calls, Delivered, Digits, EventPlace, Model, Refusal, Started, Stretched, Ticked,
+    LONGEST_STRETCH, MODEL_SIZE,
 };
 
 #[test]
@@ -44,6 +44,40 @@ fn a_stretch_that_is_too_long() {
     assert_eq!(model, Model::fresh());
     assert!(model.stretch(LONGEST_STRETCH).is_ok());
     assert_ne!(model, Model::fresh());
+}
+
+#[test]
+fn the_state_of_the_run() {
+    let mut model = Model::fresh();
+    assert!(!model.initialised());
+    assert_eq!((model.flight_left(), model.flight_place()), (0, None));
+    // One hit in each direction; three differences, one every half second; Initialize; EVTMG2.
+    let frames: [&[u8]; 4] = [&[0x38, 0x10, 0x10], &[0x3F, 0x01, 0x00], &[0x05], &[0x08]];
+    for frame in frames {
+        model
+            .transaction(frame, &mut [], &mut [])
+            .expect("accepted");
+    }
+    assert!(model.initialised());
+    model.tick();
+    assert_eq!((model.flight_left(), model.temperature_left()), (8191, 0));
+    let place = EventPlace {
+        planned: 3,
+        started: 1,
+        settled: 0,
+        good: 0,
+        next_start: 16_383,
+        continuous: false,
+    };
+    assert_eq!(model.flight_place(), Some(place));
+    model.deliver_flight(&[100], &[90]).expect("awaited");
+    let settled = EventPlace {
+        settled: 1,
+        good: 1,
+        ..place
+    };
+    assert_eq!(model.flight_place(), Some(settled));
+    assert_eq!((model.flight_left(), model.temperature_place()), (0, None));
 }
 
 #[test]

@@ -148,6 +148,26 @@ impl Pair {
         assert_eq!(self.model.flight_awaited(), flight.is_awaited());
         assert_eq!(self.model.temperature_awaited(), temperature.is_awaited());
         assert_eq!(self.model.regulator_on(), self.second.regulator_on);
+        assert_eq!(self.model.initialised(), self.second.initialised);
+        let now = self.second.now;
+        for (left, place, kind) in [
+            (self.model.flight_left(), self.model.flight_place(), flight),
+            (
+                self.model.temperature_left(),
+                self.model.temperature_place(),
+                temperature,
+            ),
+        ] {
+            assert_eq!(left != 0, kind.is_awaited());
+            assert!(left == 0 || kind.fails_at(now + i64::from(left)));
+            assert_eq!(place.is_some(), !kind.is_finished());
+            if let (Some(place), Some(series)) = (place, &kind.series) {
+                assert_eq!(i64::from(place.good), series.good());
+                let next = i64::from(place.next_start);
+                assert!(next == 0 || kind.starts_at(now + next));
+                assert!(next != 0 || place.started == place.planned);
+            }
+        }
         assert_eq!(self.flash, self.second_flash);
     }
 

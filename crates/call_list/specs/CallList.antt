@@ -1,7 +1,6 @@
 -- A list of calls, done one after the other on one model.
-use Prim.Native.Nat.{ℕ, zero, suc, _+_, _-_, _*_, _≤_}
+use Prim.Native.Nat.{ℕ, zero, suc, _+_, _-_, _*_}
 use mathlib.Core.Bool.{Bool, true}
-use mathlib.Core.Path.{_≡_}
 use mathlib.Core.List.{List, [], _∷_, _++_}
 use lib.ListN.{length, getD, set, take, drop}
 use lib.Dec.{leb, eqb}
@@ -120,11 +119,3 @@ runs (suc n) calls frames hits s =
     pick (fits frames hits (entryAt calls (s .progress .place .calls)) s)
     (runs n calls frames hits (step frames hits (entryAt calls (s .progress .place .calls)) s))
     s
-
--- What a call needs of the places: they lie within the buffers, and it fits.
-pub record Room (e : Entry) (p : Place) (frames hits out answers : ℕ) : Type 0 where
-  pub inFrames : p .frames ≤ frames
-  pub inHits : p .hits ≤ hits
-  pub inOutput : p .output ≤ out
-  pub inAnswers : 5 * p .calls ≤ answers
-  pub enough : callFits e p frames hits out answers ≡ true

@@ -1,1 +1,2 @@
 pub mod CallList
+pub mod Room

@@ -9,10 +9,10 @@ use lib.ListN.{replicate}
 use Rattle.unit.specs.Choice.{both}
 use Rattle.unit.proofs.Cases.{by-ltb}
 use Rattle.device.specs.declared.Model.{Model}
-use Rattle.snapshot.specs.Number.{bound, bytesOf, value, allBytes}
-use Rattle.snapshot.specs.Layout.{single, double, quadruple, octuple, clockWords, waits, flagsFit, formed, stored, loaded}
-use Rattle.snapshot.specs.Fits.{Below, none, more, Fits}
-use Rattle.snapshot.proofs.Stored.{load-store}
+use Rattle.layout.specs.Number.{bound, bytesOf, value, allBytes}
+use Rattle.layout.specs.Layout.{single, double, quadruple, octuple, clockWords, waits, flagsFit, formed, stored, loaded}
+use Rattle.layout.specs.Fits.{Below, none, more, Fits}
+use Rattle.layout.proofs.Stored.{load-store}
 
 -- low byte first
 pub low-first : bytesOf 2 0x1234 ≡ 0x34 ∷ 0x12 ∷ []

@@ -6,12 +6,12 @@ use native.Mathlib.Omega.{arith}
 use mathlib.Core.Bool.{Bool, true, false}
 use mathlib.Core.List.{List, [], _∷_, _++_, append-nil}
 use mathlib.Core.Path.{_≡_, refl, sym, ap, _∙_}
-use lib.ListN.{length, getD, set, take, drop, length-drop, length-append, drop-of-length-le}
-use lib.Seq.{sets, sets-eq, take-at, drop-append-add, drop-cons, drop-drop, take-add, take-suc-set, take-all, length-take-le}
+use lib.ListN.{length, getD, set, take, drop, length-set, length-drop, length-append, drop-of-length-le}
+use lib.Seq.{sets, sets-eq, length-sets, take-at, drop-append-add, drop-cons, drop-drop, take-add, take-suc-set, take-all, length-take-le}
 use borrow.Author.Tests.{lt-ltb, le-ltb}
 use Rattle.unit.specs.Choice.{both}
-use Rattle.snapshot.specs.Number.{bound, bytesOf, value, allBytes, numbers}
-use Rattle.snapshot.specs.Layout.{flagsFit}
+use Rattle.layout.specs.Number.{bound, bytesOf, value, allBytes, numbers}
+use Rattle.layout.specs.Layout.{flagsFit}
 
 -- two bytes
 pub two-bytes :
@@ -71,29 +71,39 @@ numbers-snoc k (suc n) l =
     ap (λ (r : List ℕ). value (take k l) ∷ r)
     (numbers-snoc k n (drop k l) ∙ rw (drop-drop (k * n) k l, e))
 
-pub read-more :
-    (k at : ℕ) (l w : List ℕ) (n x : ℕ) →
-    n < length w →
-    take n w ≡ numbers k n (drop at l) →
-    x ≡ value (take k (drop (at + k * n) l)) →
-    take (n + 1) (set w n x) ≡ numbers k (n + 1) (drop at l)
-read-more k at l w n x h so-far e =
-    rw (add-one n)
-    (take-suc-set w n x h
-    ∙ rw (so-far, e, ← drop-drop (k * n) at l) (sym (numbers-snoc k n (drop at l))))
+-- What a loop over them keeps, at any width: of m numbers of k bytes from a place on, n are read.
+pub record Reading (k at m : ℕ) (l w : List ℕ) (n : ℕ) : Type 0 where
+  pub most : n ≤ m
+  pub long : length w ≡ m
+  pub same : take n w ≡ numbers k n (drop at l)
 
-pub read-all :
-    (k at : ℕ) (l w : List ℕ) (m n : ℕ) →
-    length w ≡ m →
-    n ≤ m →
-    m ≤ n →
-    take n w ≡ numbers k n (drop at l) →
-    w ≡ numbers k m (drop at l)
-read-all k at l w m n e h i so-far =
-    let f : n ≡ m = omega arith in
-    sym (take-all n w (omega arith)) ∙ so-far ∙ rw f
+module _ (k at m : ℕ) (l w : List ℕ) where
+  pub reading-starts : length w ≡ m → Reading k at m l w 0
+  unfolding numbers
+  reading-starts e = record { most = omega arith; long = e; same = refl }
 
--- Writing numbers: n are written, and one more.
+  pub reading-on :
+      (n x : ℕ) →
+      n < m →
+      x ≡ value (take k (drop (at + k * n) l)) →
+      Reading k at m l w n →
+      Reading k at m l (set w n x) (n + 1)
+  reading-on n x h e r =
+      record {
+        most = omega arith;
+        long = length-set w n x ∙ r .long;
+        same =
+            rw (add-one n)
+            (take-suc-set w n x (omega (arith, r .long))
+            ∙ rw (r .same, e, ← drop-drop (k * n) at l) (sym (numbers-snoc k n (drop at l))));
+      }
+
+  pub reading-ends : (n : ℕ) → m ≤ n → Reading k at m l w n → w ≡ numbers k m (drop at l)
+  reading-ends n h r =
+      let f : n ≡ m = omega (arith, r .most) in
+      sym (take-all n w (omega (arith, r .long))) ∙ r .same ∙ rw f
+
+-- Writing numbers, likewise.
 pub sets-joined : (a b l : List ℕ) (at : ℕ) → sets l at (a ++ b) ≡ sets (sets l at a) (at + length a) b
 sets-joined [] b l at = rw add-zero
 sets-joined (x ∷ a) b l at = sets-joined a b (set l at x) (suc at) ∙ rw (suc-add, add-suc)
@@ -103,31 +113,40 @@ unfolding bytesOf
 length-bytes zero x = refl
 length-bytes (suc k) x = ap suc (length-bytes k (x / 256))
 
-pub write-more :
-    (k at : ℕ) (start l xs : List ℕ) (n : ℕ) →
-    n < length xs →
-    sets start at (allBytes k xs) ≡ sets l (at + k * n) (allBytes k (drop n xs)) →
-    sets start at (allBytes k xs)
-    ≡ sets (sets l (at + k * n) (bytesOf k (getD xs n 0))) (at + k * (n + 1)) (allBytes k (drop (n + 1) xs))
-unfolding allBytes
-write-more k at start l xs n h so-far =
-    let e : at + k * n + k ≡ at + k * (n + 1) = omega arith in
-    so-far
-    ∙ ap (λ (r : List ℕ). sets l (at + k * n) (allBytes k r)) (drop-cons xs n 0 h)
-    ∙ sets-joined (bytesOf k (getD xs n 0)) (allBytes k (drop (suc n) xs)) l (at + k * n)
-    ∙ rw (length-bytes k (getD xs n 0), e, add-one n)
+pub record Writing (k at m : ℕ) (start xs l : List ℕ) (n : ℕ) : Type 0 where
+  pub most : n ≤ m
+  pub long : length l ≡ length start
+  pub same : sets start at (allBytes k xs) ≡ sets l (at + k * n) (allBytes k (drop n xs))
 
-pub written :
-    (k at : ℕ) (start l xs : List ℕ) (m n : ℕ) →
-    length xs ≡ m →
-    n ≤ m →
-    m ≤ n →
-    sets start at (allBytes k xs) ≡ sets l (at + k * n) (allBytes k (drop n xs)) →
-    l ≡ sets start at (allBytes k xs)
-unfolding allBytes
-written k at start l xs m n e h i so-far =
-    let f : drop n xs ≡ [] = drop-of-length-le xs {i = n} (omega arith) in
-    sym (so-far ∙ rw f)
+module _ (k at m : ℕ) (start xs l : List ℕ) where
+  pub writing-on :
+      (l′ : List ℕ) (n : ℕ) →
+      length xs ≡ m →
+      n < m →
+      l′ ≡ sets l (at + k * n) (bytesOf k (getD xs n 0)) →
+      Writing k at m start xs l n →
+      Writing k at m start xs l′ (n + 1)
+  unfolding allBytes
+  writing-on l′ n e h put w =
+      let f : at + k * n + k ≡ at + k * (n + 1) = omega arith in
+      record {
+        most = omega arith;
+        long = rw (put, length-sets) (w .long);
+        same =
+            w .same
+            ∙ ap (λ (r : List ℕ). sets l (at + k * n) (allBytes k r)) (drop-cons xs n 0 (omega arith))
+            ∙ sets-joined (bytesOf k (getD xs n 0)) (allBytes k (drop (suc n) xs)) l (at + k * n)
+            ∙ rw (length-bytes k (getD xs n 0), f, add-one n, put);
+      }
+
+  pub writing-ends : (n : ℕ) → length xs ≡ m → m ≤ n → Writing k at m start xs l n → l ≡ sets start at (allBytes k xs)
+  unfolding allBytes
+  writing-ends n e h w =
+      let f : drop n xs ≡ [] = drop-of-length-le xs {i = n} (omega (arith, w .most)) in
+      sym (w .same ∙ rw f)
+
+pub writing-starts : (k at m : ℕ) (start xs : List ℕ) → Writing k at m start xs start 0
+writing-starts k at m start xs = record { most = omega arith; long = refl; same = rw (mul-zero, add-zero) refl }
 
 -- a number of 2k bytes by its halves
 pub put-halves :

@@ -6,9 +6,9 @@ use mathlib.Core.List.{List, [], _∷_, _++_, append-assoc}
 use mathlib.Core.Path.{_≡_, refl, sym, ap, _∙_}
 use lib.ListN.{length, take, drop, length-drop}
 use lib.Seq.{take-at, drop-at, take-add, length-take-le}
-use Rattle.snapshot.specs.Number.{bound, bytesOf, value, allBytes, numbers}
-use Rattle.snapshot.specs.Fits.{Below, none, more}
-use Rattle.snapshot.proofs.Loops.{length-bytes}
+use Rattle.layout.specs.Number.{bound, bytesOf, value, allBytes, numbers}
+use Rattle.layout.specs.Fits.{Below, none, more}
+use Rattle.layout.proofs.Loops.{length-bytes}
 
 -- A number below the bound of its width is read back, ..
 value-bytes : (k x : ℕ) → x < bound k → value (bytesOf k x) ≡ x

@@ -11,7 +11,7 @@ use Rattle.calendar.specs.declared.Clock.{Clock}
 use Rattle.device.specs.declared.Flight.{Flight}
 use Rattle.device.specs.declared.Temperature.{Temperature}
 use Rattle.device.specs.declared.Model.{Model}
-use Rattle.snapshot.specs.Layout.{formed, part, double, quadruple, octuple, clockWords, waits}
+use Rattle.layout.specs.Layout.{formed, part, double, quadruple, octuple, clockWords, waits}
 
 pub part-taken : (l : List ℕ) (at n : ℕ) → at + n ≤ length l → part l at n ≡ take n (drop at l)
 part-taken l at zero h = refl

@@ -15,12 +15,12 @@ use Rattle.unit.proofs.Cases.{by-test, by-eqb}
 use Rattle.calendar.specs.Calendar.{clockValid, dateFits}
 use Rattle.device.specs.declared.Model.{Model}
 use Rattle.device.specs.Model.{isSound}
-use Rattle.snapshot.specs.Number.{allBytes, numbers, value}
-use Rattle.snapshot.specs.Layout.{flagsFit, formed, single, double, quadruple, octuple, clockWords, waits, stored, part, clockOf, statusOf, flightOf, temperatureOf, modelOf, restored, nothing, loaded}
-use Rattle.snapshot.specs.Fits.{Below, Fits}
-use Rattle.snapshot.proofs.Loops.{length-all}
-use Rattle.snapshot.proofs.Parts.{whole, part-taken, double-parts, quadruple-parts, octuple-parts, formed-length}
-use Rattle.snapshot.proofs.Meaning.{below-drop, numbers-all, all-numbers, length-numbers}
+use Rattle.layout.specs.Number.{allBytes, numbers, value}
+use Rattle.layout.specs.Layout.{flagsFit, formed, single, double, quadruple, octuple, clockWords, waits, stored, part, clockOf, statusOf, flightOf, temperatureOf, modelOf, restored, nothing, loaded}
+use Rattle.layout.specs.Fits.{Below, Fits}
+use Rattle.layout.proofs.Loops.{length-all}
+use Rattle.layout.proofs.Parts.{whole, part-taken, double-parts, quadruple-parts, octuple-parts, formed-length}
+use Rattle.layout.proofs.Meaning.{below-drop, numbers-all, all-numbers, length-numbers}
 
 flag-bit : (b : Bool) → eqb (boolByte b) 1 ≡ b
 flag-bit true = refl

@@ -4,8 +4,8 @@ use mathlib.Core.Path.{_≡_}
 use mathlib.Core.List.{List, [], _∷_}
 use lib.ListN.{length}
 use Rattle.device.specs.declared.Model.{Model}
-use Rattle.snapshot.specs.Number.{bound}
-use Rattle.snapshot.specs.Layout.{double, quadruple, octuple}
+use Rattle.layout.specs.Number.{bound}
+use Rattle.layout.specs.Layout.{double, quadruple, octuple}
 
 -- each number of a list is below n
 pub data Below (n : ℕ) : List ℕ → Type 0 where

@@ -12,7 +12,7 @@ use Rattle.device.specs.declared.Flight.{Flight}
 use Rattle.device.specs.declared.Temperature.{Temperature}
 use Rattle.device.specs.declared.Status.{Status}
 use Rattle.device.specs.declared.Model.{Model}
-use Rattle.snapshot.specs.Number.{allBytes, numbers}
+use Rattle.layout.specs.Number.{allBytes, numbers}
 
 -- a flag is a byte, 1 or 0
 abbrev pub bit : Bool → ℕ

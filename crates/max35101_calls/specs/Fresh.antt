@@ -5,7 +5,7 @@ use lib.ListN.{length}
 use lib.Dec.{eqb}
 use Rattle.unit.specs.Choice.{pick}
 use Rattle.device.specs.Model.{freshModel}
-use Rattle.snapshot.specs.Layout.{stored}
+use Rattle.layout.specs.Layout.{stored}
 use Rattle.outcome.specs.Code.{accepted}
 
 -- A fresh model, in a buffer of 233 bytes and in no other.

@@ -6,7 +6,7 @@ use mathlib.Core.Path.{_≡_, refl, sym, ap, _∙_}
 use lib.ListN.{length}
 use Rattle.device.specs.declared.Model.{Model}
 use Rattle.device.specs.Model.{isSound}
-use Rattle.snapshot.specs.Layout.{loaded}
+use Rattle.layout.specs.Layout.{loaded}
 use Rattle.call_list.specs.declared.Progress.{Progress}
 use Rattle.call_list.specs.CallList.{Run, beginning, runs}
 use Rattle.outcome.specs.Code.{kept}

@@ -5,7 +5,7 @@ use mathlib.Core.List.{List}
 use lib.ListN.{length}
 use Rattle.unit.specs.Choice.{pick}
 use Rattle.device.specs.Model.{isSound}
-use Rattle.snapshot.specs.Layout.{loaded}
+use Rattle.layout.specs.Layout.{loaded}
 use Rattle.call_list.specs.CallList.{Run, beginning, runs}
 use Rattle.outcome.specs.Code.{kept}
 

@@ -5,7 +5,7 @@ ghost use Rattle.run_state.specs.State.{initialisedTold, leftTold};
 ghost use Rattle.run_state.specs.Event.{placeTold};
 ghost use Rattle.max35101_questions.specs.Frames.{SetUp};
 ghost use Rattle.max35101_questions.specs.Places.{placeWords, placedCode, placedWords};
-ghost use Rattle.snapshot.specs.Layout.{loaded};
+ghost use Rattle.layout.specs.Layout.{loaded};
 ghost use Rattle.outcome.specs.Code.{filled, toldCode, toldWords};
 use converter::flight_awaited;
 use converter::flight_left;

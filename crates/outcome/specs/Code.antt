@@ -23,7 +23,7 @@ use Rattle.listing.specs.declared.Listed.{Listed}
 use Rattle.listing.specs.declared.Listed.the-variants.{Written, Refused as NotListed}
 use Rattle.setup_frames.specs.declared.Framed.{Framed}
 use Rattle.setup_frames.specs.declared.Framed.the-variants.{Frames, Refused as NotFramed}
-use Rattle.snapshot.specs.Layout.{stored}
+use Rattle.layout.specs.Layout.{stored}
 
 -- "the refusal's number, or for acceptance a value that is none of them"; a delivery is good or failed
 abbrev pub accepted : ℕ

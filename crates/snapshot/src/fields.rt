@@ -1,7 +1,7 @@
 // The fields of a model by the width of their numbers, and a model from them.
 ghost use mathlib.Core.Path.{_≡_};
 ghost use lib.ListN.{length};
-ghost use Rattle.snapshot.specs.Layout.{clockOf, double, flightOf, modelOf, octuple, quadruple, single, statusOf, temperatureOf};
+ghost use Rattle.layout.specs.Layout.{clockOf, double, flightOf, modelOf, octuple, quadruple, single, statusOf, temperatureOf};
 use calendar::Clock;
 use device::Flight;
 use device::Model;

@@ -1,7 +1,7 @@
 // A model as 233 bytes at fixed places: to keep it in a file, or to hand it to another language.
 ghost use mathlib.Core.Path.{_≡_};
 ghost use lib.ListN.{length};
-ghost use Rattle.snapshot.specs.Layout.{flagsFit, formed, loaded, nothing, restored, stored};
+ghost use Rattle.layout.specs.Layout.{flagsFit, formed, loaded, nothing, restored, stored};
 use device::Model;
 
 mod fields;

@@ -3,7 +3,7 @@ ghost use mathlib.Core.Path.{_≡_};
 ghost use Prim.Native.Nat.{_+_, _<_, _≤_};
 ghost use lib.ListN.{length, take, drop};
 ghost use lib.Seq.{sets};
-ghost use Rattle.snapshot.specs.Number.{allBytes, bytesOf, numbers, value};
+ghost use Rattle.layout.specs.Number.{allBytes, bytesOf, numbers, value};
 
 fn byte(x: u8) -> u16
     ensures { λ r. ⌜ (r ≡ x) × (r < 256) ⌝ }

@@ -1,7 +1,7 @@
 -- `max35101_calls::max35101_fresh` meets its contract.
 use mathlib.Core.Path.{refl, ap, _∙_}
 use borrow.Author.Tests.{eq-eqb, ne-eqb}
-use Rattle.snapshot.specs.Layout.{stored}
+use Rattle.layout.specs.Layout.{stored}
 use Rattle.max35101_calls.specs.Fresh.{freshCode, freshBytes}
 use borrow.Author.Needs.{needs}
 use Rattle.max35101_calls.proofs.max35101_fresh.Statement.{statement}

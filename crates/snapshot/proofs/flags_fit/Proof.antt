@@ -5,8 +5,8 @@ use mathlib.Core.Bool.{true}
 use mathlib.Core.Path.{_≡_, refl, sym, ap, _∙_}
 use denote.Ref.{now}
 use borrow.Author.Needs.{needs}
-use Rattle.snapshot.specs.Layout.{flagsFit}
-use Rattle.snapshot.proofs.Loops.{flag-fits, flag-misfits}
+use Rattle.layout.specs.Layout.{flagsFit}
+use Rattle.layout.proofs.Loops.{flag-fits, flag-misfits}
 use Rattle.snapshot.proofs.flags_fit.Statement.{statement}
 use Rattle.snapshot.proofs.flags_fit.Tie as tie
 

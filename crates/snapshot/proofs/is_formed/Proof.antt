@@ -1,6 +1,6 @@
 -- `snapshot::is_formed` meets its contract.
 use borrow.Author.Tests.{eq-eqb, ne-eqb}
-use Rattle.snapshot.specs.Layout.{formed}
+use Rattle.layout.specs.Layout.{formed}
 use borrow.Author.Needs.{needs}
 use Rattle.snapshot.proofs.is_formed.Statement.{statement}
 use Rattle.snapshot.proofs.is_formed.Tie as tie

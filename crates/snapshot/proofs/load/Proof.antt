@@ -1,6 +1,6 @@
 -- `snapshot::load` meets its contract.
-use Rattle.snapshot.specs.Layout.{loaded}
-use Rattle.snapshot.proofs.Parts.{formed-length}
+use Rattle.layout.specs.Layout.{loaded}
+use Rattle.layout.proofs.Parts.{formed-length}
 use mathlib.Core.Path.{sym, _∙_}
 use borrow.Author.Needs.{needs}
 use Rattle.snapshot.proofs.load.Statement.{statement}

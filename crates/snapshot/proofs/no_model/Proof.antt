@@ -1,5 +1,5 @@
 -- `snapshot::no_model` meets its contract.
-use Rattle.snapshot.specs.Layout.{nothing}
+use Rattle.layout.specs.Layout.{nothing}
 use borrow.Author.Needs.{needs}
 use Rattle.snapshot.proofs.no_model.Statement.{statement}
 use Rattle.snapshot.proofs.no_model.Tie as tie

@@ -1,5 +1,5 @@
 -- `snapshot::restore` meets its contract.
-use Rattle.snapshot.specs.Layout.{restored}
+use Rattle.layout.specs.Layout.{restored}
 use borrow.Author.Needs.{needs}
 use Rattle.snapshot.proofs.restore.Statement.{statement}
 use Rattle.snapshot.proofs.restore.Tie as tie

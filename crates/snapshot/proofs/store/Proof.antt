@@ -7,9 +7,9 @@ use lib.Seq.{sets, take-all}
 use native.Mathlib.Omega.{arith}
 use denote.Ref.{now}
 use borrow.Author.Needs.{needs}
-use Rattle.snapshot.specs.Number.{allBytes}
-use Rattle.snapshot.specs.Layout.{stored}
-use Rattle.snapshot.proofs.Loops.{laid}
+use Rattle.layout.specs.Number.{allBytes}
+use Rattle.layout.specs.Layout.{stored}
+use Rattle.layout.proofs.Loops.{laid}
 use Rattle.snapshot.proofs.store.Statement.{statement}
 use Rattle.snapshot.proofs.store.Tie as tie
 

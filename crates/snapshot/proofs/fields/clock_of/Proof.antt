@@ -1,5 +1,5 @@
 -- `snapshot::fields::clock_of` meets its contract.
-use Rattle.snapshot.specs.Layout.{clockOf}
+use Rattle.layout.specs.Layout.{clockOf}
 use borrow.Author.Needs.{needs}
 use Rattle.snapshot.proofs.fields.clock_of.Statement.{statement}
 use Rattle.snapshot.proofs.fields.clock_of.Tie as tie

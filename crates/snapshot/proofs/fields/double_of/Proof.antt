@@ -1,5 +1,5 @@
 -- `snapshot::fields::double_of` meets its contract.
-use Rattle.snapshot.proofs.Parts.{double-parts}
+use Rattle.layout.proofs.Parts.{double-parts}
 use borrow.Author.Needs.{needs}
 use Rattle.snapshot.proofs.fields.double_of.Statement.{statement}
 use Rattle.snapshot.proofs.fields.double_of.Tie as tie

@@ -1,5 +1,5 @@
 -- `snapshot::fields::flight_of` meets its contract.
-use Rattle.snapshot.specs.Layout.{flightOf}
+use Rattle.layout.specs.Layout.{flightOf}
 use mathlib.Core.Path.{refl}
 use borrow.Author.Needs.{needs}
 use Rattle.snapshot.proofs.fields.flight_of.Statement.{statement}

@@ -1,5 +1,5 @@
 -- `snapshot::fields::model_of` meets its contract.
-use Rattle.snapshot.specs.Layout.{modelOf}
+use Rattle.layout.specs.Layout.{modelOf}
 use borrow.Author.Needs.{needs}
 use Rattle.snapshot.proofs.fields.model_of.Statement.{statement}
 use Rattle.snapshot.proofs.fields.model_of.Tie as tie

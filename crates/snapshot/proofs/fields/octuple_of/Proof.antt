@@ -1,5 +1,5 @@
 -- `snapshot::fields::octuple_of` meets its contract.
-use Rattle.snapshot.proofs.Parts.{octuple-parts}
+use Rattle.layout.proofs.Parts.{octuple-parts}
 use borrow.Author.Needs.{needs}
 use Rattle.snapshot.proofs.fields.octuple_of.Statement.{statement}
 use Rattle.snapshot.proofs.fields.octuple_of.Tie as tie

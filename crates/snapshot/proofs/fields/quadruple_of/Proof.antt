@@ -1,6 +1,6 @@
 -- `snapshot::fields::quadruple_of` meets its contract.
-use Rattle.snapshot.proofs.Parts.{quadruple-parts}
-use Rattle.snapshot.specs.Layout.{clockWords, waits}
+use Rattle.layout.proofs.Parts.{quadruple-parts}
+use Rattle.layout.specs.Layout.{clockWords, waits}
 use borrow.Author.Needs.{needs}
 use Rattle.snapshot.proofs.fields.quadruple_of.Statement.{statement}
 use Rattle.snapshot.proofs.fields.quadruple_of.Tie as tie

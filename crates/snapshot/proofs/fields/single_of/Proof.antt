@@ -1,6 +1,6 @@
 -- `snapshot::fields::single_of` meets its contract.
 use mathlib.Core.Path.{refl}
-use Rattle.snapshot.specs.Layout.{single}
+use Rattle.layout.specs.Layout.{single}
 use borrow.Author.Needs.{needs}
 use Rattle.snapshot.proofs.fields.single_of.Statement.{statement}
 use Rattle.snapshot.proofs.fields.single_of.Tie as tie

@@ -1,5 +1,5 @@
 -- `snapshot::fields::status_of` meets its contract.
-use Rattle.snapshot.specs.Layout.{statusOf}
+use Rattle.layout.specs.Layout.{statusOf}
 use borrow.Author.Needs.{needs}
 use Rattle.snapshot.proofs.fields.status_of.Statement.{statement}
 use Rattle.snapshot.proofs.fields.status_of.Tie as tie

@@ -1,5 +1,5 @@
 -- `snapshot::fields::temperature_of` meets its contract.
-use Rattle.snapshot.specs.Layout.{temperatureOf}
+use Rattle.layout.specs.Layout.{temperatureOf}
 use mathlib.Core.Path.{refl}
 use borrow.Author.Needs.{needs}
 use Rattle.snapshot.proofs.fields.temperature_of.Statement.{statement}

@@ -1,24 +1,20 @@
 -- `snapshot::number::doubles` meets its contract.
-use Prim.Native.Nat.{_-_, _≤_}
+use Prim.Native.Nat.{_-_}
 use native.Mathlib.Omega.{arith}
-use mathlib.Core.Path.{_≡_, refl}
-use lib.ListN.{length, length-set, take, drop}
-use denote.Ref.{now}
+use mathlib.Core.Path.{refl}
 use borrow.Author.Needs.{needs}
-use Rattle.snapshot.specs.Number.{numbers}
-use Rattle.snapshot.proofs.Loops.{read-more, read-all}
+use Rattle.layout.proofs.Loops.{Reading, reading-starts, reading-on, reading-ends}
 use Rattle.snapshot.proofs.number.doubles.Statement.{statement}
 use Rattle.snapshot.proofs.number.doubles.Tie as tie
 
 abbrev Inv-loop : tie.InvT-loop
-Inv-loop bytes d₀ i₀ d i = (i ≤ 18) × (length d ≡ 18) × (take i d ≡ numbers 2 i (drop 25 bytes))
+Inv-loop bytes d₀ i₀ d i = Reading 2 25 18 bytes d i
 
 abbrev μ-loop : tie.MeasureT-loop
 μ-loop bytes d₀ i₀ d i = 18 - i
 
 loop-holds : tie.Need-loop-holds Inv-loop μ-loop
-unfolding numbers
-loop-holds c = (omega arith, refl, refl)
+loop-holds c = reading-starts _ _ _ _ _ refl
 
 mul-get16 : tie.Need-mul-get16 Inv-loop μ-loop
 mul-get16 c = search needs
@@ -42,18 +38,10 @@ loop-less : tie.Need-loop-less Inv-loop μ-loop
 loop-less c = search needs
 
 loop-again : tie.Need-loop-again Inv-loop μ-loop
-loop-again c =
-    let start = c .before .before .before .before .args in
-    let head = c .before .before .loop in (
-      omega arith,
-      simp length-set (head .inv .1),
-      read-more 2 25 (now (start .bytes)) (head .d) (head .i) _ (omega (arith, head .inv .1)) (head .inv .2) (c .get16 .ensures),
-    )
+loop-again c = reading-on _ _ _ _ _ _ _ (omega arith) (c .get16 .ensures) (c .before .before .loop .inv)
 
 returns : tie.Need-returns Inv-loop μ-loop
-returns c =
-    let head = c .before .loop in
-    read-all 2 25 (now (c .before .before .before .args .bytes)) (head .d) 18 (head .i) (head .inv .1) (head .inv .0) (omega arith) (head .inv .2)
+returns c = reading-ends _ _ _ _ _ _ (omega arith) (c .before .loop .inv)
 
 pub doubles-spec : {M : Type 1} → statement M
 doubles-spec =

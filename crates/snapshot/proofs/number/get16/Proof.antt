@@ -1,6 +1,6 @@
 -- `snapshot::number::get16` meets its contract.
 use denote.Ref.{now}
-use Rattle.snapshot.proofs.Loops.{two-bytes}
+use Rattle.layout.proofs.Loops.{two-bytes}
 use borrow.Author.Needs.{needs}
 use Rattle.snapshot.proofs.number.get16.Statement.{statement}
 use Rattle.snapshot.proofs.number.get16.Tie as tie

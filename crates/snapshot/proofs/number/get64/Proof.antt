@@ -1,8 +1,8 @@
 -- `snapshot::number::get64` meets its contract.
 use denote.Ref.{now}
-use Rattle.snapshot.proofs.Loops.{value-halves}
+use Rattle.layout.proofs.Loops.{value-halves}
 use native.Mathlib.Omega.{arith}
-use Rattle.snapshot.specs.Number.{bound}
+use Rattle.layout.specs.Number.{bound}
 use borrow.Author.Needs.{needs}
 use Rattle.snapshot.proofs.number.get64.Statement.{statement}
 use Rattle.snapshot.proofs.number.get64.Tie as tie

@@ -2,7 +2,7 @@
 use native.Mathlib.Omega.{arith}
 use lib.ListN.{length-set}
 use native.Mathlib.Numerals.{add-one}
-use Rattle.snapshot.specs.Number.{bytesOf}
+use Rattle.layout.specs.Number.{bytesOf}
 use borrow.Author.Needs.{needs}
 use Rattle.snapshot.proofs.number.put16.Statement.{statement}
 use Rattle.snapshot.proofs.number.put16.Tie as tie

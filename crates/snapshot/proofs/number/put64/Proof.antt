@@ -1,12 +1,12 @@
 -- `snapshot::number::put64` meets its contract.
 use denote.Ref.{now}
-use Rattle.snapshot.proofs.Loops.{put-halves}
+use Rattle.layout.proofs.Loops.{put-halves}
 use native.Mathlib.Omega.{arith}
 use Prim.Native.Nat.{ℕ, _+_, _/_, _%_}
 use mathlib.Core.List.{List}
 use mathlib.Core.Path.{ap, _∙_}
 use lib.Seq.{sets}
-use Rattle.snapshot.specs.Number.{bound, bytesOf}
+use Rattle.layout.specs.Number.{bound, bytesOf}
 use borrow.Author.Needs.{needs}
 use Rattle.snapshot.proofs.number.put64.Statement.{statement}
 use Rattle.snapshot.proofs.number.put64.Tie as tie

@@ -1,27 +1,19 @@
 -- `snapshot::number::put_octuples` meets its contract.
-use Prim.Native.Nat.{_+_, _-_, _*_, _≤_}
+use Prim.Native.Nat.{_-_}
 use native.Mathlib.Omega.{arith}
-use mathlib.Core.Path.{_≡_, refl}
-use lib.ListN.{length, drop}
-use lib.Seq.{sets, length-sets}
-use denote.Ref.{now}
 use borrow.Author.Needs.{needs}
-use Rattle.snapshot.specs.Number.{allBytes}
-use Rattle.snapshot.proofs.Loops.{write-more, written}
+use Rattle.layout.proofs.Loops.{Writing, writing-starts, writing-on, writing-ends}
 use Rattle.snapshot.proofs.number.put_octuples.Statement.{statement}
 use Rattle.snapshot.proofs.number.put_octuples.Tie as tie
 
 abbrev Inv-loop : tie.InvT-loop
-Inv-loop bytes₀ o i₀ bytes i =
-    (i ≤ 5) ×
-    (length bytes ≡ length bytes₀) ×
-    (sets bytes₀ 193 (allBytes 8 o) ≡ sets bytes (193 + 8 * i) (allBytes 8 (drop i o)))
+Inv-loop bytes₀ o i₀ bytes i = Writing 8 193 5 bytes₀ o bytes i
 
 abbrev μ-loop : tie.MeasureT-loop
 μ-loop bytes₀ o i₀ bytes i = 5 - i
 
 loop-holds : tie.Need-loop-holds Inv-loop μ-loop
-loop-holds c = (omega arith, refl, refl)
+loop-holds c = writing-starts _ _ _ _ _
 
 mul-put64 : tie.Need-mul-put64 Inv-loop μ-loop
 mul-put64 c = search needs
@@ -46,22 +38,13 @@ loop-less c = search needs
 
 loop-again : tie.Need-loop-again Inv-loop μ-loop
 loop-again c =
-    let start = c .before .before .before .before .before .before .before .args in
-    let head = c .before .before .before .before .before .loop in
-    let put = c .before .before .put64 .ensures in (
-      omega arith,
-      rw (put, length-sets) (head .inv .1),
-      rw put (write-more 8 193 (now (start .bytes)) (head .bytes) (start .t1) (head .i) (omega arith) (head .inv .2)),
-    )
+    writing-on _ _ _ _ _ _ _ _ (omega arith) (omega arith) (c .before .before .put64 .ensures) (c .before .before .before .before .before .loop .inv)
 
 same-length : tie.Need-same-length Inv-loop μ-loop
-same-length c = c .before .loop .inv .1
+same-length c = c .before .loop .inv .long
 
 returns : tie.Need-returns Inv-loop μ-loop
-returns c =
-    let start = c .before .before .before .args in
-    let head = c .before .loop in
-    written 8 193 (now (start .bytes)) (head .bytes) (start .t1) 5 (head .i) (omega arith) (head .inv .0) (omega arith) (head .inv .2)
+returns c = writing-ends _ _ _ _ _ _ _ (omega arith) (omega arith) (c .before .loop .inv)
 
 pub put-octuples-spec : {M : Type 1} → statement M
 put-octuples-spec =

@@ -1,27 +1,19 @@
 -- `snapshot::number::put_quadruples` meets its contract.
-use Prim.Native.Nat.{_+_, _-_, _*_, _≤_}
+use Prim.Native.Nat.{_-_}
 use native.Mathlib.Omega.{arith}
-use mathlib.Core.Path.{_≡_, refl}
-use lib.ListN.{length, drop}
-use lib.Seq.{sets, length-sets}
-use denote.Ref.{now}
 use borrow.Author.Needs.{needs}
-use Rattle.snapshot.specs.Number.{allBytes}
-use Rattle.snapshot.proofs.Loops.{write-more, written}
+use Rattle.layout.proofs.Loops.{Writing, writing-starts, writing-on, writing-ends}
 use Rattle.snapshot.proofs.number.put_quadruples.Statement.{statement}
 use Rattle.snapshot.proofs.number.put_quadruples.Tie as tie
 
 abbrev Inv-loop : tie.InvT-loop
-Inv-loop bytes₀ q i₀ bytes i =
-    (i ≤ 33) ×
-    (length bytes ≡ length bytes₀) ×
-    (sets bytes₀ 61 (allBytes 4 q) ≡ sets bytes (61 + 4 * i) (allBytes 4 (drop i q)))
+Inv-loop bytes₀ q i₀ bytes i = Writing 4 61 33 bytes₀ q bytes i
 
 abbrev μ-loop : tie.MeasureT-loop
 μ-loop bytes₀ q i₀ bytes i = 33 - i
 
 loop-holds : tie.Need-loop-holds Inv-loop μ-loop
-loop-holds c = (omega arith, refl, refl)
+loop-holds c = writing-starts _ _ _ _ _
 
 mul-put32 : tie.Need-mul-put32 Inv-loop μ-loop
 mul-put32 c = search needs
@@ -46,22 +38,13 @@ loop-less c = search needs
 
 loop-again : tie.Need-loop-again Inv-loop μ-loop
 loop-again c =
-    let start = c .before .before .before .before .before .before .before .args in
-    let head = c .before .before .before .before .before .loop in
-    let put = c .before .before .put32 .ensures in (
-      omega arith,
-      rw (put, length-sets) (head .inv .1),
-      rw put (write-more 4 61 (now (start .bytes)) (head .bytes) (start .t1) (head .i) (omega arith) (head .inv .2)),
-    )
+    writing-on _ _ _ _ _ _ _ _ (omega arith) (omega arith) (c .before .before .put32 .ensures) (c .before .before .before .before .before .loop .inv)
 
 same-length : tie.Need-same-length Inv-loop μ-loop
-same-length c = c .before .loop .inv .1
+same-length c = c .before .loop .inv .long
 
 returns : tie.Need-returns Inv-loop μ-loop
-returns c =
-    let start = c .before .before .before .args in
-    let head = c .before .loop in
-    written 4 61 (now (start .bytes)) (head .bytes) (start .t1) 33 (head .i) (omega arith) (head .inv .0) (omega arith) (head .inv .2)
+returns c = writing-ends _ _ _ _ _ _ _ (omega arith) (omega arith) (c .before .loop .inv)
 
 pub put-quadruples-spec : {M : Type 1} → statement M
 put-quadruples-spec =

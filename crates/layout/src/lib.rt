@@ -1,0 +1,1 @@
+// A model as bytes: what stands where (`specs/Layout.antt`), and that what is stored loads again (`proofs/Stored.antt`). No code.

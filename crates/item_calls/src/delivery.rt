@@ -1,4 +1,7 @@
 // The lines `flight` and `temperature`.
+ghost use mathlib.Core.Path.{_≡_};
+ghost use lib.ListN.{take, drop};
+ghost use Rattle.item_calls.specs.Lines.{flightLine, temperatureLine};
 use device::Model;
 use item_state::counts::USED;
 use item_state::counts::count_call;
@@ -13,7 +16,9 @@ pub fn flight(
     down: usize,
     counts: &mut [usize; 22],
     answers: &mut [u8],
-) -> Model {
+) -> Model
+    ensures { λ r. ⌜ record { model = r; log = record { counts = now (counts .exit); answers = now (answers .exit) } } ≡ flightLine (take up (now (numbers .entry))) (take down (drop up (now (numbers .entry)))) m record { counts = now (counts .entry); answers = now (answers .entry) } ⌝ }
+{
     let ups = first_words(numbers, up);
     let downs = first_words(words_from(numbers, up), down);
     let reply = converter::flight_delivery(m, ups, downs);
@@ -29,7 +34,9 @@ pub fn temperature(
     n: usize,
     counts: &mut [usize; 22],
     answers: &mut [u8],
-) -> Model {
+) -> Model
+    ensures { λ r. ⌜ record { model = r; log = record { counts = now (counts .exit); answers = now (answers .exit) } } ≡ temperatureLine (take n (now (numbers .entry))) m record { counts = now (counts .entry); answers = now (answers .entry) } ⌝ }
+{
     let reply = converter::temperature_delivery(m, first_words(numbers, n));
     let answer = reply.answer;
     let used = wording::heads::put_temperature(answers, counts[USED], answer);

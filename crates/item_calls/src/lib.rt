@@ -4,6 +4,8 @@ mod start;
 mod ticks;
 mod transaction;
 
+ghost use Rattle.line.specs.Line.{Bounded};
+ghost use Rattle.item_calls.specs.Lines.{Short, Leaves, LeavesFlash, timedLine, callLine};
 use device::Model;
 use line::Content;
 
@@ -15,7 +17,10 @@ pub fn answer_call(
     counts: &mut [usize; 22],
     mem: &mut [u8],
     answers: &mut [u8],
-) -> Model {
+) -> Model
+    requires { ⌜ Bounded content ⌝ }
+    ensures { λ r. ⌜ LeavesFlash (Short content m record { counts = now (counts .entry); answers = now (answers .entry) }) (callLine content (now (numbers .entry)) record { model = m; flash = now (mem .entry); log = record { counts = now (counts .entry); answers = now (answers .entry) } }) record { model = r; flash = now (mem .exit); log = record { counts = now (counts .exit); answers = now (answers .exit) } } ⌝ }
+{
     match content {
         Content::Tick(n) => ticks::tick(m, n, counts, answers),
         Content::Bus { bytes } => transaction::bus(m, numbers, bytes, counts, mem, answers),
@@ -37,7 +42,9 @@ fn answer_time(
     numbers: &[u32],
     counts: &mut [usize; 22],
     answers: &mut [u8],
-) -> Model {
+) -> Model
+    ensures { λ r. ⌜ Leaves (Short content m record { counts = now (counts .entry); answers = now (answers .entry) }) (timedLine content (now (numbers .entry)) m record { counts = now (counts .entry); answers = now (answers .entry) }) record { model = r; log = record { counts = now (counts .exit); answers = now (answers .exit) } } ⌝ }
+{
     match content {
         Content::At(t) => ticks::at(m, t, counts, answers),
         Content::Stretch(n) => ticks::stretch(m, n, counts, answers),

@@ -1,13 +1,17 @@
 // The lines `bus` and `set`.
 ghost use mathlib.Core.Path.{_≡_};
+ghost use Prim.Native.Nat.{_≤_};
+ghost use lib.ListN.{length, take};
+ghost use Rattle.numeral.specs.Print.{lowBytes};
+ghost use Rattle.wording.specs.Text.{PutEach};
 ghost use Rattle.item_calls.specs.Buffer.{bufferSize};
+ghost use Rattle.item_calls.specs.Lines.{startMoment, busLine, setLine, writeBytes};
 use device::Answer;
 use device::Model;
 use item_state::counts::MOMENT;
 use item_state::counts::USED;
 use item_state::counts::count_call;
 use item_state::output::first_bytes;
-use item_state::output::first_places;
 use item_state::output::first_words;
 
 // With the output buffer that the bytes ask for.
@@ -18,7 +22,10 @@ pub fn bus(
     counts: &mut [usize; 22],
     mem: &mut [u8],
     answers: &mut [u8],
-) -> Model {
+) -> Model
+    requires { ⌜ bytes ≤ 200 ⌝ }
+    ensures { λ r. ⌜ record { model = r; flash = now (mem .exit); log = record { counts = now (counts .exit); answers = now (answers .exit) } } ≡ busLine (lowBytes (take bytes (now (numbers .entry)))) (bufferSize (take bytes (now (numbers .entry)))) record { model = m; flash = now (mem .entry); log = record { counts = now (counts .entry); answers = now (answers .entry) } } ⌝ }
+{
     let size = buffer_size(first_words(numbers, bytes));
     bus_out(m, numbers, bytes, size, counts, mem, answers)
 }
@@ -32,25 +39,31 @@ pub fn bus_out(
     counts: &mut [usize; 22],
     mem: &mut [u8],
     answers: &mut [u8],
-) -> Model {
+) -> Model
+    requires { ⌜ (bytes ≤ 200) × (size ≤ 200) ⌝ }
+    ensures { λ r. ⌜ record { model = r; flash = now (mem .exit); log = record { counts = now (counts .exit); answers = now (answers .exit) } } ≡ busLine (lowBytes (take bytes (now (numbers .entry)))) size record { model = m; flash = now (mem .entry); log = record { counts = now (counts .entry); answers = now (answers .entry) } } ⌝ }
+{
     let mut frame = [0u8; 200];
     let n = numeral::put_low_bytes(&mut frame, 0, first_words(numbers, bytes));
     let mut buffer = [238u8; 200];
-    let out = first_places(&mut buffer, size);
+    let out = &mut buffer[..size];
     let reply = converter::transaction(m, first_bytes(&frame, n), out, mem);
     let answer = reply.answer;
     let used = wording::bus::put_bus(answers, counts[USED], answer, out);
-    start_moment(counts, answer);
     count_call(counts, answer, used);
+    start_moment(counts, answer);
     reply.model
 }
 
 // Moments count from a transaction that starts a measurement.
-fn start_moment(counts: &mut [usize; 22], answer: Answer) {
+fn start_moment(counts: &mut [usize; 22], answer: Answer)
+    ensures { λ _. ⌜ now (counts .exit) ≡ startMoment answer (now (counts .entry)) ⌝ }
+{
     match answer {
         Answer::Accepted(flight, temperature) => {
             if flight {
                 counts[MOMENT] = 0;
+                return;
             }
             if temperature {
                 counts[MOMENT] = 0;
@@ -69,7 +82,10 @@ pub fn set(
     counts: &mut [usize; 22],
     mem: &mut [u8],
     answers: &mut [u8],
-) -> Model {
+) -> Model
+    requires { ⌜ words ≤ 99 ⌝ }
+    ensures { λ r. ⌜ record { model = r; flash = now (mem .exit); log = record { counts = now (counts .exit); answers = now (answers .exit) } } ≡ setLine a (take words (now (numbers .entry))) record { model = m; flash = now (mem .entry); log = record { counts = now (counts .entry); answers = now (answers .entry) } } ⌝ }
+{
     let mut frame = [0u8; 200];
     let n = put_write(&mut frame, a, first_words(numbers, words));
     let mut none = [0u8; 0];
@@ -77,11 +93,14 @@ pub fn set(
     let answer = reply.answer;
     let used = wording::bus::put_set(answers, counts[USED], answer);
     count_call(counts, answer, used);
+    start_moment(counts, answer);
     reply.model
 }
 
 // The address, and each word high byte first.
-fn put_write(frame: &mut [u8], a: u32, words: &[u32]) -> usize {
+fn put_write(frame: &mut [u8], a: u32, words: &[u32]) -> usize
+    ensures { λ r. ⌜ PutEach (now (frame .entry)) 0 (writeBytes a (now (words .entry))) r (now (frame .exit)) ⌝ }
+{
     let address = [a];
     let mut place = numeral::put_low_bytes(frame, 0, &address);
     let mut i = 0;

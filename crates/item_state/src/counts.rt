@@ -1,6 +1,7 @@
 // What a replay counts, in an array that its caller lends.
 ghost use mathlib.Core.Path.{_≡_};
 ghost use Prim.Native.Nat.{_+_, min};
+ghost use Rattle.item_state.specs.Log.{refusals as Log·refusals, counted};
 use device::Answer;
 
 // The places of the counts. Bytes of answers that are not written yet.
@@ -81,7 +82,9 @@ pub fn more(n: usize, k: usize) -> usize
 }
 
 // 1 for a refusal.
-pub fn refusals(answer: Answer) -> usize {
+pub fn refusals(answer: Answer) -> usize
+    ensures { λ r. ⌜ r ≡ Log·refusals answer ⌝ }
+{
     match answer {
         Answer::Refused(_) => 1,
         _ => 0,
@@ -89,12 +92,16 @@ pub fn refusals(answer: Answer) -> usize {
 }
 
 // After a call with this answer, when `used` bytes of answers are not written yet.
-pub fn count_call(counts: &mut [usize; 22], answer: Answer, used: usize) {
+pub fn count_call(counts: &mut [usize; 22], answer: Answer, used: usize)
+    ensures { λ _. ⌜ now (counts .exit) ≡ counted (now (counts .entry)) (Log·refusals answer) used ⌝ }
+{
     count(counts, refusals(answer), used);
 }
 
 // After a call that was refused where `refused` is 1.
-pub fn count(counts: &mut [usize; 22], refused: usize, used: usize) {
+pub fn count(counts: &mut [usize; 22], refused: usize, used: usize)
+    ensures { λ _. ⌜ now (counts .exit) ≡ counted (now (counts .entry)) refused used ⌝ }
+{
     counts[CALLS] = more(counts[CALLS], 1);
     counts[REFUSED] = more(counts[REFUSED], refused);
     counts[USED] = used;

@@ -1,6 +1,8 @@
 // Bytes to standard output, and parts of buffers.
 ghost use mathlib.Core.Path.{_≡_};
+ghost use Prim.Native.Nat.{_≤_};
 ghost use lib.ListN.{take, drop};
+ghost use Rattle.item_state.specs.Log.{longest};
 use crate::counts::BODY;
 use crate::counts::CHECK;
 use crate::counts::USED;
@@ -77,7 +79,9 @@ pub fn make_room(answers: &[u8], counts: &mut [usize; 22]) {
 
 // The place at which an answer goes on: `at`, or one behind its kept start where the rest had to be
 // written, or is left out of a check.
-pub fn go_on(answers: &mut [u8], counts: &mut [usize; 22], at: usize) -> usize {
+pub fn go_on(answers: &mut [u8], counts: &mut [usize; 22], at: usize) -> usize
+    ensures { λ r. ⌜ (at ≤ longest → (r ≡ at) × (now (answers .exit) ≡ now (answers .entry)) × (now (counts .exit) ≡ now (counts .entry))) ⌝ }
+{
     if at <= LONG {
         return at;
     }

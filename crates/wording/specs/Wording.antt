@@ -86,6 +86,10 @@ delivery kind answer = kind ∷ (deliveryAnswer answer ++ (lineFeed ∷ []))
 
 -- ---- ticks
 
+-- "`tick N`" and "`at T`": a word and a number
+unfoldable pub numbered : List ℕ → ℕ → Texts
+numbered word n = word ∷ decimal n ∷ []
+
 -- a text where a test holds
 unfoldable pub reportedWhere : Bool → List ℕ → Texts
 reportedWhere holds what = cond holds (what ∷ []) []
@@ -167,6 +171,10 @@ stretched (Stretched flight temperature) n = ascii " " ∷ decimal n ∷ named f
 stretched Good n = []
 stretched Failed n = []
 
+-- the whole line
+unfoldable pub stretch : Answer → ℕ → Texts
+stretch answer n = ascii "stretch" ∷ (stretched answer n ++ (lineFeed ∷ []))
+
 -- ---- expectations
 
 -- "`expect A ok`, or `expect A differs`", where n words differ
@@ -200,6 +208,10 @@ refused word number = word ∷ (refusal number ++ (lineFeed ∷ []))
 -- "`record D ..`": a blank and one of them
 unfoldable pub difference : ℕ → Texts
 difference word = ascii " " ∷ signedDecimal word ∷ []
+
+-- "`listing N`, then the lines": its first line
+unfoldable pub listingHead : ℕ → Texts
+listingHead n = ascii "listing " ∷ counted n lineFeed
 
 -- "`quietest START SPREAD`"
 unfoldable pub quietest : ℕ → ℕ → Texts
@@ -238,6 +250,20 @@ why (Content.Quietest n) = ": wrong count\n"
 -- "the answer is `line L: ` and one of six texts"
 unfoldable pub fault : ℕ → Content → Texts
 fault number content = ascii "line " ∷ decimal number ∷ ascii (why content) ∷ []
+
+-- ---- what stands around an answer
+
+-- "`FILE:LINE: `", before an answer that needs a look
+unfoldable pub place : List ℕ → ℕ → Texts
+place file number = file ∷ ascii ":" ∷ counted number (ascii ": ")
+
+-- "` expected `" and the words, behind an answer that differs from them
+unfoldable pub expected : List ℕ → Texts
+expected words = ascii " expected " ∷ words ∷ []
+
+-- "` (NAME)`", the item's, at the end of a line that needs a look
+unfoldable pub itemName : List ℕ → Texts
+itemName name = ascii " (" ∷ name ∷ ascii ")\n" ∷ []
 
 -- ---- the last line
 

@@ -1,14 +1,20 @@
--- `item_calls::transaction::put_write` is safe and ends.
+-- `item_calls::transaction::put_write` meets its contract: a word more in each turn.
 -- Assumes nothing.
 use borrow.Author.Needs.{needs}
 use Prim.Native.Nat.{_-_, _≤_}
 use mathlib.Core.Path.{_≡_}
 use lib.ListN.{length}
+use Rattle.numeral.specs.Place.{putEach}
+use lib.ListN.{drop}
+use Rattle.item_calls.specs.Lines.{wordBytes, writeBytes}
+use Rattle.item_calls.proofs.Steps.{bytes-on, bytes-end}
+use Rattle.wording.proofs.Each.{put-first}
+use mathlib.Core.Path.{refl}
 use Rattle.item_calls.proofs.transaction.put_write.Statement.{statement}
 use Rattle.item_calls.proofs.transaction.put_write.Tie as tie
 
 abbrev Inv-loop : tie.InvT-loop
-Inv-loop frame₀ a words place₀ i₀ frame place i = (length frame ≡ length frame₀)
+Inv-loop frame₀ a words place₀ i₀ frame place i = (length frame ≡ length frame₀) × (putEach frame place (wordBytes (drop i words)) ≡ putEach frame₀ place₀ (wordBytes words))
 
 abbrev μ-loop : tie.MeasureT-loop
 μ-loop frame₀ a words place₀ i₀ frame place i = length words - i
@@ -20,7 +26,7 @@ put-low-bytes-requires : tie.Need-put-low-bytes-requires Inv-loop μ-loop
 put-low-bytes-requires c κs = search needs
 
 loop-holds : tie.Need-loop-holds Inv-loop μ-loop
-loop-holds c = search needs
+loop-holds c = (refl, refl)
 
 mul-t12 : tie.Need-mul-t12 Inv-loop μ-loop
 mul-t12 c = search needs
@@ -47,13 +53,14 @@ loop-less : tie.Need-loop-less Inv-loop μ-loop
 loop-less c = search needs
 
 loop-again : tie.Need-loop-again Inv-loop μ-loop
-loop-again c = search needs
+loop-again c = (search needs, bytes-on (c .before .before .before .before .before .before .before .before .before .before .before .before .before .before .before .before .args .words .now) (c .before .before .before .before .before .before .before .before .loop .i) (c .before .before .before .before .before .before .before .loop-test .taken) (c .before .before .put-low-bytes2 .ensures) (c .before .before .before .before .before .before .before .before .loop .inv .1))
 
 same-length : tie.Need-same-length Inv-loop μ-loop
 same-length c = search needs
 
 returns : tie.Need-returns Inv-loop μ-loop
-returns c = search needs
+unfolding writeBytes
+returns c = put-first (c .before .before .before .before .put-low-bytes .ensures) (bytes-end (c .before .before .before .before .before .before .before .before .before .args .words .now) (c .before .loop .i) (c .loop-test .left) (c .before .loop .inv .1))
 
 pub put-write-spec : {M : Type 1} → statement M
 put-write-spec =

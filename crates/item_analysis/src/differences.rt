@@ -1,9 +1,15 @@
 // The record of differences.
+ghost use mathlib.Core.List.{map};
+ghost use mathlib.Core.Path.{_≡_};
+ghost use Rattle.difference.specs.Difference.{signedOf};
+ghost use Rattle.wording.specs.Text.{PutEach};
+ghost use Rattle.item_analysis.specs.Kept.{keptOne, keptEach};
+ghost use Rattle.item_analysis.specs.Lines.{differenceTexts, recordLine, tofDiff, recordWords};
 use device::Model;
-use device::Told;
 use item_state::counts::RECORD;
 use item_state::counts::USED;
 use item_state::output::first_words;
+use item_state::told::value;
 
 // The line `record`: the first n numbers, or TOF_DIFF as it stands.
 pub fn record(
@@ -13,7 +19,9 @@ pub fn record(
     kept: &mut [i32],
     counts: &mut [usize; 22],
     answers: &mut [u8],
-) {
+)
+    ensures { λ _. ⌜ record { differences = now (kept .exit); log = record { counts = now (counts .exit); answers = now (answers .exit) } } ≡ recordLine (recordWords m (now (numbers .entry)) n) record { differences = now (kept .entry); log = record { counts = now (counts .entry); answers = now (answers .entry) } } ⌝ }
+{
     if n == 0 {
         let one = [tof_diff(m)];
         add_words(&one, kept, counts, answers);
@@ -23,29 +31,27 @@ pub fn record(
 }
 
 // E2h and E3h.
-fn tof_diff(m: Model) -> u32 {
+fn tof_diff(m: Model) -> u32
+    ensures { λ r. ⌜ r ≡ tofDiff m ⌝ }
+{
     difference::joined(
         value(converter::peek(m, 226)),
         value(converter::peek(m, 227)),
     )
 }
 
-// The number told, or 0.
-fn value(told: Told) -> u32 {
-    match told {
-        Told::Value(v) => v,
-        Told::Refused(_) => 0,
-    }
-}
-
-fn add_words(words: &[u32], kept: &mut [i32], counts: &mut [usize; 22], answers: &mut [u8]) {
+fn add_words(words: &[u32], kept: &mut [i32], counts: &mut [usize; 22], answers: &mut [u8])
+    ensures { λ _. ⌜ record { differences = now (kept .exit); log = record { counts = now (counts .exit); answers = now (answers .exit) } } ≡ recordLine (now (words .entry)) record { differences = now (kept .entry); log = record { counts = now (counts .entry); answers = now (answers .entry) } } ⌝ }
+{
+    counts[RECORD] = store(words, kept, counts[RECORD]);
     let start = wording::heads::put_record(answers, counts[USED]);
     let end = put_each(answers, start, words);
-    counts[RECORD] = store(words, kept, counts[RECORD]);
     counts[USED] = wording::heads::put_end(answers, end);
 }
 
-fn put_each(answers: &mut [u8], at: usize, words: &[u32]) -> usize {
+fn put_each(answers: &mut [u8], at: usize, words: &[u32]) -> usize
+    ensures { λ r. ⌜ PutEach (now (answers .entry)) at (differenceTexts (now (words .entry))) r (now (answers .exit)) ⌝ }
+{
     let mut place = at;
     let mut i = 0;
     while i < words.len() {
@@ -56,7 +62,9 @@ fn put_each(answers: &mut [u8], at: usize, words: &[u32]) -> usize {
 }
 
 // Adds differences behind the first n, as far as there is room, and answers how many there are then.
-fn store(words: &[u32], kept: &mut [i32], n: usize) -> usize {
+fn store(words: &[u32], kept: &mut [i32], n: usize) -> usize
+    ensures { λ r. ⌜ record { values = now (kept .exit); used = r } ≡ keptEach (map signedOf (now (words .entry))) record { values = now (kept .entry); used = n } ⌝ }
+{
     let mut end = n;
     let mut i = 0;
     while i < words.len() {
@@ -66,7 +74,9 @@ fn store(words: &[u32], kept: &mut [i32], n: usize) -> usize {
     end
 }
 
-fn put(kept: &mut [i32], at: usize, difference: i32) -> usize {
+fn put(kept: &mut [i32], at: usize, difference: i32) -> usize
+    ensures { λ r. ⌜ record { values = now (kept .exit); used = r } ≡ keptOne difference record { values = now (kept .entry); used = at } ⌝ }
+{
     if at < kept.len() {
         kept[at] = difference;
         at + 1

@@ -1,4 +1,10 @@
 // The probe table.
+ghost use mathlib.Core.Path.{_≡_};
+ghost use mathlib.Core.List.{map};
+ghost use Prim.Native.Nat.{ℕ};
+ghost use lib.ListN.{take};
+ghost use Rattle.item_analysis.specs.Kept.{keptOne, keptEach};
+ghost use Rattle.item_analysis.specs.Lines.{probeLine, degreesOf, degreesTold, degreesLine};
 use item_state::counts::PROBES;
 use item_state::counts::USED;
 use item_state::counts::count;
@@ -12,14 +18,18 @@ pub fn probe(
     probes: &mut [u32],
     counts: &mut [usize; 22],
     answers: &mut [u8],
-) {
+)
+    ensures { λ _. ⌜ record { probes = now (probes .exit); log = record { counts = now (counts .exit); answers = now (answers .exit) } } ≡ probeLine (take n (now (numbers .entry))) record { probes = now (probes .entry); log = record { counts = now (counts .entry); answers = now (answers .entry) } } ⌝ }
+{
     let end = add(first_words(numbers, n), probes, counts[PROBES]);
     counts[PROBES] = end;
     counts[USED] = wording::kept::put_probe(answers, counts[USED], end as u64);
 }
 
 // Adds entries behind the first n, as far as there is room, and answers how many there are then.
-fn add(entries: &[u32], probes: &mut [u32], n: usize) -> usize {
+fn add(entries: &[u32], probes: &mut [u32], n: usize) -> usize
+    ensures { λ r. ⌜ record { values = now (probes .exit); used = r } ≡ keptEach (map (λ (entry : ℕ). entry) (now (entries .entry))) record { values = now (probes .entry); used = n } ⌝ }
+{
     let mut end = n;
     let mut i = 0;
     while i < entries.len() {
@@ -29,7 +39,9 @@ fn add(entries: &[u32], probes: &mut [u32], n: usize) -> usize {
     end
 }
 
-fn put(probes: &mut [u32], at: usize, entry: u32) -> usize {
+fn put(probes: &mut [u32], at: usize, entry: u32) -> usize
+    ensures { λ r. ⌜ record { values = now (probes .exit); used = r } ≡ keptOne entry record { values = now (probes .entry); used = at } ⌝ }
+{
     if at < probes.len() {
         probes[at] = entry;
         at + 1
@@ -39,7 +51,9 @@ fn put(probes: &mut [u32], at: usize, entry: u32) -> usize {
 }
 
 // The line `degrees`.
-pub fn degrees(words: &[u32], probes: &[u32], counts: &mut [usize; 22], answers: &mut [u8]) {
+pub fn degrees(words: &[u32], probes: &[u32], counts: &mut [usize; 22], answers: &mut [u8])
+    ensures { λ _. ⌜ record { counts = now (counts .exit); answers = now (answers .exit) } ≡ degreesLine (now (words .entry)) (now (probes .entry)) record { counts = now (counts .entry); answers = now (answers .entry) } ⌝ }
+{
     if words.len() < 2 {
         return;
     }
@@ -48,7 +62,9 @@ pub fn degrees(words: &[u32], probes: &[u32], counts: &mut [usize; 22], answers:
 }
 
 // By the item's own table, or PT1000's where it has none.
-fn reading(table: &[u32], probe: u32, reference: u32) -> InDegrees {
+fn reading(table: &[u32], probe: u32, reference: u32) -> InDegrees
+    ensures { λ r. ⌜ r ≡ degreesOf (now (table .entry)) probe reference ⌝ }
+{
     if table.len() == 0 {
         thermometer::degrees(probe, reference)
     } else {
@@ -56,7 +72,9 @@ fn reading(table: &[u32], probe: u32, reference: u32) -> InDegrees {
     }
 }
 
-fn put_reading(reading: InDegrees, counts: &mut [usize; 22], answers: &mut [u8]) {
+fn put_reading(reading: InDegrees, counts: &mut [usize; 22], answers: &mut [u8])
+    ensures { λ _. ⌜ record { counts = now (counts .exit); answers = now (answers .exit) } ≡ degreesTold reading record { counts = now (counts .entry); answers = now (answers .entry) } ⌝ }
+{
     match reading {
         InDegrees::Thousandths(n) => {
             let used = wording::kept::put_degrees(answers, counts[USED], n);

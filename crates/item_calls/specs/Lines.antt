@@ -63,8 +63,8 @@ transacted call texts m l = record {
   flash = memory m call;
   log = record {
     counts =
-      startMoment (reply m call .answer)
-      (called (refusals (reply m call .answer)) (texts (reply m call .answer) (output m call)) l .counts);
+        startMoment (reply m call .answer)
+        (called (refusals (reply m call .answer)) (texts (reply m call .answer) (output m call)) l .counts);
     answers = called (refusals (reply m call .answer)) (texts (reply m call .answer) (output m call)) l .answers;
   };
 }

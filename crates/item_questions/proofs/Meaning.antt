@@ -20,7 +20,8 @@ use Rattle.device.specs.Question.{peek}
 use Rattle.device.specs.Registers.{registerWord}
 use Rattle.wording.specs.Text.{ascii}
 use Rattle.wording.specs.Wording.{Texts, lineFeed, head, pair}
-use Rattle.item_questions.specs.Answers.{toldValue, readWord, next, blankWord, rowWords, row, rows, registers}
+use Rattle.item_state.specs.Told.{toldValue, readWord}
+use Rattle.item_questions.specs.Answers.{next, blankWord, rowWords, row, rows, registers}
 use Rattle.item_questions.specs.Answers.{differing, pairs, expectation}
 
 -- What is read at B0h to FFh is the register's word.

@@ -14,7 +14,8 @@ use Rattle.device.specs.declared.Model.{Model}
 use Rattle.wording.specs.Text.{PutEach}
 use Rattle.wording.specs.Wording.{pair}
 use Rattle.wording.proofs.Each.{each-then, each-end}
-use Rattle.item_questions.specs.Answers.{readWord, next, blankWord, rowWords, row, rows, differing, pairs}
+use Rattle.item_state.specs.Told.{readWord}
+use Rattle.item_questions.specs.Answers.{next, blankWord, rowWords, row, rows, differing, pairs}
 
 one-at-most : (has wanted : ℕ) → cond (eqb has wanted) 0 1 ≤ 1
 one-at-most has wanted = by-eqb has wanted (λ _ e. rw e (omega arith)) (λ _ e. rw e (omega arith))

@@ -1,6 +1,6 @@
 -- The answers of the lines that ask, in the order of the format's table. What stands in quotation marks is the format's. Assumes
 -- nothing.
-use Prim.Native.Nat.{ℕ, zero, suc, _+_, _%_, min}
+use Prim.Native.Nat.{ℕ, zero, suc, _+_, _%_}
 use mathlib.Core.Bool.{cond}
 use mathlib.Core.List.{List, [], _∷_, _++_}
 use mathlib.Core.Path.{_≡_}
@@ -10,16 +10,11 @@ use Rattle.numeral.specs.Digit.{digits}
 use Rattle.numeral.specs.Place.{Placed, putEach}
 use Rattle.numeral.specs.Print.{decimal}
 use Rattle.device.specs.declared.Model.{Model}
-use Rattle.device.specs.declared.Told.{Told}
-use Rattle.device.specs.declared.Told.the-variants.{Value, Refused}
-use Rattle.device.specs.Question.{interruptPending, awaitedTold, peek}
+use Rattle.device.specs.Question.{interruptPending, awaitedTold}
 use Rattle.wording.specs.Text.{ascii}
 use Rattle.wording.specs.Wording.{Texts, lineFeed, head, pair}
-
--- The number told; 0 in place of a refusal, which a sound model gives to none of these questions.
-unfoldable pub toldValue : Told → ℕ
-toldValue (Value v) = v
-toldValue (Refused n) = 0
+use Rattle.item_state.specs.Log.{added}
+use Rattle.item_state.specs.Told.{toldValue, readWord}
 
 -- "`int yes` or `int no`"
 unfoldable pub interrupt : Model → Texts
@@ -31,10 +26,6 @@ awaited m =
     ascii "awaited " ∷ decimal (toldValue (awaitedTold m (m .flight .schedule)))
     ∷ ascii " " ∷ decimal (toldValue (awaitedTold m (m .temperature .schedule)))
     ∷ lineFeed ∷ []
-
--- "what reads of B0h to FFh would return, with nothing cleared"
-unfoldable pub readWord : Model → ℕ → ℕ
-readWord m a = toldValue (peek m a)
 
 -- the address after a, in 32 bits
 abbrev pub next : ℕ → ℕ
@@ -75,10 +66,6 @@ pairs m a (w ∷ ws) = pair a (readWord m a) w ++ pairs m (next a) ws
 -- "`expect A ok`, or `expect A differs`" with the pairs
 unfoldable pub expectation : Model → ℕ → List ℕ → Texts
 expectation m a ws = head a (differing m a ws) ++ (pairs m a ws ++ (lineFeed ∷ []))
-
--- A count with k more, or the largest number that fits.
-unfoldable pub added : List ℕ → ℕ → ℕ → List ℕ
-added counts place k = set counts place (min (getD counts place 0 + k) 18446744073709551615)
 
 -- The answer to `expect` behind those before it, which take the places to before the first count.
 abbrev pub told : Model → ℕ → List ℕ → List ℕ → List ℕ → Placed

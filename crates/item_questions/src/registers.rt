@@ -1,19 +1,10 @@
 // The lines `regs`, `int` and `awaited`.
 ghost use mathlib.Core.Path.{_≡_};
 ghost use Rattle.wording.specs.Text.{PutEach};
-ghost use Rattle.item_questions.specs.Answers.{toldValue, readWord, blankWord, rowWords, row, registers, interrupt, awaited};
+ghost use Rattle.item_state.specs.Told.{toldValue, readWord};
+ghost use Rattle.item_questions.specs.Answers.{blankWord, rowWords, row, registers, interrupt, awaited};
 use device::Model;
-use device::Told;
-
-// The number told, or 0.
-pub fn value(told: Told) -> u32
-    ensures { λ r. ⌜ r ≡ toldValue told ⌝ }
-{
-    match told {
-        Told::Value(v) => v,
-        Told::Refused(_) => 0,
-    }
-}
+use item_state::told::value;
 
 // The word that a read of one register would give.
 pub fn word(m: Model, a: u32) -> u32

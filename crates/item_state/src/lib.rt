@@ -2,3 +2,4 @@
 // written yet.
 pub mod counts;
 pub mod output;
+pub mod told;

@@ -1,4 +1,5 @@
 // One line, answered.
+ghost use Rattle.line.specs.Line.{Bounded};
 use crate::close::close;
 use crate::open::open;
 use device::Model;
@@ -44,7 +45,9 @@ fn answer_content(
     probes: &mut [u32],
     names: &mut [u8],
     answers: &mut [u8],
-) -> Model {
+) -> Model
+    requires { ⌜ Bounded content ⌝ }
+{
     let left = open(content, text, counts, names, answers);
     let model = answer_on_model(m, left, numbers, counts, mem, kept, probes, answers);
     close(text, expected, counts, names, answers);
@@ -61,7 +64,9 @@ fn answer_on_model(
     kept: &mut [i32],
     probes: &mut [u32],
     answers: &mut [u8],
-) -> Model {
+) -> Model
+    requires { ⌜ Bounded content ⌝ }
+{
     let model = item_calls::answer_call(m, content, numbers, counts, mem, answers);
     item_questions::answer_question(model, content, numbers, counts, answers);
     item_analysis::answer_analysis(model, content, numbers, counts, kept, probes, answers);

@@ -1,4 +1,5 @@
 // Before a line's answer: its number, its head in a check, and the name of an item.
+ghost use Rattle.line.specs.Line.{Bounded};
 use crate::close::NAME_PLACE;
 use crate::close::trouble;
 use crate::fault::answer_fault;
@@ -26,7 +27,9 @@ pub fn open(
     counts: &mut [usize; 22],
     names: &mut [u8],
     answers: &mut [u8],
-) -> Content {
+) -> Content
+    ensures { λ r. ⌜ (Bounded content → Bounded r) ⌝ }
+{
     count_line(counts, names, answers);
     let left = answer_fault(content, counts, answers);
     put_item(left, text, counts, names, answers);

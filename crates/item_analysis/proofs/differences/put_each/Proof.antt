@@ -1,20 +1,25 @@
--- `item_analysis::differences::put_each` is safe and ends.
+-- `item_analysis::differences::put_each` meets its contract: a difference more in each turn.
 -- Assumes nothing.
 use borrow.Author.Needs.{needs}
 use Prim.Native.Nat.{_-_, _≤_}
 use mathlib.Core.Path.{_≡_}
 use lib.ListN.{length}
+use mathlib.Core.Path.{refl}
+use lib.ListN.{drop}
+use Rattle.numeral.specs.Place.{putEach}
+use Rattle.item_analysis.specs.Lines.{differenceTexts}
+use Rattle.item_analysis.proofs.Steps.{texts-on, texts-end}
 use Rattle.item_analysis.proofs.differences.put_each.Statement.{statement}
 use Rattle.item_analysis.proofs.differences.put_each.Tie as tie
 
 abbrev Inv-loop : tie.InvT-loop
-Inv-loop answers₀ at words place₀ i₀ answers place i = (length answers ≡ length answers₀)
+Inv-loop answers₀ at words place₀ i₀ answers place i = (length answers ≡ length answers₀) × (putEach answers place (differenceTexts (drop i words)) ≡ putEach answers₀ place₀ (differenceTexts words))
 
 abbrev μ-loop : tie.MeasureT-loop
 μ-loop answers₀ at words place₀ i₀ answers place i = length words - i
 
 loop-holds : tie.Need-loop-holds Inv-loop μ-loop
-loop-holds c = search needs
+loop-holds c = (refl, refl)
 
 mul-put-difference : tie.Need-mul-put-difference Inv-loop μ-loop
 mul-put-difference c = search needs
@@ -32,13 +37,13 @@ loop-less : tie.Need-loop-less Inv-loop μ-loop
 loop-less c = search needs
 
 loop-again : tie.Need-loop-again Inv-loop μ-loop
-loop-again c = search needs
+loop-again c = (search needs, texts-on (c .before .before .before .before .before .before .before .before .before .args .words .now) (c .before .before .before .before .before .before .loop .i) (c .before .before .before .before .before .loop-test .taken) (c .before .before .put-difference .ensures) (c .before .before .before .before .before .before .loop .inv .1))
 
 same-length : tie.Need-same-length Inv-loop μ-loop
 same-length c = search needs
 
 returns : tie.Need-returns Inv-loop μ-loop
-returns c = search needs
+returns c = texts-end (c .before .before .before .before .args .words .now) (c .before .loop .i) (c .loop-test .left) (c .before .loop .inv .1)
 
 pub put-each-spec : {M : Type 1} → statement M
 put-each-spec =

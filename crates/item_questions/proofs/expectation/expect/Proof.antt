@@ -1,7 +1,7 @@
 -- `item_questions::expectation::expect` meets its contract.
 -- Assumes nothing.
 use borrow.Author.Needs.{needs}
-use Rattle.item_questions.specs.Answers.{added}
+use Rattle.item_state.specs.Log.{added}
 use Rattle.item_questions.proofs.expectation.expect.Statement.{statement}
 use Rattle.item_questions.proofs.expectation.expect.Tie as tie
 

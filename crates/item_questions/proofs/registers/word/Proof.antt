@@ -1,7 +1,7 @@
 -- `item_questions::registers::word` meets its contract.
 -- Assumes nothing.
 use borrow.Author.Needs.{needs}
-use Rattle.item_questions.specs.Answers.{readWord}
+use Rattle.item_state.specs.Told.{readWord}
 use Rattle.item_questions.proofs.registers.word.Statement.{statement}
 use Rattle.item_questions.proofs.registers.word.Tie as tie
 

@@ -1,9 +1,9 @@
--- `item_questions::registers::value` meets its contract.
+-- `item_state::told::value` meets its contract.
 -- Assumes nothing.
 use borrow.Author.Needs.{needs}
-use Rattle.item_questions.specs.Answers.{toldValue}
-use Rattle.item_questions.proofs.registers.value.Statement.{statement}
-use Rattle.item_questions.proofs.registers.value.Tie as tie
+use Rattle.item_state.specs.Told.{toldValue}
+use Rattle.item_state.proofs.told.value.Statement.{statement}
+use Rattle.item_state.proofs.told.value.Tie as tie
 
 enum-known-told : tie.Need-enum-known-told
 enum-known-told c = search needs

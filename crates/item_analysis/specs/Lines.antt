@@ -1,0 +1,81 @@
+-- The lines on what an item keeps beside its model, in the order of the format's table. What stands in quotation marks is the
+-- format's. Assumes nothing.
+use Prim.Native.Nat.{ℕ}
+use mathlib.Core.Bool.{cond}
+use mathlib.Core.List.{List, [], _∷_, _++_}
+use lib.Dec.{eqb, ltb}
+use lib.IntN.{ℤ}
+use lib.ListN.{length, getD, set, take}
+use mathlib.Core.List.{map}
+use Rattle.device.specs.declared.Model.{Model}
+use Rattle.thermometer.specs.declared.InDegrees.{InDegrees}
+use Rattle.thermometer.specs.declared.InDegrees.the-variants.{Thousandths, Refused}
+use Rattle.thermometer.specs.Degrees.{degrees as degreesPt1000, degreesBy}
+use Rattle.difference.specs.Difference.{joinedWord, signedOf}
+use Rattle.wording.specs.Text.{ascii}
+use Rattle.wording.specs.Wording.{Texts, lineFeed, probe, degrees, refused, difference}
+use Rattle.item_state.specs.Log.{Log, said, called}
+use Rattle.item_state.specs.Told.{readWord}
+use Rattle.item_analysis.specs.Kept.{Kept, keptEach}
+
+-- ---- `probe`
+
+-- The probe table, and the log.
+pub record WithProbes : Type 0 where
+  pub probes : List ℕ
+  pub log : Log
+
+-- "adds one or more entries .. to the item's own probe table"; "`probe K`, the number of entries that the table now has"
+unfoldable pub probeLine : List ℕ → WithProbes → WithProbes
+probeLine entries s =
+    let table = keptEach (map (λ (entry : ℕ). entry) entries) record { values = s .probes; used = getD (s .log .counts) 11 0 } in record {
+      probes = table .values;
+      log = said (probe (table .used)) record { counts = set (s .log .counts) 11 (table .used); answers = s .log .answers };
+    }
+
+-- ---- `degrees`
+
+-- "the item's own probe table, which `degrees` then takes in place of PT1000's"
+unfoldable pub degreesOf : List ℕ → ℕ → ℕ → InDegrees
+degreesOf table a b = cond (eqb (length table) 0) (degreesPt1000 a b) (degreesBy table a b)
+
+-- "`degrees D.DDD`, or `degrees no 13 off the table`, `degrees no 14 bad table`"
+unfoldable pub degreesTold : InDegrees → Log → Log
+degreesTold (Thousandths n) l = called 0 (degrees n) l
+degreesTold (Refused number) l = called 1 (refused (ascii "degrees") number) l
+
+-- "a probe's word and its reference's", the line's two numbers
+unfoldable pub degreesLine : List ℕ → List ℕ → Log → Log
+degreesLine numbers probes l =
+    cond (ltb (length numbers) 2) l
+    (degreesTold (degreesOf (take (getD (l .counts) 11 0) probes) (getD numbers 0 0) (getD numbers 1 0)) l)
+
+-- ---- `record`
+
+-- The record of differences, and the log.
+pub record WithRecord : Type 0 where
+  pub differences : List ℤ
+  pub log : Log
+
+-- "`record D ..`, what was added"
+unfoldable pub differenceTexts : List ℕ → Texts
+differenceTexts [] = []
+differenceTexts (w ∷ ws) = difference w ++ differenceTexts ws
+
+unfoldable pub recordTexts : List ℕ → Texts
+recordTexts ws = ascii "record" ∷ (differenceTexts ws ++ (lineFeed ∷ []))
+
+-- "adds differences to the item's record": words in two's complement
+unfoldable pub recordLine : List ℕ → WithRecord → WithRecord
+recordLine ws s =
+    let kept = keptEach (map signedOf ws) record { values = s .differences; used = getD (s .log .counts) 10 0 } in record {
+      differences = kept .values;
+      log = said (recordTexts ws) record { counts = set (s .log .counts) 10 (kept .used); answers = s .log .answers };
+    }
+
+-- "without any D, the TOF_DIFF of E2h and E3h as it stands"
+unfoldable pub tofDiff : Model → ℕ
+tofDiff m = joinedWord (readWord m 0xE2) (readWord m 0xE3)
+
+unfoldable pub recordWords : Model → List ℕ → ℕ → List ℕ
+recordWords m numbers n = cond (eqb n 0) (tofDiff m ∷ []) (take n numbers)

@@ -1,45 +1,33 @@
+-- `session::lines::answer_content` meets its contract.
+-- Assumes nothing.
 use borrow.Author.Needs.{needs}
 use Rattle.session.proofs.lines.answer_content.Statement.{statement}
 use Rattle.session.proofs.lines.answer_content.Tie as tie
-use Rattle.session.proofs.lines.answer_content.Reads as reads
-use Rattle.session.proofs.lines.answer_content.Lts as lts
-use Rattle.session.proofs.close.close.Reads as close-reads
-use Rattle.session.proofs.lines.answer_on_model.Reads as answer-on-model-reads
-use Rattle.session.proofs.open.open.Reads as open-reads
 
--- src/lines.rt:48:9
 open-requires : tie.Need-open-requires
 open-requires c κs = search needs
 
--- src/lines.rt:49:9
 answer-on-model-requires : tie.Need-answer-on-model-requires
-answer-on-model-requires c κs = search needs
+answer-on-model-requires c κs = c .before .before .before .before .before .before .before .before .before .«open» .ensures (c .before .before .before .before .before .before .before .before .before .before .before .before .before .before .before .before .before .before .before .pre)
 
--- src/lines.rt:50:5
 close-requires : tie.Need-close-requires
 close-requires c κs = search needs
 
--- src/lines.rt:35:1
 same-length : tie.Need-same-length
 same-length c = search needs
 
--- src/lines.rt:35:1
 same-length-2 : tie.Need-same-length-2
 same-length-2 c = search needs
 
--- src/lines.rt:35:1
 same-length-3 : tie.Need-same-length-3
 same-length-3 c = search needs
 
--- src/lines.rt:35:1
 same-length-4 : tie.Need-same-length-4
 same-length-4 c = c .before .before .before .before .before .before .before .before .before .before .before .before .before .before .before .before .before .before .before .before .before .before .before .«open» .kept .1 .1 .1 .0
 
--- src/lines.rt:35:1
 same-length-5 : tie.Need-same-length-5
 same-length-5 c = search needs
 
--- src/lines.rt:35:1
 returns : tie.Need-returns
 returns c = search needs
 

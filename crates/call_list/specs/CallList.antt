@@ -1,7 +1,7 @@
 -- A list of calls, done one after the other on one model.
 use Prim.Native.Nat.{ℕ, zero, suc, _+_, _-_, _*_}
 use mathlib.Core.Bool.{Bool, true}
-use mathlib.Core.List.{List, [], _∷_, _++_}
+use mathlib.Core.List.{List, _++_}
 use lib.ListN.{length, getD, set, take, drop}
 use lib.Dec.{leb, eqb}
 use Rattle.unit.specs.Choice.{pick, both}

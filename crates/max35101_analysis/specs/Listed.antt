@@ -4,8 +4,9 @@ use mathlib.Core.List.{List}
 use lib.Dec.{eqb}
 use lib.IntN.{ℤ}
 use Rattle.unit.specs.Choice.{pick}
-use Rattle.outcome.specs.Code.{filled, listedCode, listedWords}
-use Rattle.listing.specs.Listing.{listing, Outcome}
+use Rattle.outcome.specs.Code.{filled}
+use Rattle.finding.specs.Finding.{listedCode, listedWords}
+use Rattle.listing.specs.Listing.{listing}
 
 -- A listing's capture numbers have two digits or eight; number 22 for another count.
 unfoldable pub listedNumber : ℕ → List ℤ → ℕ → List ℕ → ℕ

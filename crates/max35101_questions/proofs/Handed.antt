@@ -4,7 +4,8 @@ use mathlib.Core.List.{List}
 use mathlib.Core.Path.{_≡_, subst}
 use Rattle.device.specs.declared.Told.{Told}
 use Rattle.run_state.specs.declared.Placed.{Placed}
-use Rattle.outcome.specs.Code.{filled, toldCode, toldWords}
+use Rattle.outcome.specs.Code.{filled}
+use Rattle.finding.specs.Finding.{toldCode, toldWords}
 use Rattle.max35101_questions.specs.Places.{placedCode, placedWords}
 
 pub told-by :

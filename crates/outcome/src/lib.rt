@@ -1,19 +1,13 @@
 // What a call of the library returns: a number for its answer, the answer's words in a lent buffer, the model in its bytes.
 ghost use mathlib.Core.Path.{_≡_};
-ghost use Prim.Native.Nat.{_+_, _≤_};
-ghost use lib.ListN.{drop, length, set, take};
-ghost use Rattle.outcome.specs.Code.{Settled, codeOf, filled, framedCode, framedWords, kept, listedCode, listedWords, modelAfter, placeCode, placeWords, readingCode, readingWords, toldCode, toldWords, wordsOf};
+ghost use lib.ListN.{set};
+ghost use Rattle.outcome.specs.Code.{Settled, codeOf, filled, kept, modelAfter, wordsOf};
 use device::Answer;
 use device::Model;
 use device::Reply;
 use device::Report;
 use device::StretchReport;
-use device::Told;
-use listing::Listed;
-use quietest::Place;
-use setup_frames::Framed;
 use snapshot::store;
-use thermometer::InDegrees;
 
 // What is returned where there is no refusal; and of a delivery that failed.
 pub const ACCEPTED: u32 = 0xffffffff;
@@ -26,14 +20,6 @@ pub fn put(words: &mut [u32], i: usize, w: u32)
 {
     if i < words.len() {
         words[i] = w;
-    }
-}
-
-fn put_size(sizes: &mut [usize], i: usize, n: usize)
-    ensures { λ r. ⌜ now (sizes .exit) ≡ set (now (sizes .entry)) i n ⌝ }
-{
-    if i < sizes.len() {
-        sizes[i] = n;
     }
 }
 
@@ -116,67 +102,6 @@ pub fn keep_after(r: Reply, bytes: &mut [u8])
     }
 }
 
-pub fn told(t: Told, words: &mut [u32]) -> u32
-    ensures { λ r. ⌜ (r ≡ toldCode t) × (now (words .exit) ≡ filled (now (words .entry)) (toldWords t)) ⌝ }
-{
-    match t {
-        Told::Refused(number) => number,
-        Told::Value(v) => {
-            put(words, 0, v);
-            ACCEPTED
-        }
-    }
-}
-
-pub fn reading(t: InDegrees, words: &mut [u32]) -> u32
-    ensures { λ r. ⌜ (r ≡ readingCode t) × (now (words .exit) ≡ filled (now (words .entry)) (readingWords t)) ⌝ }
-{
-    match t {
-        InDegrees::Refused(number) => number,
-        InDegrees::Thousandths(v) => {
-            put(words, 0, v);
-            ACCEPTED
-        }
-    }
-}
-
-pub fn place(p: Place, sizes: &mut [usize]) -> u32
-    ensures { λ r. ⌜ (r ≡ placeCode p) × (now (sizes .exit) ≡ filled (now (sizes .entry)) (placeWords p)) ⌝ }
-{
-    match p {
-        Place::Refused(number) => number,
-        Place::At(i) => {
-            put_size(sizes, 0, i);
-            ACCEPTED
-        }
-    }
-}
-
-pub fn listed(l: Listed, sizes: &mut [usize]) -> u32
-    ensures { λ r. ⌜ (r ≡ listedCode l) × (now (sizes .exit) ≡ filled (now (sizes .entry)) (listedWords l)) ⌝ }
-{
-    match l {
-        Listed::Refused(number) => number,
-        Listed::Written(n) => {
-            put_size(sizes, 0, n);
-            ACCEPTED
-        }
-    }
-}
-
-pub fn framed(f: Framed, sizes: &mut [usize]) -> u32
-    ensures { λ r. ⌜ (r ≡ framedCode f) × (now (sizes .exit) ≡ filled (now (sizes .entry)) (framedWords f)) ⌝ }
-{
-    match f {
-        Framed::Refused(number) => number,
-        Framed::Frames(bytes, frames) => {
-            put_size(sizes, 0, bytes);
-            put_size(sizes, 1, frames);
-            ACCEPTED
-        }
-    }
-}
-
 // The answer of a call, and the model after it.
 pub fn settle(r: Reply, model: &mut [u8], words: &mut [u32]) -> u32
     ensures { λ c. ⌜ Settled r (now (model .entry)) (now (words .entry)) c (now (model .exit)) (now (words .exit)) ⌝ }
@@ -184,20 +109,4 @@ pub fn settle(r: Reply, model: &mut [u8], words: &mut [u32]) -> u32
     keep_after(r, model);
     let a = r.answer;
     put_answer(a, words)
-}
-
-// Copies a run of values into the first places of a buffer, as many as it has.
-pub fn copy_run(values: &[i32], start: usize, width: usize, run: &mut [i32])
-    requires { ⌜ start + width ≤ length (now values) ⌝ }
-    ensures { λ r. ⌜ now (run .exit) ≡ filled (now (run .entry)) (take width (drop start (now (values .entry)))) ⌝ }
-{
-    let mut i = 0;
-    while i < width {
-        if run.len() <= i {
-            return;
-        }
-        let v = values[start + i];
-        run[i] = v;
-        i += 1;
-    }
 }

@@ -2,7 +2,7 @@
 use mathlib.Core.Path.{sym, _∙_}
 use denote.Ref.{now}
 use Rattle.quietest.proofs.Inside.{place-within}
-use Rattle.outcome.specs.Code.{placeCode, placeRun}
+use Rattle.finding.specs.Finding.{placeCode, placeRun}
 use borrow.Author.Needs.{needs}
 use Rattle.max35101_analysis.proofs.max35101_quietest.Statement.{statement}
 use Rattle.max35101_analysis.proofs.max35101_quietest.Tie as tie

@@ -1,9 +1,10 @@
 -- `max35101_analysis::max35101_write_listing` meets its contract.
 use Rattle.listing.specs.Listing.{Outcome}
-use Rattle.outcome.specs.Code.{filled, listedCode, listedWords}
+use Rattle.outcome.specs.Code.{filled}
+use Rattle.finding.specs.Finding.{listedCode, listedWords}
 use Rattle.max35101_analysis.specs.Listed.{listedNumber, listedOut, listedSizes}
 use denote.Ref.{now}
-use mathlib.Core.Path.{refl, ap, _∙_}
+use mathlib.Core.Path.{ap, _∙_}
 use borrow.Author.Needs.{needs}
 use Rattle.max35101_analysis.proofs.max35101_write_listing.Statement.{statement}
 use Rattle.max35101_analysis.proofs.max35101_write_listing.Tie as tie

@@ -1,6 +1,7 @@
 -- `max35101_analysis::max35101_write_listing_as` meets its contract.
 use Rattle.listing.specs.Listing.{Outcome}
-use Rattle.outcome.specs.Code.{filled, listedCode, listedWords}
+use Rattle.outcome.specs.Code.{filled}
+use Rattle.finding.specs.Finding.{listedCode, listedWords}
 use Rattle.max35101_analysis.specs.Listed.{listedNumber, listedOut, listedSizes}
 use denote.Ref.{now}
 use mathlib.Core.Path.{refl, ap, _∙_}

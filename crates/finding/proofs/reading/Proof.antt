@@ -1,8 +1,8 @@
--- `outcome::reading` meets its contract.
-use Rattle.outcome.specs.Code.{readingCode, readingWords}
+-- `finding::reading` meets its contract.
+use Rattle.finding.specs.Finding.{readingCode, readingWords}
 use borrow.Author.Needs.{needs}
-use Rattle.outcome.proofs.reading.Statement.{statement}
-use Rattle.outcome.proofs.reading.Tie as tie
+use Rattle.finding.proofs.reading.Statement.{statement}
+use Rattle.finding.proofs.reading.Tie as tie
 
 enum-known-t : tie.Need-enum-known-t
 enum-known-t c = search needs

@@ -1,8 +1,8 @@
--- `outcome::place` meets its contract.
-use Rattle.outcome.specs.Code.{placeCode, placeWords}
+-- `finding::place` meets its contract.
+use Rattle.finding.specs.Finding.{placeCode, placeWords}
 use borrow.Author.Needs.{needs}
-use Rattle.outcome.proofs.place.Statement.{statement}
-use Rattle.outcome.proofs.place.Tie as tie
+use Rattle.finding.proofs.place.Statement.{statement}
+use Rattle.finding.proofs.place.Tie as tie
 
 enum-known-p : tie.Need-enum-known-p
 enum-known-p c = search needs

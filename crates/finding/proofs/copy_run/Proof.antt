@@ -1,4 +1,4 @@
--- `outcome::copy_run` meets its contract.
+-- `finding::copy_run` meets its contract.
 use Prim.Native.Nat.{_+_, _-_, _≤_}
 use native.Mathlib.Omega.{arith}
 use mathlib.Core.Path.{_≡_, refl}
@@ -9,9 +9,9 @@ use mir.Syntax.{w32}
 use mir.ValLaws.{toZ-ofZ}
 use denote.Ref.{now}
 use borrow.Author.Needs.{needs}
-use Rattle.outcome.proofs.Run.{length-run, run-more, run-full, run-done}
-use Rattle.outcome.proofs.copy_run.Statement.{statement}
-use Rattle.outcome.proofs.copy_run.Tie as tie
+use Rattle.finding.proofs.Run.{length-run, run-more, run-full, run-done}
+use Rattle.finding.proofs.copy_run.Statement.{statement}
+use Rattle.finding.proofs.copy_run.Tie as tie
 
 abbrev Inv-loop : tie.InvT-loop
 Inv-loop values start width run₀ i₀ run i =

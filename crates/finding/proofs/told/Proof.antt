@@ -1,8 +1,8 @@
--- `outcome::told` meets its contract.
-use Rattle.outcome.specs.Code.{toldCode, toldWords}
+-- `finding::told` meets its contract.
+use Rattle.finding.specs.Finding.{toldCode, toldWords}
 use borrow.Author.Needs.{needs}
-use Rattle.outcome.proofs.told.Statement.{statement}
-use Rattle.outcome.proofs.told.Tie as tie
+use Rattle.finding.proofs.told.Statement.{statement}
+use Rattle.finding.proofs.told.Tie as tie
 
 enum-known-t : tie.Need-enum-known-t
 enum-known-t c = search needs

@@ -1,9 +1,9 @@
--- `outcome::put_size` meets its contract.
+-- `finding::put_size` meets its contract.
 use mathlib.Core.Path.{sym}
 use lib.Seq.{set-out}
 use borrow.Author.Needs.{needs}
-use Rattle.outcome.proofs.put_size.Statement.{statement}
-use Rattle.outcome.proofs.put_size.Tie as tie
+use Rattle.finding.proofs.put_size.Statement.{statement}
+use Rattle.finding.proofs.put_size.Tie as tie
 
 mul-sizes : tie.Need-mul-sizes
 mul-sizes c = search needs

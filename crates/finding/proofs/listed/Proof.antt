@@ -1,8 +1,8 @@
--- `outcome::listed` meets its contract.
-use Rattle.outcome.specs.Code.{listedCode, listedWords}
+-- `finding::listed` meets its contract.
+use Rattle.finding.specs.Finding.{listedCode, listedWords}
 use borrow.Author.Needs.{needs}
-use Rattle.outcome.proofs.listed.Statement.{statement}
-use Rattle.outcome.proofs.listed.Tie as tie
+use Rattle.finding.proofs.listed.Statement.{statement}
+use Rattle.finding.proofs.listed.Tie as tie
 
 enum-known-l : tie.Need-enum-known-l
 enum-known-l c = search needs

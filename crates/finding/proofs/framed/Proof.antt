@@ -1,12 +1,12 @@
--- `outcome::framed` meets its contract.
-use Rattle.outcome.specs.Code.{framedCode, framedWords}
+-- `finding::framed` meets its contract.
+use Rattle.finding.specs.Finding.{framedCode, framedWords}
 use Prim.Native.Nat.{ℕ}
 use mathlib.Core.List.{List}
 use mathlib.Core.Path.{ap, _∙_}
 use lib.ListN.{set}
 use borrow.Author.Needs.{needs}
-use Rattle.outcome.proofs.framed.Statement.{statement}
-use Rattle.outcome.proofs.framed.Tie as tie
+use Rattle.finding.proofs.framed.Statement.{statement}
+use Rattle.finding.proofs.framed.Tie as tie
 
 enum-known-f : tie.Need-enum-known-f
 enum-known-f c = search needs

@@ -14,6 +14,7 @@ use Rattle.wording.specs.Text.{ascii}
 use Rattle.wording.specs.Wording.{refusalWords, refusalWord, refusal, started, busAnswer, outputBuffer, bus, set}
 use Rattle.wording.specs.Wording.{deliveryAnswer, delivery, reportedWhere, kindReports, quiet, ticked, single}
 use Rattle.wording.specs.Wording.{reportAt, tickReports, sooner, nextNamed, laterNamed, named, stretched, head, pair}
+use Rattle.wording.specs.Wording.{numbered, stretch, listingHead, place, expected as expectedTexts, itemName}
 use Rattle.wording.specs.Wording.{counted, probe, degrees, refused, difference, quietest, why, fault, calls, faults}
 
 -- of one tick: failed, started
@@ -153,3 +154,15 @@ width = refl
 last-line : joined (calls 8 2 1 ++ faults 3 4 0) ≡ 101 ∷ 110 ∷ 100 ∷ 32 ∷ 56 ∷ 32 ∷ 99 ∷ 97 ∷ 108 ∷ 108 ∷ 115 ∷ 44 ∷ 32 ∷ 50 ∷ 32 ∷ 114 ∷ 101 ∷ 102 ∷ 117 ∷ 115 ∷ 101 ∷ 100 ∷ 44 ∷ 32 ∷ 49 ∷ 32 ∷ 117 ∷ 110 ∷ 97 ∷ 110 ∷ 110 ∷ 111 ∷ 117 ∷ 110 ∷ 99 ∷ 101 ∷ 100 ∷ 44 ∷ 32 ∷ 51 ∷ 32 ∷ 98 ∷ 97 ∷ 100 ∷ 32 ∷ 108 ∷ 105 ∷ 110 ∷ 101 ∷ 115 ∷ 44 ∷ 32 ∷ 52 ∷ 32 ∷ 101 ∷ 120 ∷ 112 ∷ 101 ∷ 99 ∷ 116 ∷ 97 ∷ 116 ∷ 105 ∷ 111 ∷ 110 ∷ 115 ∷ 44 ∷ 32 ∷ 48 ∷ 32 ∷ 100 ∷ 105 ∷ 102 ∷ 102 ∷ 101 ∷ 114 ∷ 10 ∷ []
 unfolding joined calls faults counted decimal decimalWidth widthFrom digits glyph ascii
 last-line = refl
+
+-- What stands around an answer.
+around : (joined (place (ascii "a.item") 12) ≡ ascii "a.item:12: ") × (joined (expectedTexts (ascii "ok -")) ≡ ascii " expected ok -")
+    × (joined (itemName (ascii "item one")) ≡ ascii " (item one)\n")
+unfolding joined place expectedTexts itemName counted decimal decimalWidth widthFrom digits glyph ascii
+around = (refl, refl, refl)
+
+-- The first words of `tick`, `at`, `stretch` and `listing`.
+heads : (joined (numbered (ascii "tick ") 70000) ≡ ascii "tick 70000") × (joined (stretch (Refused 12) 0) ≡ ascii "stretch no 12 span\n")
+    × (joined (listingHead 3) ≡ ascii "listing 3\n")
+unfolding joined numbered stretch stretched listingHead counted refusal refusalWord refusalWords decimal decimalWidth widthFrom digits glyph ascii
+heads = (refl, refl, refl)

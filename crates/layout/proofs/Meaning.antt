@@ -1,11 +1,13 @@
 -- Numbers and models survive being stored and loaded, and bytes that load are those that `store` writes.
-use Prim.Native.Nat.{ℕ, zero, suc, _+_, _-_, _*_, _/_, _%_, _≤_, _<_}
+use Prim.Native.Nat.{ℕ, zero, suc, _+_, _-_, _*_, _^_, _/_, _%_, _≤_, _<_}
 use native.Mathlib.Nat.{mul-zero}
 use native.Mathlib.Omega.{arith}
 use mathlib.Core.List.{List, [], _∷_, _++_, append-assoc}
-use mathlib.Core.Path.{_≡_, refl, sym, ap, _∙_}
-use lib.ListN.{length, take, drop, length-drop}
+use mathlib.Core.Path.{_≡_, refl, sym, ap, subst, _∙_}
+use lib.ListN.{length, getD, take, drop, length-drop}
 use lib.Seq.{take-at, drop-at, take-add, length-take-le}
+use mir.Syntax.{Width}
+use mir.Val.{Fits, bits}
 use Rattle.layout.specs.Number.{bound, bytesOf, value, allBytes, numbers}
 use Rattle.layout.specs.Fits.{Below, none, more}
 use Rattle.layout.proofs.Loops.{length-bytes}
@@ -63,3 +65,9 @@ pub length-numbers : (k n : ℕ) (l : List ℕ) → length (numbers k n l) ≡ n
 unfolding numbers
 length-numbers k zero l = refl
 length-numbers k (suc n) l = ap suc (length-numbers k n (drop k l))
+
+-- the elements of an array, each of its type's width
+pub below-fit :
+    (w : Width) (n : ℕ) (xs : List ℕ) → 2 ^ bits w ≡ n → ((i : ℕ) → Fits w (getD xs i 0)) → Below n xs
+below-fit w n [] e h = none
+below-fit w n (x ∷ xs) e h = more {x = x} {xs = xs} (subst (λ (m : ℕ). x < m) e (h 0 .fits)) (below-fit w n xs e (λ i. h (suc i)))

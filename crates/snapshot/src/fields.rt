@@ -209,7 +209,7 @@ pub fn double_of(m: Model) -> [u16; 18]
 }
 
 pub fn quadruple_of(c: Clock, f: Flight, t: Temperature) -> [u32; 33]
-    ensures { λ r. ⌜ r ≡ quadruple c f t ⌝ }
+    ensures { λ r. ⌜ (r ≡ quadruple c f t) × (length (f .ups) ≡ 7) × (length (f .downs) ≡ 7) × (length (t .ports) ≡ 4) ⌝ }
 {
     let e = f.schedule;
     let k = t.schedule;
@@ -254,7 +254,7 @@ pub fn quadruple_of(c: Clock, f: Flight, t: Temperature) -> [u32; 33]
 }
 
 pub fn octuple_of(f: Flight, t: Temperature) -> [u64; 5]
-    ensures { λ r. ⌜ r ≡ octuple f t ⌝ }
+    ensures { λ r. ⌜ (r ≡ octuple f t) × (length (t .sums) ≡ 4) ⌝ }
 {
     let s = t.sums;
     [f.sum, s[0], s[1], s[2], s[3]]

@@ -1,6 +1,7 @@
 // A model as 233 bytes at fixed places: to keep it in a file, or to hand it to another language.
 ghost use mathlib.Core.Path.{_≡_};
 ghost use lib.ListN.{length};
+ghost use Rattle.layout.specs.Fits.{Fits};
 ghost use Rattle.layout.specs.Layout.{flagsFit, formed, loaded, nothing, restored, stored};
 use device::Model;
 
@@ -62,10 +63,10 @@ pub fn load(bytes: &[u8]) -> Model
     no_model()
 }
 
-// The bytes of a model.
+// The bytes of a model. Its arrays and numbers have the lengths and ranges of their types, so that what is stored loads again.
 pub fn store(m: Model, bytes: &mut [u8])
     requires { ⌜ length (now bytes) ≡ 233 ⌝ }
-    ensures { λ r. ⌜ now (bytes .exit) ≡ stored m ⌝ }
+    ensures { λ r. ⌜ (now (bytes .exit) ≡ stored m) × Fits m ⌝ }
 {
     let s = fields::single_of(m);
     let c = m.clock;

@@ -3,7 +3,8 @@ ghost use mathlib.Core.Path.{_≡_};
 ghost use Prim.Native.Nat.{_+_, _<_, _≤_};
 ghost use lib.ListN.{length, take, drop};
 ghost use lib.Seq.{sets};
-ghost use Rattle.layout.specs.Number.{allBytes, bytesOf, numbers, value};
+ghost use Rattle.layout.specs.Number.{allBytes, bound, bytesOf, numbers, value};
+ghost use Rattle.layout.specs.Fits.{Below};
 
 fn byte(x: u8) -> u16
     ensures { λ r. ⌜ (r ≡ x) × (r < 256) ⌝ }
@@ -112,7 +113,7 @@ fn put64(bytes: &mut [u8], at: usize, x: u64)
 
 pub fn put_doubles(d: [u16; 18], bytes: &mut [u8])
     requires { ⌜ length (now bytes) ≡ 233 ⌝ }
-    ensures { λ r. ⌜ now (bytes .exit) ≡ sets (now (bytes .entry)) 25 (allBytes 2 d) ⌝ }
+    ensures { λ r. ⌜ (now (bytes .exit) ≡ sets (now (bytes .entry)) 25 (allBytes 2 d)) × Below (bound 2) d ⌝ }
 {
     let mut i = 0;
     while i < 18 {
@@ -123,7 +124,7 @@ pub fn put_doubles(d: [u16; 18], bytes: &mut [u8])
 
 pub fn put_quadruples(q: [u32; 33], bytes: &mut [u8])
     requires { ⌜ length (now bytes) ≡ 233 ⌝ }
-    ensures { λ r. ⌜ now (bytes .exit) ≡ sets (now (bytes .entry)) 61 (allBytes 4 q) ⌝ }
+    ensures { λ r. ⌜ (now (bytes .exit) ≡ sets (now (bytes .entry)) 61 (allBytes 4 q)) × Below (bound 4) q ⌝ }
 {
     let mut i = 0;
     while i < 33 {
@@ -134,7 +135,7 @@ pub fn put_quadruples(q: [u32; 33], bytes: &mut [u8])
 
 pub fn put_octuples(o: [u64; 5], bytes: &mut [u8])
     requires { ⌜ length (now bytes) ≡ 233 ⌝ }
-    ensures { λ r. ⌜ now (bytes .exit) ≡ sets (now (bytes .entry)) 193 (allBytes 8 o) ⌝ }
+    ensures { λ r. ⌜ (now (bytes .exit) ≡ sets (now (bytes .entry)) 193 (allBytes 8 o)) × Below (bound 8) o ⌝ }
 {
     let mut i = 0;
     while i < 5 {

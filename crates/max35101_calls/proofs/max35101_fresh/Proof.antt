@@ -19,7 +19,7 @@ same-length c = search needs
 returns : tie.Need-returns
 unfolding freshCode freshBytes
 returns c =
-    rw (eq-eqb _ _ (c .before .before .before .before .before .if1 .taken)) (refl, c .before .before .store .ensures ∙ ap stored (c .before .before .before .before .fresh .ensures))
+    rw (eq-eqb _ _ (c .before .before .before .before .before .if1 .taken)) (refl, c .before .before .store .ensures .0 ∙ ap stored (c .before .before .before .before .fresh .ensures))
 
 returns-2 : tie.Need-returns-2
 unfolding freshCode freshBytes

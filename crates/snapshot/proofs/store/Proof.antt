@@ -50,19 +50,31 @@ returns : tie.Need-returns
 unfolding stored
 returns c =
     let start = c .before .before .before .before .before .before .before .before .before .before .before .before .before .before .before .before .before .before .before .before .before .before .before .before .before .args in
+    let good = c .before .before .before .before .before .before .before .before .before .before .before .before .before .before .before .before .before .before .before .before .before .before .before .before .before .good in
     let s = c .before .before .before .before .before .before .before .before .before .before .before .before .before .before .before .before .before .before .before .before .before .before .before .single-of in
     let d = c .before .before .before .before .before .before .before .before .before .before .before .before .before .before .double-of in
     let q = c .before .before .before .before .before .before .before .before .before .quadruple-of in
     let o = c .before .before .before .before .octuple-of in
-    let first = c .before .before .before .before .before .before .before .before .before .before .before .before .before .before .before .before .before .copy .ensures .1 in
-    c .before .before .put-octuples .ensures
-    ∙ ap (λ (l : List ℕ). sets l 193 (allBytes 8 (o .result)))
-    (c .before .before .before .before .before .before .before .put-quadruples .ensures
-    ∙ ap (λ (l : List ℕ). sets l 61 (allBytes 4 (q .result)))
-    (c .before .before .before .before .before .before .before .before .before .before .before .before .put-doubles .ensures
-    ∙ ap (λ (l : List ℕ). sets l 25 (allBytes 2 (d .result))) (copied (now (start .bytes)) (s .result) (search needs) first)))
-    ∙ laid (now (start .bytes)) (s .result) (d .result) (q .result) (o .result) (c .before .before .before .before .before .before .before .before .before .before .before .before .before .before .before .before .before .before .before .before .before .before .before .before .before .pre) (search needs) (search needs) (search needs) (search needs)
-    ∙ rw (s .ensures, d .ensures, q .ensures, o .ensures)
+    let first = c .before .before .before .before .before .before .before .before .before .before .before .before .before .before .before .before .before .copy .ensures .1 in (
+      c .before .before .put-octuples .ensures .0
+          ∙ ap (λ (l : List ℕ). sets l 193 (allBytes 8 (o .result)))
+          (c .before .before .before .before .before .before .before .put-quadruples .ensures .0
+          ∙ ap (λ (l : List ℕ). sets l 61 (allBytes 4 (q .result)))
+          (c .before .before .before .before .before .before .before .before .before .before .before .before .put-doubles .ensures .0
+          ∙ ap (λ (l : List ℕ). sets l 25 (allBytes 2 (d .result))) (copied (now (start .bytes)) (s .result) (search needs) first)))
+          ∙ laid (now (start .bytes)) (s .result) (d .result) (q .result) (o .result) (c .before .before .before .before .before .before .before .before .before .before .before .before .before .before .before .before .before .before .before .before .before .before .before .before .before .pre) (search needs) (search needs) (search needs) (search needs)
+          ∙ rw (s .ensures, d .ensures, q .ensures .0, o .ensures .0),
+      record {
+        setup = search (needs, good);
+        ups = q .ensures .1;
+        downs = q .ensures .2;
+        sums = o .ensures .1;
+        ports = q .ensures .3;
+        doubles = rw (← d .ensures) (c .before .before .before .before .before .before .before .before .before .before .before .before .put-doubles .ensures .1);
+        quadruples = rw (← q .ensures .0) (c .before .before .before .before .before .before .before .put-quadruples .ensures .1);
+        octuples = rw (← o .ensures .0) (c .before .before .put-octuples .ensures .1);
+      },
+    )
 
 pub store-spec : {M : Type 1} → statement M
 store-spec =

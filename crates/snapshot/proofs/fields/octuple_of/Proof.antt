@@ -17,7 +17,7 @@ array-read-t15 : tie.Need-array-read-t15
 array-read-t15 c = search needs
 
 returns : tie.Need-returns
-returns c = octuple-parts _ _ (search needs)
+returns c = (octuple-parts _ _ (search needs), search needs)
 
 pub octuple-of-spec : {M : Type 1} → statement M
 octuple-of-spec =

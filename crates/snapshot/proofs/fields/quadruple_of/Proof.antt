@@ -61,9 +61,12 @@ array-read-t62 c = search needs
 
 returns : tie.Need-returns
 unfolding clockWords waits
-returns c =
-    let start = c .before .before .before .before .before .args in
-    quadruple-parts (start .c) (start .f) (start .t) (search (needs, c .before .before .before .before .before .good .1 .0)) (search (needs, c .before .before .before .before .before .good .1 .0)) (search (needs, c .before .before .before .before .before .good .1 .1 .0))
+returns c = (
+  quadruple-parts _ _ _ (search (needs, c .before .before .before .before .before .good .1 .0)) (search (needs, c .before .before .before .before .before .good .1 .0)) (search (needs, c .before .before .before .before .before .good .1 .1 .0)),
+  search (needs, c .before .before .before .before .before .good .1 .0),
+  search (needs, c .before .before .before .before .before .good .1 .0),
+  search (needs, c .before .before .before .before .before .good .1 .1 .0),
+)
 
 pub quadruple-of-spec : {M : Type 1} → statement M
 quadruple-of-spec =

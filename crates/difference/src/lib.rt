@@ -1,4 +1,5 @@
 // A difference as the registers hold it, and as a number with a sign.
+ghost use Rattle.difference.specs.Spread.{raised as Spread·raised, least, greatest, range, noRange, spreadOf};
 ghost use mathlib.Core.Path.{_≡_};
 ghost use Prim.Native.Nat.{_≤_};
 ghost use lib.IntN.{natAbs};
@@ -33,7 +34,9 @@ fn magnitude(x: i32) -> u32
 }
 
 // A number moved up by 2,147,483,648.
-fn raised(x: i32) -> u64 {
+fn raised(x: i32) -> u64
+    ensures { λ r. ⌜ r ≡ Spread·raised x ⌝ }
+{
     let n = magnitude(x) as u64;
     if x < 0 {
         2147483648 - n
@@ -42,24 +45,56 @@ fn raised(x: i32) -> u64 {
     }
 }
 
-// The largest less the smallest; 0 of none.
-pub fn spread(values: &[i32]) -> u64 {
-    let mut low = u64::MAX;
-    let mut high = 0;
-    let mut i = 0;
-    while i < values.len() {
-        let x = raised(values[i]);
-        low = smaller(low, x);
-        high = larger(high, x);
-        i += 1;
-    }
-    if low <= high { high - low } else { 0 }
+// The smallest and the largest of some raised differences.
+pub struct Range {
+    pub low: u64,
+    pub high: u64,
 }
 
-fn smaller(a: u64, b: u64) -> u64 {
+// The largest less the smallest; 0 of none.
+pub fn spread(values: &[i32]) -> u64
+    ensures { λ r. ⌜ r ≡ spreadOf (now (values .entry)) ⌝ }
+{
+    let range = range_of(values);
+    if range.low <= range.high {
+        range.high - range.low
+    } else {
+        0
+    }
+}
+
+fn range_of(values: &[i32]) -> Range
+    ensures { λ r. ⌜ r ≡ range (now (values .entry)) noRange ⌝ }
+{
+    let mut r = Range {
+        low: u64::MAX,
+        high: 0,
+    };
+    let mut i = 0;
+    while i < values.len() {
+        r = wider(r, raised(values[i]));
+        i += 1;
+    }
+    r
+}
+
+fn wider(r: Range, x: u64) -> Range
+    ensures { λ s. ⌜ s ≡ record { low = least (r .low) x; high = greatest (r .high) x } ⌝ }
+{
+    Range {
+        low: smaller(r.low, x),
+        high: larger(r.high, x),
+    }
+}
+
+fn smaller(a: u64, b: u64) -> u64
+    ensures { λ r. ⌜ r ≡ least a b ⌝ }
+{
     if a < b { a } else { b }
 }
 
-fn larger(a: u64, b: u64) -> u64 {
+fn larger(a: u64, b: u64) -> u64
+    ensures { λ r. ⌜ r ≡ greatest a b ⌝ }
+{
     if a < b { b } else { a }
 }

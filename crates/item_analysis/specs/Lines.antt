@@ -1,20 +1,26 @@
 -- The lines on what an item keeps beside its model, in the order of the format's table. What stands in quotation marks is the
 -- format's. Assumes nothing.
-use Prim.Native.Nat.{ℕ}
-use mathlib.Core.Bool.{cond}
+use Prim.Native.Nat.{ℕ, _+_, min}
+use mathlib.Core.Bool.{Bool, cond}
 use mathlib.Core.List.{List, [], _∷_, _++_}
-use lib.Dec.{eqb, ltb}
+use lib.Dec.{eqb, ltb, leb}
 use lib.IntN.{ℤ}
-use lib.ListN.{length, getD, set, take}
+use lib.ListN.{length, getD, set, take, drop}
 use mathlib.Core.List.{map}
 use Rattle.device.specs.declared.Model.{Model}
 use Rattle.thermometer.specs.declared.InDegrees.{InDegrees}
 use Rattle.thermometer.specs.declared.InDegrees.the-variants.{Thousandths, Refused}
 use Rattle.thermometer.specs.Degrees.{degrees as degreesPt1000, degreesBy}
 use Rattle.difference.specs.Difference.{joinedWord, signedOf}
+use Rattle.difference.specs.Spread.{spreadOf}
+use Rattle.listing.specs.declared.Listed.{Listed}
+use Rattle.listing.specs.declared.Width.{Width}
+use Rattle.listing.specs.Listing.{captureDigits, Outcome, listing}
+use Rattle.quietest.specs.declared.Place.{Place}
+use Rattle.quietest.specs.Quietest.{quietestPlace}
 use Rattle.wording.specs.Text.{ascii}
-use Rattle.wording.specs.Wording.{Texts, lineFeed, probe, degrees, refused, difference}
-use Rattle.item_state.specs.Log.{Log, said, called}
+use Rattle.wording.specs.Wording.{Texts, lineFeed, probe, degrees, refused, difference, listingHead, quietest}
+use Rattle.item_state.specs.Log.{Log, put, said, counted, called}
 use Rattle.item_state.specs.Told.{readWord}
 use Rattle.item_analysis.specs.Kept.{Kept, keptEach}
 
@@ -79,3 +85,39 @@ tofDiff m = joinedWord (readWord m 0xE2) (readWord m 0xE3)
 
 unfoldable pub recordWords : Model → List ℕ → ℕ → List ℕ
 recordWords m numbers n = cond (eqb n 0) (tofDiff m ∷ []) (take n numbers)
+
+-- ---- `listing`
+
+-- "`old` names the two-digit form"
+unfoldable pub widthOf : Bool → Width
+widthOf old = cond old Width.Two Width.Eight
+
+-- the lines from a place of the buffer on; number 21 where the buffer has no such place
+unfoldable pub listedAt : ℕ → List ℤ → ℕ → List ℕ → ℕ → Outcome
+listedAt d values first l at =
+    cond (leb at (length l))
+    (let o = listing d values first (drop at l) in record { answer = o .answer; bytes = take at l ++ o .bytes })
+    record { answer = Listed.Refused 21; bytes = l }
+
+unfoldable pub listingTold : Listed → ℕ → Log → Log
+listingTold (Listed.Written n) at l = record { counts = counted (l .counts) 0 (min (at + n) 18446744073709551615); answers = l .answers }
+listingTold (Listed.Refused number) at l = called 1 (refused (ascii "listing") number) l
+
+-- "`listing K`, then the K lines, or `listing no 20 capture number`": the lines stand behind their head; a refusal takes its place
+unfoldable pub listingLine : Bool → ℕ → List ℤ → Log → Log
+listingLine old first kept l =
+    let used = getD (l .counts) 10 0 in
+    let head = put (listingHead used) l in
+    let o = listedAt (captureDigits (widthOf old)) (take used kept) first (head .bytes) (head .next) in
+    listingTold (o .answer) (head .next) record { counts = l .counts; answers = o .bytes }
+
+-- ---- `quietest`
+
+-- "`quietest START SPREAD`, START from 0, or `quietest no 18 width`"
+unfoldable pub quietestTold : Place → List ℤ → ℕ → Log → Log
+quietestTold (Place.At start) values width l = called 0 (quietest start (spreadOf (take width (drop start values)))) l
+quietestTold (Place.Refused number) values width l = called 1 (refused (ascii "quietest") number) l
+
+-- "the quietest run of W neighbours in the record"
+unfoldable pub quietestLine : ℕ → List ℤ → Log → Log
+quietestLine width kept l = let values = take (getD (l .counts) 10 0) kept in quietestTold (quietestPlace values width) values width l

@@ -1,8 +1,9 @@
--- `item_analysis::questions::first_of` is safe.
+-- `item_analysis::questions::first_of` meets its contract.
 -- Assumes nothing.
-use mathlib.Core.Path.{sym}
-use lib.Seq.{length-take-le}
 use borrow.Author.Needs.{needs}
+use mathlib.Core.Path.{sym}
+use native.Mathlib.Omega.{arith}
+use lib.Seq.{length-take-le, take-all}
 use Rattle.item_analysis.proofs.questions.first_of.Statement.{statement}
 use Rattle.item_analysis.proofs.questions.first_of.Tie as tie
 
@@ -13,7 +14,7 @@ returns : tie.Need-returns
 returns c = search needs
 
 returns-2 : tie.Need-returns-2
-returns-2 c = search needs
+returns-2 c = sym (take-all (c .before .args .n) (c .before .args .kept .now) (omega arith))
 
 pub first-of-spec : {M : Type 1} → statement M
 first-of-spec = tie.close (tie.spec slice-aggregate-result returns returns-2)

@@ -1,0 +1,17 @@
+-- `difference::larger` meets its contract.
+-- Assumes nothing.
+use Rattle.difference.proofs.larger.Statement.{statement}
+use Rattle.difference.specs.Spread.{greatest}
+use borrow.Author.Tests.{lt-ltb, le-ltb}
+use Rattle.difference.proofs.larger.Tie as tie
+
+returns : tie.Need-returns
+unfolding greatest
+returns c = rw (lt-ltb _ _ (c .if1 .taken))
+
+returns-2 : tie.Need-returns-2
+unfolding greatest
+returns-2 c = rw (le-ltb _ _ (c .if1 .left))
+
+pub larger-spec : {M : Type 1} → statement M
+larger-spec = tie.close (tie.spec returns returns-2)

@@ -18,6 +18,7 @@ use Rattle.listing.specs.declared.Width.{Width}
 use Rattle.listing.specs.Listing.{captureDigits, Outcome, listing}
 use Rattle.quietest.specs.declared.Place.{Place}
 use Rattle.quietest.specs.Quietest.{quietestPlace}
+use Rattle.line.specs.declared.Content.{Content}
 use Rattle.wording.specs.Text.{ascii}
 use Rattle.wording.specs.Wording.{Texts, lineFeed, probe, degrees, refused, difference, listingHead, quietest}
 use Rattle.item_state.specs.Log.{Log, put, said, counted, called}
@@ -121,3 +122,48 @@ quietestTold (Place.Refused number) values width l = called 1 (refused (ascii "q
 -- "the quietest run of W neighbours in the record"
 unfoldable pub quietestLine : ℕ → List ℤ → Log → Log
 quietestLine width kept l = let values = take (getD (l .counts) 10 0) kept in quietestTold (quietestPlace values width) values width l
+
+-- ---- every line
+
+-- What an item keeps beside its model.
+pub record ItemKept : Type 0 where
+  pub differences : List ℤ
+  pub probes : List ℕ
+  pub log : Log
+
+abbrev pub withLog : ItemKept → Log → ItemKept
+withLog s l = record { differences = s .differences; probes = s .probes; log = l }
+
+abbrev pub withProbes : ItemKept → WithProbes → ItemKept
+withProbes s p = record { differences = s .differences; probes = p .probes; log = p .log }
+
+abbrev pub withRecord : ItemKept → WithRecord → ItemKept
+withRecord s r = record { differences = r .differences; probes = s .probes; log = r .log }
+
+-- What such a line leaves; every other leaves all as it is. The line's numbers stand in a buffer.
+unfoldable pub analysisLine : Content → List ℕ → Model → ItemKept → ItemKept
+analysisLine Content.Nothing numbers m s = s
+analysisLine Content.TooLong numbers m s = s
+analysisLine Content.UnknownWord numbers m s = s
+analysisLine Content.BadNumber numbers m s = s
+analysisLine Content.WrongCount numbers m s = s
+analysisLine Content.Item numbers m s = s
+analysisLine (Content.Bus n) numbers m s = s
+analysisLine (Content.BusOut size n) numbers m s = s
+analysisLine (Content.Tick n) numbers m s = s
+analysisLine (Content.Flight up down) numbers m s = s
+analysisLine (Content.Temperature n) numbers m s = s
+analysisLine Content.Int numbers m s = s
+analysisLine Content.Awaited numbers m s = s
+analysisLine Content.Regs numbers m s = s
+analysisLine (Content.Expect a n) numbers m s = s
+analysisLine Content.Show numbers m s = s
+analysisLine (Content.Set a n) numbers m s = s
+analysisLine (Content.At t) numbers m s = s
+analysisLine (Content.Stretch n) numbers m s = s
+analysisLine Content.Frames numbers m s = s
+analysisLine (Content.Probe n) numbers m s = withProbes s (probeLine (take n numbers) record { probes = s .probes; log = s .log })
+analysisLine Content.Degrees numbers m s = withLog s (degreesLine numbers (s .probes) (s .log))
+analysisLine (Content.Record n) numbers m s = withRecord s (recordLine (recordWords m numbers n) record { differences = s .differences; log = s .log })
+analysisLine (Content.Listing old first) numbers m s = withLog s (listingLine old first (s .differences) (s .log))
+analysisLine (Content.Quietest n) numbers m s = withLog s (quietestLine n (s .differences) (s .log))

@@ -3,6 +3,8 @@ mod differences;
 mod questions;
 mod table;
 
+ghost use mathlib.Core.Path.{_≡_};
+ghost use Rattle.item_analysis.specs.Lines.{analysisLine};
 use device::Model;
 use line::Content;
 
@@ -15,7 +17,9 @@ pub fn answer_analysis(
     kept: &mut [i32],
     probes: &mut [u32],
     answers: &mut [u8],
-) {
+)
+    ensures { λ _. ⌜ record { differences = now (kept .exit); probes = now (probes .exit); log = record { counts = now (counts .exit); answers = now (answers .exit) } } ≡ analysisLine content (now (numbers .entry)) m record { differences = now (kept .entry); probes = now (probes .entry); log = record { counts = now (counts .entry); answers = now (answers .entry) } } ⌝ }
+{
     match content {
         Content::Probe(n) => table::probe(numbers, n, probes, counts, answers),
         Content::Degrees => table::degrees(numbers, probes, counts, answers),

@@ -1,19 +1,22 @@
 -- The answers of the lines that ask, in the order of the format's table. What stands in quotation marks is the format's. Assumes
 -- nothing.
 use Prim.Native.Nat.{ℕ, zero, suc, _+_, _%_}
-use mathlib.Core.Bool.{cond}
+use mathlib.Core.Bool.{Bool, true, false, cond}
 use mathlib.Core.List.{List, [], _∷_, _++_}
 use mathlib.Core.Path.{_≡_}
 use lib.Dec.{eqb}
-use lib.ListN.{length, getD, set}
+use lib.ListN.{length, getD, set, take}
 use Rattle.numeral.specs.Digit.{digits}
 use Rattle.numeral.specs.Place.{Placed, putEach}
 use Rattle.numeral.specs.Print.{decimal}
 use Rattle.device.specs.declared.Model.{Model}
+use Rattle.device.specs.Model.{isSound}
 use Rattle.device.specs.Question.{interruptPending, awaitedTold}
+use Rattle.line.specs.declared.Content.{Content}
 use Rattle.wording.specs.Text.{ascii}
-use Rattle.wording.specs.Wording.{Texts, lineFeed, head, pair}
-use Rattle.item_state.specs.Log.{added}
+use Rattle.setup_frames.specs.Frames.{frames}
+use Rattle.wording.specs.Wording.{Texts, lineFeed, head, pair, refused, counted as Wording·counted}
+use Rattle.item_state.specs.Log.{Log, added, said, called}
 use Rattle.item_state.specs.Told.{toldValue, readWord}
 
 -- "`int yes` or `int no`"
@@ -75,3 +78,88 @@ told m a ws counts answers = putEach answers (getD counts 0 0) (expectation m a 
 pub record Expects (m : Model) (a : ℕ) (ws counts answers counts′ answers′ : List ℕ) : Type 0 where
   pub counted : counts′ ≡ added (added (set counts 0 (told m a ws counts answers .next)) 7 (length ws)) 8 (differing m a ws)
   pub said : answers′ ≡ told m a ws counts answers .bytes
+
+-- ---- `frames`
+
+-- "`frame B ..`, the bytes of each": a blank and two digits a byte
+unfoldable pub byteTexts : List ℕ → Texts
+byteTexts [] = []
+byteTexts (b ∷ bs) = ascii " " ∷ digits 16 2 b ∷ byteTexts bs
+
+unfoldable pub frameTexts : List ℕ → Texts
+frameTexts f = ascii "frame" ∷ (byteTexts f ++ (lineFeed ∷ []))
+
+unfoldable pub frameLines : List (List ℕ) → Texts
+frameLines [] = []
+frameLines (f ∷ fs) = frameTexts f ++ frameLines fs
+
+-- "`frames K`, then K lines"
+unfoldable pub framesTold : ℕ → List (List ℕ) → Log → Log
+framesTold k fs l = called 0 (ascii "frames " ∷ (Wording·counted k lineFeed ++ frameLines fs)) l
+
+-- "the model's set-up as bus frames"; an unsound model, which no item has, gets number 0
+unfoldable pub framesLine : Model → Log → Log
+framesLine m l = cond (isSound m) (framesTold (length (frames (m .setup))) (frames (m .setup)) l) (called 1 (refused (ascii "frames") 0) l)
+
+-- ---- every line
+
+-- What `expect` leaves, as a log.
+unfoldable pub expectLine : Model → ℕ → List ℕ → Log → Log
+expectLine m a ws l =
+    let t = told m a ws (l .counts) (l .answers) in
+    record { counts = added (added (set (l .counts) 0 (t .next)) 7 (length ws)) 8 (differing m a ws); answers = t .bytes }
+
+-- What a line that asks leaves; every other leaves all as it is, and of `show`, whose page is the program's own, nothing is said.
+unfoldable pub questionLine : Content → List ℕ → Model → Log → Log
+questionLine Content.Nothing numbers m l = l
+questionLine Content.TooLong numbers m l = l
+questionLine Content.UnknownWord numbers m l = l
+questionLine Content.BadNumber numbers m l = l
+questionLine Content.WrongCount numbers m l = l
+questionLine Content.Item numbers m l = l
+questionLine (Content.Bus n) numbers m l = l
+questionLine (Content.BusOut size n) numbers m l = l
+questionLine (Content.Tick n) numbers m l = l
+questionLine (Content.Flight up down) numbers m l = l
+questionLine (Content.Temperature n) numbers m l = l
+questionLine Content.Int numbers m l = said (interrupt m) l
+questionLine Content.Awaited numbers m l = said (awaited m) l
+questionLine Content.Regs numbers m l = said (registers m) l
+questionLine (Content.Expect a n) numbers m l = expectLine m a (take n numbers) l
+questionLine Content.Show numbers m l = l
+questionLine (Content.Set a n) numbers m l = l
+questionLine (Content.At t) numbers m l = l
+questionLine (Content.Stretch n) numbers m l = l
+questionLine Content.Frames numbers m l = framesLine m l
+questionLine (Content.Probe n) numbers m l = l
+questionLine Content.Degrees numbers m l = l
+questionLine (Content.Record n) numbers m l = l
+questionLine (Content.Listing old first) numbers m l = l
+questionLine (Content.Quietest n) numbers m l = l
+
+unfoldable pub isShow : Content → Bool
+isShow Content.Nothing = false
+isShow Content.TooLong = false
+isShow Content.UnknownWord = false
+isShow Content.BadNumber = false
+isShow Content.WrongCount = false
+isShow Content.Item = false
+isShow (Content.Bus n) = false
+isShow (Content.BusOut size n) = false
+isShow (Content.Tick n) = false
+isShow (Content.Flight up down) = false
+isShow (Content.Temperature n) = false
+isShow Content.Int = false
+isShow Content.Awaited = false
+isShow Content.Regs = false
+isShow (Content.Expect a n) = false
+isShow Content.Show = true
+isShow (Content.Set a n) = false
+isShow (Content.At t) = false
+isShow (Content.Stretch n) = false
+isShow Content.Frames = false
+isShow (Content.Probe n) = false
+isShow Content.Degrees = false
+isShow (Content.Record n) = false
+isShow (Content.Listing old first) = false
+isShow (Content.Quietest n) = false

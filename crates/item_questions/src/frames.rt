@@ -1,20 +1,26 @@
 // The line `frames`.
+ghost use mathlib.Core.Path.{_≡_};
+ghost use lib.ListN.{length, take};
+ghost use Rattle.wording.specs.Text.{PutEach};
+ghost use Rattle.item_questions.specs.Answers.{byteTexts, frameTexts, frameLines, framesTold, framesLine};
+ghost use Rattle.item_questions.specs.Cut.{cut};
 use device::Model;
 use item_state::counts::USED;
 use item_state::counts::count;
+use item_state::counts::more;
+use item_state::output::bytes_from;
+use item_state::output::first_bytes;
+use item_state::output::first_words;
 use setup_frames::Framed;
 
-pub fn frames(m: Model, counts: &mut [usize; 22], answers: &mut [u8]) {
+pub fn frames(m: Model, counts: &mut [usize; 22], answers: &mut [u8])
+    ensures { λ _. ⌜ record { counts = now (counts .exit); answers = now (answers .exit) } ≡ framesLine m record { counts = now (counts .entry); answers = now (answers .entry) } ⌝ }
+{
     let mut bytes = [0u8; 33];
     let mut lengths = [0u32; 8];
     let framed = setup_frames::setup_frames(m, &mut bytes, &mut lengths);
     match framed {
-        Framed::Frames(_, n) => {
-            let a = numeral::put_text(answers, counts[USED], b"frames ");
-            let b = wording::end::put_count(answers, a, n as u64, b"\n");
-            let used = put_frames(answers, b, &bytes, &lengths, n);
-            count(counts, 0, used);
-        }
+        Framed::Frames(_, n) => tell(&bytes, first_words(&lengths, n), n, counts, answers),
         Framed::Refused(number) => {
             let used = wording::kept::put_refused(answers, counts[USED], b"frames", number);
             count(counts, 1, used);
@@ -22,55 +28,63 @@ pub fn frames(m: Model, counts: &mut [usize; 22], answers: &mut [u8]) {
     }
 }
 
-// The first n frames, each as a line.
-fn put_frames(answers: &mut [u8], at: usize, bytes: &[u8], lengths: &[u32], n: usize) -> usize {
+// So many frames, which stand one behind the other, each with a length of its own.
+fn tell(bytes: &[u8], lengths: &[u32], n: usize, counts: &mut [usize; 22], answers: &mut [u8])
+    ensures { λ _. ⌜ record { counts = now (counts .exit); answers = now (answers .exit) } ≡ framesTold n (cut (now (bytes .entry)) (now (lengths .entry))) record { counts = now (counts .entry); answers = now (answers .entry) } ⌝ }
+{
+    let a = numeral::put_text(answers, counts[USED], b"frames ");
+    let b = wording::end::put_count(answers, a, n as u64, b"\n");
+    let used = put_frames(answers, b, bytes, lengths);
+    count(counts, 0, used);
+}
+
+// Each frame as a line.
+fn put_frames(answers: &mut [u8], at: usize, bytes: &[u8], lengths: &[u32]) -> usize
+    ensures { λ r. ⌜ PutEach (now (answers .entry)) at (frameLines (cut (now (bytes .entry)) (now (lengths .entry)))) r (now (answers .exit)) ⌝ }
+{
     let mut place = at;
     let mut from = 0;
     let mut i = 0;
-    while i < n {
-        let count = length_at(lengths, i);
-        place = put_frame(answers, place, bytes, from, count);
-        from = std::num::wrapping_add_u32(from, count);
+    while i < lengths.len() {
+        let n = size(lengths[i]);
+        place = put_frame(answers, place, first_bytes(bytes_from(bytes, from), n));
+        from = more(from, n);
         i += 1;
     }
     place
 }
 
-// A length, or 0 past the end.
-fn length_at(lengths: &[u32], i: usize) -> u32 {
-    if i < lengths.len() { lengths[i] } else { 0 }
+fn size(n: u32) -> usize
+    ensures { λ r. ⌜ r ≡ n ⌝ }
+{
+    n as usize
 }
 
 // `frame B ..`
-fn put_frame(answers: &mut [u8], at: usize, bytes: &[u8], from: u32, count: u32) -> usize {
+fn put_frame(answers: &mut [u8], at: usize, frame: &[u8]) -> usize
+    ensures { λ r. ⌜ PutEach (now (answers .entry)) at (frameTexts (now (frame .entry))) r (now (answers .exit)) ⌝ }
+{
     let a = numeral::put_text(answers, at, b"frame");
-    let b = put_bytes(answers, a, bytes, from, count);
+    let b = put_bytes(answers, a, frame);
     numeral::put_text(answers, b, b"\n")
 }
 
-// A blank and two digits for each of so many bytes from a place on.
-fn put_bytes(answers: &mut [u8], at: usize, bytes: &[u8], from: u32, count: u32) -> usize {
+// A blank and two digits for each byte.
+fn put_bytes(answers: &mut [u8], at: usize, bytes: &[u8]) -> usize
+    ensures { λ r. ⌜ PutEach (now (answers .entry)) at (byteTexts (now (bytes .entry))) r (now (answers .exit)) ⌝ }
+{
     let mut place = at;
-    let mut i: u32 = 0;
-    while i < count {
-        let a = numeral::put_text(answers, place, b" ");
-        place = numeral::put_hex(
-            answers,
-            a,
-            2,
-            byte_at(bytes, std::num::wrapping_add_u32(from, i)),
-        );
+    let mut i = 0;
+    while i < bytes.len() {
+        let blank = numeral::put_text(answers, place, b" ");
+        place = numeral::put_hex(answers, blank, 2, wide(bytes[i]));
         i += 1;
     }
     place
 }
 
-// A byte, or 0 past the end.
-fn byte_at(bytes: &[u8], i: u32) -> u32 {
-    let at = i as usize;
-    if at < bytes.len() { wide(bytes[at]) } else { 0 }
-}
-
-fn wide(b: u8) -> u32 {
+fn wide(b: u8) -> u32
+    ensures { λ r. ⌜ r ≡ b ⌝ }
+{
     b as u32
 }

@@ -1,20 +1,24 @@
--- `item_questions::frames::put_bytes` is safe and ends.
+-- `item_questions::frames::put_bytes` meets its contract: a byte more in each turn.
 -- Assumes nothing.
-use borrow.Author.Needs.{needs}
-use Prim.Native.Nat.{_-_, _≤_}
-use mathlib.Core.Path.{_≡_}
-use lib.ListN.{length}
 use Rattle.item_questions.proofs.frames.put_bytes.Statement.{statement}
+use Prim.Native.Nat.{_-_}
+use mathlib.Core.Path.{_≡_, refl}
+use lib.ListN.{length, drop}
+use Rattle.numeral.specs.Place.{putEach}
+use Rattle.wording.specs.Text.{ascii}
+use Rattle.item_questions.specs.Answers.{byteTexts}
+use Rattle.item_questions.proofs.FrameSteps.{bytes-on, bytes-end}
+use borrow.Author.Needs.{needs}
 use Rattle.item_questions.proofs.frames.put_bytes.Tie as tie
 
 abbrev Inv-loop : tie.InvT-loop
-Inv-loop answers₀ at bytes from count place₀ i₀ t9 answers place i = (length answers ≡ length answers₀)
+Inv-loop answers₀ at bytes place₀ i₀ t7 answers place i = (length answers ≡ length answers₀) × (putEach answers place (byteTexts (drop i bytes)) ≡ putEach answers₀ place₀ (byteTexts bytes))
 
 abbrev μ-loop : tie.MeasureT-loop
-μ-loop answers₀ at bytes from count place₀ i₀ t9 answers place i = count - i
+μ-loop answers₀ at bytes place₀ i₀ t7 answers place i = length bytes - i
 
 loop-holds : tie.Need-loop-holds Inv-loop μ-loop
-loop-holds c = search needs
+loop-holds c = (refl, refl)
 
 slice-aggregate-put-text : tie.Need-slice-aggregate-put-text Inv-loop μ-loop
 slice-aggregate-put-text c = search needs
@@ -22,11 +26,11 @@ slice-aggregate-put-text c = search needs
 put-text-requires : tie.Need-put-text-requires Inv-loop μ-loop
 put-text-requires c κs = search needs
 
-wrapping-add-u32-requires : tie.Need-wrapping-add-u32-requires Inv-loop μ-loop
-wrapping-add-u32-requires c κs = search needs
+shared-slice-read-wide : tie.Need-shared-slice-read-wide Inv-loop μ-loop
+shared-slice-read-wide c = search needs
 
-byte-at-requires : tie.Need-byte-at-requires Inv-loop μ-loop
-byte-at-requires c κs = search needs
+wide-requires : tie.Need-wide-requires Inv-loop μ-loop
+wide-requires c κs = search needs
 
 put-hex-requires : tie.Need-put-hex-requires Inv-loop μ-loop
 put-hex-requires c κs = search needs
@@ -38,13 +42,14 @@ loop-less : tie.Need-loop-less Inv-loop μ-loop
 loop-less c = search needs
 
 loop-again : tie.Need-loop-again Inv-loop μ-loop
-loop-again c = search needs
+unfolding ascii
+loop-again c = (search needs, bytes-on (c .before .before .before .before .before .before .before .before .before .before .before .before .before .before .before .args .bytes .now) (c .before .before .before .before .before .before .before .before .before .before .before .before .loop .i) (c .before .before .before .before .before .before .before .before .before .before .before .loop-test .taken) (c .before .before .before .before .before .before .before .before .put-text .ensures) (rw (← c .before .before .before .wide .ensures) (c .before .before .put-hex .ensures)) (c .before .before .before .before .before .before .before .before .before .before .before .before .loop .inv .1))
 
 same-length : tie.Need-same-length Inv-loop μ-loop
 same-length c = search needs
 
 returns : tie.Need-returns Inv-loop μ-loop
-returns c = search needs
+returns c = bytes-end (c .before .before .before .before .args .bytes .now) (c .before .loop .i) (c .loop-test .left) (c .before .loop .inv .1)
 
 pub put-bytes-spec : {M : Type 1} → statement M
 put-bytes-spec =
@@ -55,8 +60,8 @@ put-bytes-spec =
     loop-holds
     slice-aggregate-put-text
     put-text-requires
-    wrapping-add-u32-requires
-    byte-at-requires
+    shared-slice-read-wide
+    wide-requires
     put-hex-requires
     add-i
     loop-less

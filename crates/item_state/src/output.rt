@@ -16,15 +16,6 @@ pub fn first_bytes(bytes: &[u8], n: usize) -> &[u8]
     if n <= bytes.len() { &bytes[..n] } else { bytes }
 }
 
-// The first n places of a buffer, to be written; all of it where it has fewer.
-pub fn first_places(bytes: &mut [u8], n: usize) -> &mut [u8] {
-    if n <= bytes.len() {
-        &mut bytes[..n]
-    } else {
-        bytes
-    }
-}
-
 // The bytes from the place n on; none where it has fewer.
 pub fn bytes_from(bytes: &[u8], n: usize) -> &[u8]
     ensures { λ r. ⌜ now r ≡ drop n (now (bytes .entry)) ⌝ }

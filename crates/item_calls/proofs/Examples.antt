@@ -10,7 +10,8 @@ use Rattle.device.specs.declared.StretchReport.{StretchReport}
 use Rattle.device.specs.declared.Answer.the-variants.{Refused, Accepted, Stretched}
 use Rattle.wording.specs.Text.{ascii}
 use Rattle.wording.specs.Wording.{tickReports, nextNamed, sooner, named, laterNamed, reportAt}
-use Rattle.item_state.specs.Log.{added}
+use Rattle.device.specs.Reply.{numberIn}
+use Rattle.item_state.specs.Log.{added, refusals}
 use Rattle.item_calls.specs.Buffer.{bufferSize}
 use Rattle.item_calls.specs.Lines.{itemCounts, startMoment, moved, movedBy, writeBytes, wordBytes, stretchReports}
 
@@ -44,7 +45,7 @@ a-start = refl
 a-stretch : (f t : StretchReport)
     → (movedBy (Stretched f t) 16384 counts ≡ 0 ∷ 1 ∷ 2 ∷ 3 ∷ 4 ∷ 5 ∷ 6 ∷ 7 ∷ 8 ∷ 16393 ∷ 10 ∷ 11 ∷ 12 ∷ [])
     × (movedBy (Refused 12) 16384 counts ≡ counts)
-unfolding movedBy moved added
+unfolding movedBy moved added refusals numberIn
 a-stretch f t = (refl, refl)
 
 -- With 16,384 ticks before it, a stretch that starts a flight in its 5th tick tells ` started-flight@16389`.

@@ -170,12 +170,7 @@ atEnd t m l = timeEnd (atHead t) (t - passedAt t l) (passedAt t l) m (atLog t l)
 
 -- only an accepted stretch moves the count
 unfoldable pub movedBy : Answer → ℕ → List ℕ → List ℕ
-movedBy (Refused number) n counts = counts
-movedBy (Accepted flight temperature) n counts = moved n counts
-movedBy (Ticked flight temperature) n counts = moved n counts
-movedBy (Stretched flight temperature) n counts = moved n counts
-movedBy Good n counts = moved n counts
-movedBy Failed n counts = moved n counts
+movedBy answer n counts = cond (eqb (refusals answer) 0) (moved n counts) counts
 
 -- "one stretch of N ticks"
 unfoldable pub stretchLine : ℕ → Model → Log → Replayed

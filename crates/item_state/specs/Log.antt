@@ -1,10 +1,10 @@
 -- What a replay keeps from line to line beside the model: its counts, and the answers that are not written yet. Assumes nothing.
 use Prim.Native.Nat.{ℕ, _+_, min}
 use mathlib.Core.List.{List}
-use lib.ListN.{getD, set}
+use lib.ListN.{length, getD, set}
 use Rattle.numeral.specs.Place.{Placed, putEach}
 use Rattle.device.specs.declared.Answer.{Answer}
-use Rattle.device.specs.declared.Answer.the-variants.{Refused, Accepted, Ticked, Stretched, Good, Failed}
+use Rattle.device.specs.Reply.{numberIn}
 
 -- The counts, a number in each of 22 places, and the buffer that answers are put into.
 pub record Log : Type 0 where
@@ -31,14 +31,9 @@ counted counts refused used = set (added (added counts 3 1) 4 refused) 0 used
 unfoldable pub called : ℕ → List (List ℕ) → Log → Log
 called refused texts l = record { counts = counted (l .counts) refused (put texts l .next); answers = put texts l .bytes }
 
--- 1 for an answer `no`
+-- 1 for an answer `no`, which has a number
 unfoldable pub refusals : Answer → ℕ
-refusals (Refused number) = 1
-refusals (Accepted flight temperature) = 0
-refusals (Ticked flight temperature) = 0
-refusals (Stretched flight temperature) = 0
-refusals Good = 0
-refusals Failed = 0
+refusals answer = length (numberIn answer)
 
 -- An answer that ends here at the latest stands in the buffer whole; the start of a longer one may have been written before its end.
 abbrev pub longest : ℕ

@@ -10,12 +10,13 @@ use mathlib.Core.List.{List, [], _∷_}
 use Rattle.device.specs.declared.Answer.{Answer}
 use Rattle.device.specs.declared.Answer.the-variants.{Refused, Accepted, Ticked, Stretched, Good, Failed}
 use Rattle.item_calls.specs.Lines.{moved, movedBy}
-use Rattle.item_state.specs.Log.{added}
+use Rattle.device.specs.Reply.{numberIn}
+use Rattle.item_state.specs.Log.{added, refusals}
 use Rattle.item_calls.proofs.ticks.move_by.Statement.{statement}
 use Rattle.item_calls.proofs.ticks.move_by.Tie as tie
 
 others : (a : Answer) (n : ℕ) (l : List ℕ) {l′ : List ℕ} → OneOf (1 ∷ 2 ∷ 3 ∷ 4 ∷ 5 ∷ []) (tagOf the-type a) → l′ ≡ moved n l → l′ ≡ movedBy a n l
-unfolding movedBy
+unfolding movedBy refusals numberIn
 others (Refused number) n l h e = absurd (miss (1 ∷ 2 ∷ 3 ∷ 4 ∷ 5 ∷ []) 0 tt h)
 others (Accepted f t) n l h e = e
 others (Ticked f t) n l h e = e
@@ -36,7 +37,7 @@ element-write-counts : tie.Need-element-write-counts
 element-write-counts c = search needs
 
 returns : tie.Need-returns
-unfolding movedBy
+unfolding movedBy refusals numberIn
 returns c = rw (c .enum-told .given .1)
 
 returns-2 : tie.Need-returns-2

@@ -4,6 +4,7 @@ use borrow.Author.Needs.{needs}
 use types.Run.{OneOf, miss}
 use denote.Enum.Declared.{tagOf}
 use Rattle.device.proofs.Answer.{the-type}
+use Rattle.device.specs.Reply.{numberIn}
 use Rattle.item_state.specs.Log.{refusals}
 use mathlib.Core.Path.{_≡_, refl}
 use Prim.Native.Nat.{ℕ}
@@ -14,7 +15,7 @@ use Rattle.item_state.proofs.counts.refusals.Statement.{statement}
 use Rattle.item_state.proofs.counts.refusals.Tie as tie
 
 others : (a : Answer) → OneOf (1 ∷ 2 ∷ 3 ∷ 4 ∷ 5 ∷ []) (tagOf the-type a) → 0 ≡ refusals a
-unfolding refusals
+unfolding refusals numberIn
 others (Refused n) h = absurd (miss (1 ∷ 2 ∷ 3 ∷ 4 ∷ 5 ∷ []) 0 tt h)
 others (Accepted f t) h = refl
 others (Ticked f t) h = refl
@@ -26,7 +27,7 @@ enum-told : tie.Need-enum-told
 enum-told c = search needs
 
 returns : tie.Need-returns
-unfolding refusals
+unfolding refusals numberIn
 returns c = rw (c .enum-told .given .1)
 
 returns-2 : tie.Need-returns-2

@@ -1,7 +1,7 @@
 -- The answers of the lines that ask, in the order of the format's table. What stands in quotation marks is the format's. Assumes
 -- nothing.
 use Prim.Native.Nat.{ℕ, zero, suc, _+_, _%_}
-use mathlib.Core.Bool.{Bool, true, false, cond}
+use mathlib.Core.Bool.{cond}
 use mathlib.Core.List.{List, [], _∷_, _++_}
 use mathlib.Core.Path.{_≡_}
 use lib.Dec.{eqb}
@@ -15,6 +15,7 @@ use Rattle.device.specs.Question.{interruptPending, awaitedTold}
 use Rattle.line.specs.declared.Content.{Content}
 use Rattle.wording.specs.Text.{ascii}
 use Rattle.setup_frames.specs.Frames.{frames}
+use Rattle.show.specs.Page.{pageTexts}
 use Rattle.wording.specs.Wording.{Texts, lineFeed, head, pair, refused, counted as Wording·counted}
 use Rattle.item_state.specs.Log.{Log, added, said, called}
 use Rattle.item_state.specs.Told.{toldValue, readWord}
@@ -109,7 +110,7 @@ expectLine m a ws l =
     let t = told m a ws (l .counts) (l .answers) in
     record { counts = added (added (set (l .counts) 0 (t .next)) 7 (length ws)) 8 (differing m a ws); answers = t .bytes }
 
--- What a line that asks leaves; every other leaves all as it is, and of `show`, whose page is the program's own, nothing is said.
+-- What a line that asks leaves; every other leaves all as it is.
 unfoldable pub questionLine : Content → List ℕ → Model → Log → Log
 questionLine Content.Nothing numbers m l = l
 questionLine Content.TooLong numbers m l = l
@@ -126,7 +127,7 @@ questionLine Content.Int numbers m l = said (interrupt m) l
 questionLine Content.Awaited numbers m l = said (awaited m) l
 questionLine Content.Regs numbers m l = said (registers m) l
 questionLine (Content.Expect a n) numbers m l = expectLine m a (take n numbers) l
-questionLine Content.Show numbers m l = l
+questionLine Content.Show numbers m l = said (pageTexts m) l
 questionLine (Content.Set a n) numbers m l = l
 questionLine (Content.At t) numbers m l = l
 questionLine (Content.Stretch n) numbers m l = l
@@ -136,30 +137,3 @@ questionLine Content.Degrees numbers m l = l
 questionLine (Content.Record n) numbers m l = l
 questionLine (Content.Listing old first) numbers m l = l
 questionLine (Content.Quietest n) numbers m l = l
-
-unfoldable pub isShow : Content → Bool
-isShow Content.Nothing = false
-isShow Content.TooLong = false
-isShow Content.UnknownWord = false
-isShow Content.BadNumber = false
-isShow Content.WrongCount = false
-isShow Content.Item = false
-isShow (Content.Bus n) = false
-isShow (Content.BusOut size n) = false
-isShow (Content.Tick n) = false
-isShow (Content.Flight up down) = false
-isShow (Content.Temperature n) = false
-isShow Content.Int = false
-isShow Content.Awaited = false
-isShow Content.Regs = false
-isShow (Content.Expect a n) = false
-isShow Content.Show = true
-isShow (Content.Set a n) = false
-isShow (Content.At t) = false
-isShow (Content.Stretch n) = false
-isShow Content.Frames = false
-isShow (Content.Probe n) = false
-isShow Content.Degrees = false
-isShow (Content.Record n) = false
-isShow (Content.Listing old first) = false
-isShow (Content.Quietest n) = false

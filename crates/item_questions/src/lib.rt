@@ -3,9 +3,8 @@ mod expectation;
 mod frames;
 mod registers;
 
-ghost use mathlib.Core.Bool.{false};
 ghost use mathlib.Core.Path.{_≡_};
-ghost use Rattle.item_questions.specs.Answers.{isShow, questionLine};
+ghost use Rattle.item_questions.specs.Answers.{questionLine};
 use device::Model;
 use item_state::counts::USED;
 use item_state::output::first_words;
@@ -19,7 +18,7 @@ pub fn answer_question(
     counts: &mut [usize; 22],
     answers: &mut [u8],
 )
-    ensures { λ _. ⌜ (isShow content ≡ false → record { counts = now (counts .exit); answers = now (answers .exit) } ≡ questionLine content (now (numbers .entry)) m record { counts = now (counts .entry); answers = now (answers .entry) }) ⌝ }
+    ensures { λ _. ⌜ record { counts = now (counts .exit); answers = now (answers .exit) } ≡ questionLine content (now (numbers .entry)) m record { counts = now (counts .entry); answers = now (answers .entry) } ⌝ }
 {
     match content {
         Content::Expect { address, words } => {

@@ -1,9 +1,7 @@
 // One line, answered.
-ghost use mathlib.Core.Bool.{false};
 ghost use mathlib.Core.Path.{_≡_};
 ghost use Rattle.line.specs.Line.{Bounded};
 ghost use Rattle.item_calls.specs.Lines.{Short};
-ghost use Rattle.item_questions.specs.Answers.{isShow};
 ghost use Rattle.session.specs.Line.{lineDone};
 use crate::close::close;
 use crate::open::open;
@@ -71,7 +69,7 @@ fn answer_on_model(
     answers: &mut [u8],
 ) -> Model
     requires { ⌜ Bounded content ⌝ }
-    ensures { λ r. ⌜ (r ≡ lineDone content (now (numbers .entry)) record { model = m; flash = now (mem .entry); differences = now (kept .entry); probes = now (probes .entry); log = record { counts = now (counts .entry); answers = now (answers .entry) } } .model) × (now (mem .exit) ≡ lineDone content (now (numbers .entry)) record { model = m; flash = now (mem .entry); differences = now (kept .entry); probes = now (probes .entry); log = record { counts = now (counts .entry); answers = now (answers .entry) } } .flash) × (isShow content ≡ false → Short content m record { counts = now (counts .entry); answers = now (answers .entry) } → record { model = r; flash = now (mem .exit); differences = now (kept .exit); probes = now (probes .exit); log = record { counts = now (counts .exit); answers = now (answers .exit) } } ≡ lineDone content (now (numbers .entry)) record { model = m; flash = now (mem .entry); differences = now (kept .entry); probes = now (probes .entry); log = record { counts = now (counts .entry); answers = now (answers .entry) } }) ⌝ }
+    ensures { λ r. ⌜ (r ≡ lineDone content (now (numbers .entry)) record { model = m; flash = now (mem .entry); differences = now (kept .entry); probes = now (probes .entry); log = record { counts = now (counts .entry); answers = now (answers .entry) } } .model) × (now (mem .exit) ≡ lineDone content (now (numbers .entry)) record { model = m; flash = now (mem .entry); differences = now (kept .entry); probes = now (probes .entry); log = record { counts = now (counts .entry); answers = now (answers .entry) } } .flash) × (Short content m record { counts = now (counts .entry); answers = now (answers .entry) } → record { model = r; flash = now (mem .exit); differences = now (kept .exit); probes = now (probes .exit); log = record { counts = now (counts .exit); answers = now (answers .exit) } } ≡ lineDone content (now (numbers .entry)) record { model = m; flash = now (mem .entry); differences = now (kept .entry); probes = now (probes .entry); log = record { counts = now (counts .entry); answers = now (answers .entry) } }) ⌝ }
 {
     let model = item_calls::answer_call(m, content, numbers, counts, mem, answers);
     item_questions::answer_question(model, content, numbers, counts, answers);

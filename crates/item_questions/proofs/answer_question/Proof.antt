@@ -3,16 +3,14 @@
 use borrow.Author.Needs.{needs}
 use types.Run.{OneOf, miss}
 use denote.Enum.Declared.{tagOf}
-use native.Mathlib.Omega.{arith}
 use Rattle.line.proofs.Content.{the-type}
 use Rattle.line.specs.declared.Content.{Content}
-use mathlib.Core.Bool.{Bool, true, false}
 use mathlib.Core.Path.{_≡_, refl}
 use Prim.Native.Nat.{ℕ}
 use mathlib.Core.List.{List, [], _∷_}
 use Rattle.device.specs.declared.Model.{Model}
 use Rattle.item_state.specs.Log.{Log, said}
-use Rattle.item_questions.specs.Answers.{expectLine, questionLine, isShow}
+use Rattle.item_questions.specs.Answers.{expectLine, questionLine}
 use Rattle.item_questions.proofs.answer_question.Statement.{statement}
 use Rattle.item_questions.proofs.answer_question.Tie as tie
 
@@ -43,10 +41,6 @@ others Content.Degrees numbers m l h = refl
 others (Content.Record n) numbers m l h = refl
 others (Content.Listing old first) numbers m l h = refl
 others (Content.Quietest n) numbers m l h = refl
-
-no-page : {content : Content} → content ≡ Content.Show → isShow content ≡ false → ⊥
-unfolding isShow
-no-page e shown = let impossible : _≡_ {A = Bool} true false = rw e at shown in let z : _≡_ {A = ℕ} 0 1 = cc in absurd (omega arith)
 
 enum-known-content : tie.Need-enum-known-content
 enum-known-content c = search needs
@@ -116,44 +110,45 @@ same-length c = search needs
 
 returns : tie.Need-returns
 unfolding questionLine expectLine
-returns c = λ _. rw (c .before .before .before .before .before .before .before .content .given .1, ← c .before .before .before .before .before .first-words .ensures, ← c .before .before .expect .ensures .counted, ← c .before .before .expect .ensures .said)
+returns c = rw (c .before .before .before .before .before .before .before .content .given .1, ← c .before .before .before .before .before .first-words .ensures, ← c .before .before .expect .ensures .counted, ← c .before .before .expect .ensures .said)
 
 same-length-2 : tie.Need-same-length-2
 same-length-2 c = search needs
 
 returns-2 : tie.Need-returns-2
 unfolding questionLine
-returns-2 c = λ _. rw (c .before .before .before .before .before .enum-told .given .1) (c .before .before .frames .ensures)
+returns-2 c = rw (c .before .before .before .before .before .enum-told .given .1) (c .before .before .frames .ensures)
 
 same-length-3 : tie.Need-same-length-3
 same-length-3 c = search needs
 
 returns-3 : tie.Need-returns-3
 unfolding questionLine said
-returns-3 c = λ _. rw (c .before .before .before .before .before .enum-told2 .given .1, ← c .before .before .add-interrupt .ensures .next, ← c .before .before .add-interrupt .ensures .bytes)
+returns-3 c = rw (c .before .before .before .before .before .enum-told2 .given .1, ← c .before .before .add-interrupt .ensures .next, ← c .before .before .add-interrupt .ensures .bytes)
 
 same-length-4 : tie.Need-same-length-4
 same-length-4 c = search needs
 
 returns-4 : tie.Need-returns-4
 unfolding questionLine said
-returns-4 c = λ _. rw (c .before .before .before .before .before .enum-told3 .given .1, ← c .before .before .add-awaited .ensures .next, ← c .before .before .add-awaited .ensures .bytes)
+returns-4 c = rw (c .before .before .before .before .before .enum-told3 .given .1, ← c .before .before .add-awaited .ensures .next, ← c .before .before .add-awaited .ensures .bytes)
 
 same-length-5 : tie.Need-same-length-5
 same-length-5 c = search needs
 
 returns-5 : tie.Need-returns-5
 unfolding questionLine said
-returns-5 c = λ _. rw (c .before .before .before .before .before .enum-told4 .given .1, ← c .before .before .add-registers .ensures .next, ← c .before .before .add-registers .ensures .bytes)
+returns-5 c = rw (c .before .before .before .before .before .enum-told4 .given .1, ← c .before .before .add-registers .ensures .next, ← c .before .before .add-registers .ensures .bytes)
 
 same-length-6 : tie.Need-same-length-6
 same-length-6 c = search needs
 
 returns-6 : tie.Need-returns-6
-returns-6 c = λ shown. absurd (no-page (c .before .before .before .before .before .enum-told5 .given .1) shown)
+unfolding questionLine said
+returns-6 c = rw (c .before .before .before .before .before .enum-told5 .given .1, ← c .before .before .put-page .ensures .next, ← c .before .before .put-page .ensures .bytes)
 
 returns-7 : tie.Need-returns-7
-returns-7 c = λ _. others _ _ _ _ (c .match .keys7)
+returns-7 c = others _ _ _ _ (c .match .keys7)
 
 pub answer-question-spec : {M : Type 1} → statement M
 answer-question-spec =

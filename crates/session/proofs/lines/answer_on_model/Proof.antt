@@ -30,7 +30,7 @@ returns : tie.Need-returns
 unfolding lineDone
 returns c =
     let call = c .before .before .before .before .before .before .before .before .before .before .before .before .before .before .before .before .before .before .before .answer-call .ensures in
-    (call .model, call .flash, λ unseen short. let asked = c .before .before .before .before .before .before .before .before .before .before .before .before .answer-question .ensures unseen in rw (← call .model, ← call .flash, ← call .log short, ← asked, ← c .before .before .before .before .before .answer-analysis .ensures))
+    (call .model, call .flash, λ short. let asked = c .before .before .before .before .before .before .before .before .before .before .before .before .answer-question .ensures in rw (← call .model, ← call .flash, ← call .log short, ← asked, ← c .before .before .before .before .before .answer-analysis .ensures))
 
 pub answer-on-model-spec : {M : Type 1} → statement M
 answer-on-model-spec =

@@ -1,0 +1,42 @@
+-- `show::date::put_time_of_day` meets its contract.
+-- Assumes nothing.
+use borrow.Author.Needs.{needs}
+use Rattle.wording.proofs.Each.{put-one, put-first}
+use Rattle.wording.specs.Text.{ascii}
+use Rattle.show.specs.Clock.{timeOfDay}
+use Rattle.show.proofs.date.put_time_of_day.Statement.{statement}
+use Rattle.show.proofs.date.put_time_of_day.Tie as tie
+
+hours-requires : tie.Need-hours-requires
+hours-requires c κs = search needs
+
+put-hex-requires : tie.Need-put-hex-requires
+put-hex-requires c κs = search needs
+
+slice-aggregate-put-text : tie.Need-slice-aggregate-put-text
+slice-aggregate-put-text c = search needs
+
+put-text-requires : tie.Need-put-text-requires
+put-text-requires c κs = search needs
+
+put-hex-requires-2 : tie.Need-put-hex-requires-2
+put-hex-requires-2 c κs = search needs
+
+same-length : tie.Need-same-length
+same-length c = search needs
+
+returns : tie.Need-returns
+unfolding ascii timeOfDay
+returns c = rw (← (c .before .before .before .before .before .before .before .before .before .before .before .before .hours .ensures)) (put-first (c .before .before .before .before .before .before .before .before .before .before .before .put-hex .ensures) (put-first (c .before .before .before .before .before .before .put-text .ensures) (put-one (c .before .before .put-hex2 .ensures))))
+
+pub put-time-of-day-spec : {M : Type 1} → statement M
+put-time-of-day-spec =
+    tie.close
+    (tie.spec
+    hours-requires
+    put-hex-requires
+    slice-aggregate-put-text
+    put-text-requires
+    put-hex-requires-2
+    same-length
+    returns)

@@ -1,0 +1,47 @@
+-- `show::fields::put_tof1` meets its contract.
+-- Assumes nothing.
+use borrow.Author.Needs.{needs}
+use Rattle.wording.proofs.Each.{put-one, put-then}
+use Rattle.wording.specs.Text.{ascii}
+use Rattle.show.specs.Row.{registerRow}
+use Rattle.show.specs.Setup.{tof1Row}
+use Rattle.show.proofs.fields.put_tof1.Statement.{statement}
+use Rattle.show.proofs.fields.put_tof1.Tie as tie
+
+slice-aggregate-put-register : tie.Need-slice-aggregate-put-register
+slice-aggregate-put-register c = search needs
+
+put-register-requires : tie.Need-put-register-requires
+put-register-requires c κs = search needs
+
+put-pulses-requires : tie.Need-put-pulses-requires
+put-pulses-requires c κs = search needs
+
+put-divider-requires : tie.Need-put-divider-requires
+put-divider-requires c κs = search needs
+
+slice-aggregate-put-text : tie.Need-slice-aggregate-put-text
+slice-aggregate-put-text c = search needs
+
+put-text-requires : tie.Need-put-text-requires
+put-text-requires c κs = search needs
+
+same-length : tie.Need-same-length
+same-length c = search needs
+
+returns : tie.Need-returns
+unfolding ascii registerRow tof1Row
+returns c = put-then (c .before .before .before .before .before .before .before .before .before .before .before .before .before .before .before .put-register .ensures) (put-then (put-then (c .before .before .before .before .before .before .before .before .before .before .before .put-pulses .ensures) (c .before .before .before .before .before .before .before .put-divider .ensures)) (put-one (c .before .before .put-text .ensures)))
+
+pub put-tof1-spec : {M : Type 1} → statement M
+put-tof1-spec =
+    tie.close
+    (tie.spec
+    slice-aggregate-put-register
+    put-register-requires
+    put-pulses-requires
+    put-divider-requires
+    slice-aggregate-put-text
+    put-text-requires
+    same-length
+    returns)

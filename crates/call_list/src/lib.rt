@@ -2,14 +2,14 @@
 // once.
 ghost use mathlib.Core.Bool.{true};
 ghost use mathlib.Core.Path.{_≡_};
-ghost use Prim.Native.Nat.{_+_, _-_, _*_, _/_, _<_, _≤_};
-ghost use lib.ListN.{length};
+ghost use Prim.Native.Nat.{_+_, _*_, _/_, _<_, _≤_};
+ghost use lib.ListN.{length, getD};
 ghost use Rattle.device.specs.Model.{isSound};
 ghost use Rattle.device.specs.Call.{Call};
-ghost use Rattle.device.specs.StretchSteps.{quietFor};
+ghost use Rattle.device.specs.StretchSteps.{least, quietFor};
 ghost use Rattle.device.specs.Reply.{reply, output, memory};
-ghost use Rattle.call_list.specs.CallList.{answersAfter, beginning, callFits, callOf, entryAt, entryFits, flashAfter, outputAfter, part, placeAfter, runs, step, within};
-ghost use Rattle.call_list.specs.Room.{Room};
+ghost use Rattle.call_list.specs.CallList.{answersAfter, beginning, callFits, entryAt, entryFits, part, placeAfter, runs, within};
+ghost use Rattle.call_list.specs.Room.{Moved, Near, Room, Ticks, Told, quietAnswers, quietProgress};
 use bus::sound_transaction;
 use device::Answer;
 use device::Model;
@@ -22,9 +22,9 @@ use outcome::put_answer;
 use sound_calls::sound_flight_delivery;
 use sound_calls::sound_stretch;
 use sound_calls::sound_temperature_delivery;
-use sound_calls::sound_tick;
-use ticking::stretch::next_is_quiet;
-use ticking::stretch::quiet_tick;
+use sound_calls::tick_reply;
+use ticking::stretch::quiet_for;
+use ticking::stretch::quiet_ticks;
 
 // The kinds of a list's calls.
 const TRANSACTION: u32 = 0;
@@ -136,54 +136,6 @@ fn deliver_temperature(m: Model, e: Entry, p: Place, hits: &[u32]) -> Reply
     sound_temperature_delivery(m, &hits[start..end])
 }
 
-// What a call on a sound model answers, and what it does to the output and the user flash.
-fn sound_reply(
-    m: Model,
-    e: Entry,
-    p: Place,
-    frames: &[u8],
-    hits: &[u32],
-    out: &mut [u8],
-    flash: &mut [u8],
-) -> Reply
-    requires { ⌜ (isSound m ≡ true) × (p .frames ≤ length (now frames)) × (p .hits ≤ length (now hits)) × (p .output ≤ length (now out)) × (entryFits e (length (now frames) - p .frames) (length (now hits) - p .hits) (length (now out) - p .output) ≡ true) ⌝ }
-    ensures { λ r. ⌜ (r ≡ reply m (callOf e p (now (frames .entry)) (now (hits .entry)) (now (out .entry)) (now (flash .entry)))) × (now (out .exit) ≡ outputAfter e p m (callOf e p (now (frames .entry)) (now (hits .entry)) (now (out .entry)) (now (flash .entry))) (now (out .entry))) × (now (flash .exit) ≡ flashAfter e m (callOf e p (now (frames .entry)) (now (hits .entry)) (now (out .entry)) (now (flash .entry))) (now (flash .entry))) ⌝ }
-{
-    if e.kind == TRANSACTION {
-        return transact(m, e, p, frames, out, flash);
-    }
-    if e.kind == TICK {
-        return sound_tick(m);
-    }
-    if e.kind == STRETCH {
-        return sound_stretch(m, e.first);
-    }
-    if e.kind == FLIGHT {
-        return deliver_flight(m, e, p, hits);
-    }
-    deliver_temperature(m, e, p, hits)
-}
-
-// The same on any model; `sound` tells of it.
-fn reply_to(
-    sound: bool,
-    m: Model,
-    e: Entry,
-    p: Place,
-    frames: &[u8],
-    hits: &[u32],
-    out: &mut [u8],
-    flash: &mut [u8],
-) -> Reply
-    requires { ⌜ (sound ≡ isSound m) × (p .frames ≤ length (now frames)) × (p .hits ≤ length (now hits)) × (p .output ≤ length (now out)) × (entryFits e (length (now frames) - p .frames) (length (now hits) - p .hits) (length (now out) - p .output) ≡ true) ⌝ }
-    ensures { λ r. ⌜ (r ≡ reply m (callOf e p (now (frames .entry)) (now (hits .entry)) (now (out .entry)) (now (flash .entry)))) × (now (out .exit) ≡ outputAfter e p m (callOf e p (now (frames .entry)) (now (hits .entry)) (now (out .entry)) (now (flash .entry))) (now (out .entry))) × (now (flash .exit) ≡ flashAfter e m (callOf e p (now (frames .entry)) (now (hits .entry)) (now (out .entry)) (now (flash .entry))) (now (flash .entry))) ⌝ }
-{
-    if sound {
-        return sound_reply(m, e, p, frames, hits, out, flash);
-    }
-    refuse(m, NOT_SOUND)
-}
-
 fn place_after(e: Entry, p: Place) -> Place
     requires { ⌜ (p .calls < 9223372036854775808) × (p .frames < 9223372036854775808) × (p .hits < 9223372036854775808) × (p .output < 9223372036854775808) ⌝ }
     ensures { λ r. ⌜ r ≡ placeAfter e p ⌝ }
@@ -233,39 +185,11 @@ fn tell(a: Answer, at: usize, answers: &mut [u32])
     answers[at] = code;
 }
 
-// A tick in which nothing happens: the most frequent call, apart from the others so that it is compiled to a few instructions.
-fn quiet(p: Progress, e: Entry, answers: &mut [u32]) -> Progress
-    requires { ⌜ (isSound (p .model) ≡ true) × (1 ≤ quietFor (p .model)) × (p .place .frames < 9223372036854775808) × (p .place .hits < 9223372036854775808) × (p .place .output < 9223372036854775808) × (5 * p .place .calls + 5 ≤ length (now answers)) ⌝ }
-    ensures { λ r. ⌜ (r ≡ record { model = reply (p .model) Call.tick .model; place = placeAfter e (p .place) }) × (now (answers .exit) ≡ answersAfter (reply (p .model) Call.tick .answer) (5 * p .place .calls) (now (answers .entry))) ⌝ }
+// A call's answer is told, and the places move on.
+fn settle(e: Entry, place: Place, r: Reply, answers: &mut [u32]) -> Progress
+    requires { ⌜ Near place (length (now answers)) ⌝ }
+    ensures { λ s. ⌜ (s ≡ record { model = r .model; place = placeAfter e place }) × (now (answers .exit) ≡ answersAfter (r .answer) (5 * place .calls) (now (answers .entry))) ⌝ }
 {
-    let place = p.place;
-    let none = Report {
-        started: false,
-        failed: false,
-    };
-    let a = Answer::Ticked(none, none);
-    tell(a, 5 * place.calls, answers);
-    let model = quiet_tick(p.model);
-    let place = place_after(e, place);
-    Progress { model, place }
-}
-
-// Any call that fits.
-fn usual(
-    sound: bool,
-    p: Progress,
-    e: Entry,
-    frames: &[u8],
-    hits: &[u32],
-    out: &mut [u8],
-    flash: &mut [u8],
-    answers: &mut [u32],
-) -> Progress
-    requires { ⌜ (sound ≡ isSound (p .model)) × Room e (p .place) (length (now frames)) (length (now hits)) (length (now out)) (length (now answers)) ⌝ }
-    ensures { λ r. ⌜ record { progress = r; output = now (out .exit); flash = now (flash .exit); answers = now (answers .exit) } ≡ step (now (frames .entry)) (now (hits .entry)) e record { progress = p; output = now (out .entry); flash = now (flash .entry); answers = now (answers .entry) } ⌝ }
-{
-    let place = p.place;
-    let r = reply_to(sound, p.model, e, place, frames, hits, out, flash);
     let a = r.answer;
     tell(a, 5 * place.calls, answers);
     let model = r.model;
@@ -273,28 +197,175 @@ fn usual(
     Progress { model, place }
 }
 
-// One call that fits.
-fn one(
+// One call of each kind, on a sound model. Each is a function of its own, so that the compiler joins what they leave in one place
+// only, the head of the list's loop.
+fn frame_call(
+    p: Progress,
+    e: Entry,
+    frames: &[u8],
+    out: &mut [u8],
+    flash: &mut [u8],
+    answers: &mut [u32],
+) -> Progress
+    requires { ⌜ (isSound (p .model) ≡ true) × Near (p .place) (length (now answers)) × (p .place .frames + e .first ≤ length (now frames)) × (p .place .output + e .second ≤ length (now out)) ⌝ }
+    ensures { λ r. ⌜ Told e (Call.transaction (part (p .place .frames) (e .first) (now (frames .entry))) (part (p .place .output) (e .second) (now (out .entry))) (now (flash .entry))) p r (now (answers .entry)) (now (answers .exit)) × (now (out .exit) ≡ within (p .place .output) (e .second) (now (out .entry)) (output (p .model) (Call.transaction (part (p .place .frames) (e .first) (now (frames .entry))) (part (p .place .output) (e .second) (now (out .entry))) (now (flash .entry))))) × (now (flash .exit) ≡ memory (p .model) (Call.transaction (part (p .place .frames) (e .first) (now (frames .entry))) (part (p .place .output) (e .second) (now (out .entry))) (now (flash .entry)))) ⌝ }
+{
+    let place = p.place;
+    let r = transact(p.model, e, place, frames, out, flash);
+    settle(e, place, r, answers)
+}
+
+fn tick_call(p: Progress, e: Entry, answers: &mut [u32]) -> Progress
+    requires { ⌜ (isSound (p .model) ≡ true) × Near (p .place) (length (now answers)) ⌝ }
+    ensures { λ r. ⌜ Told e Call.tick p r (now (answers .entry)) (now (answers .exit)) ⌝ }
+{
+    let place = p.place;
+    let r = tick_reply(p.model);
+    settle(e, place, r, answers)
+}
+
+fn stretch_call(p: Progress, e: Entry, answers: &mut [u32]) -> Progress
+    requires { ⌜ (isSound (p .model) ≡ true) × Near (p .place) (length (now answers)) ⌝ }
+    ensures { λ r. ⌜ Told e (Call.stretch (e .first)) p r (now (answers .entry)) (now (answers .exit)) ⌝ }
+{
+    let place = p.place;
+    let r = sound_stretch(p.model, e.first);
+    settle(e, place, r, answers)
+}
+
+fn flight_call(p: Progress, e: Entry, hits: &[u32], answers: &mut [u32]) -> Progress
+    requires { ⌜ (isSound (p .model) ≡ true) × Near (p .place) (length (now answers)) × (p .place .hits + e .first + e .second ≤ length (now hits)) ⌝ }
+    ensures { λ r. ⌜ Told e (Call.flight (part (p .place .hits) (e .first) (now (hits .entry))) (part (p .place .hits + e .first) (e .second) (now (hits .entry)))) p r (now (answers .entry)) (now (answers .exit)) ⌝ }
+{
+    let place = p.place;
+    let r = deliver_flight(p.model, e, place, hits);
+    settle(e, place, r, answers)
+}
+
+fn temperature_call(p: Progress, e: Entry, hits: &[u32], answers: &mut [u32]) -> Progress
+    requires { ⌜ (isSound (p .model) ≡ true) × Near (p .place) (length (now answers)) × (p .place .hits + e .first ≤ length (now hits)) ⌝ }
+    ensures { λ r. ⌜ Told e (Call.temperature (part (p .place .hits) (e .first) (now (hits .entry)))) p r (now (answers .entry)) (now (answers .exit)) ⌝ }
+{
+    let place = p.place;
+    let r = deliver_temperature(p.model, e, place, hits);
+    settle(e, place, r, answers)
+}
+
+// Any call, on a model that is not sound.
+fn unsound_call(p: Progress, e: Entry, answers: &mut [u32]) -> Progress
+    requires { ⌜ Near (p .place) (length (now answers)) ⌝ }
+    ensures { λ r. ⌜ (r ≡ record { model = p .model; place = placeAfter e (p .place) }) × (now (answers .exit) ≡ answersAfter (Answer.Refused 0) (5 * p .place .calls) (now (answers .entry))) ⌝ }
+{
+    let place = p.place;
+    let r = refuse(p.model, NOT_SOUND);
+    settle(e, place, r, answers)
+}
+
+fn lesser(a: usize, b: usize) -> usize
+    ensures { λ r. ⌜ r ≡ least a b ⌝ }
+{
+    if b < a { b } else { a }
+}
+
+// q, or the room where that is less.
+fn fewer(room: usize, q: u32) -> u32
+    requires { ⌜ (1 ≤ room) × (1 ≤ q) ⌝ }
+    ensures { λ r. ⌜ (1 ≤ r) × (r ≤ room) × (r ≤ q) ⌝ }
+{
+    if room < q as usize { room as u32 } else { q }
+}
+
+// How many calls from k on are ticks, `most` at most; k is one.
+fn ticks_ahead(calls: &[u32], k: usize, most: u32) -> u32
+    requires { ⌜ (1 ≤ most) × (3 * (k + most) ≤ length (now calls)) × (getD (now calls) (3 * k) 0 ≡ 1) ⌝ }
+    ensures { λ r. ⌜ (1 ≤ r) × (r ≤ most) × Ticks (now (calls .entry)) k r ⌝ }
+{
+    let mut n: u32 = 1;
+    while n < most {
+        if calls[3 * (k + n as usize)] == TICK {
+            n += 1;
+        } else {
+            return n;
+        }
+    }
+    n
+}
+
+// How many of them, q at most, have room for their answers too.
+fn quiet_ahead(calls: &[u32], k: usize, q: u32, answers: usize) -> u32
+    requires { ⌜ (1 ≤ q) × (k < length (now calls) / 3) × (5 * k + 5 ≤ answers) × (getD (now calls) (3 * k) 0 ≡ 1) ⌝ }
+    ensures { λ r. ⌜ (1 ≤ r) × (r ≤ q) × (k + r ≤ length (now (calls .entry)) / 3) × (5 * (k + r) ≤ answers) × Ticks (now (calls .entry)) k r ⌝ }
+{
+    let end = lesser(calls.len() / 3, answers / 5);
+    ticks_ahead(calls, k, fewer(end - k, q))
+}
+
+fn tell_quiet(k: usize, n: u32, answers: &mut [u32])
+    requires { ⌜ 5 * (k + n) ≤ length (now answers) ⌝ }
+    ensures { λ r. ⌜ now (answers .exit) ≡ quietAnswers n k (now (answers .entry)) ⌝ }
+{
+    let none = Report {
+        started: false,
+        failed: false,
+    };
+    let a = Answer::Ticked(none, none);
+    let mut i: u32 = 0;
+    while i < n {
+        tell(a, 5 * (k + i as usize), answers);
+        i += 1;
+    }
+}
+
+// n ticks in which nothing happens, at once: the most frequent call, so that the model is moved on once for all of them.
+fn quiet(p: Progress, n: u32, answers: &mut [u32]) -> Progress
+    requires { ⌜ (n ≤ quietFor (p .model)) × (5 * (p .place .calls + n) ≤ length (now answers)) ⌝ }
+    ensures { λ r. ⌜ (r ≡ quietProgress n p) × (now (answers .exit) ≡ quietAnswers n (p .place .calls) (now (answers .entry))) ⌝ }
+{
+    let place = p.place;
+    tell_quiet(place.calls, n, answers);
+    let model = quiet_ticks(p.model, n);
+    let mut next = place;
+    next.calls = place.calls + n as usize;
+    Progress { model, place: next }
+}
+
+// One call that fits, or several ticks in which nothing happens.
+fn some(
     sound: bool,
     p: Progress,
     e: Entry,
+    calls: &[u32],
     frames: &[u8],
     hits: &[u32],
     out: &mut [u8],
     flash: &mut [u8],
     answers: &mut [u32],
 ) -> Progress
-    requires { ⌜ (sound ≡ isSound (p .model)) × Room e (p .place) (length (now frames)) (length (now hits)) (length (now out)) (length (now answers)) ⌝ }
-    ensures { λ r. ⌜ record { progress = r; output = now (out .exit); flash = now (flash .exit); answers = now (answers .exit) } ≡ step (now (frames .entry)) (now (hits .entry)) e record { progress = p; output = now (out .entry); flash = now (flash .entry); answers = now (answers .entry) } ⌝ }
+    requires { ⌜ (sound ≡ isSound (p .model)) × Room e (p .place) (length (now frames)) (length (now hits)) (length (now out)) (length (now answers)) × (p .place .calls < length (now calls) / 3) × (e ≡ entryAt (now calls) (p .place .calls)) ⌝ }
+    ensures { λ r. ⌜ Moved (now (calls .entry)) (now (frames .entry)) (now (hits .entry)) record { progress = p; output = now (out .entry); flash = now (flash .entry); answers = now (answers .entry) } record { progress = r; output = now (out .exit); flash = now (flash .exit); answers = now (answers .exit) } ⌝ }
 {
-    if e.kind == TICK {
-        if sound {
-            if next_is_quiet(p.model) {
-                return quiet(p, e, answers);
-            }
+    if sound {
+        if e.kind == TRANSACTION {
+            return frame_call(p, e, frames, out, flash, answers);
         }
+        if e.kind == FLIGHT {
+            return flight_call(p, e, hits, answers);
+        }
+        if e.kind == TICK {
+            let place = p.place;
+            let q = quiet_for(p.model);
+            if 0 < q {
+                let n = quiet_ahead(calls, place.calls, q, answers.len());
+                return quiet(p, n, answers);
+            }
+            return tick_call(p, e, answers);
+        }
+        if e.kind == STRETCH {
+            return stretch_call(p, e, answers);
+        }
+        return temperature_call(p, e, hits, answers);
     }
-    usual(sound, p, e, frames, hits, out, flash, answers)
+    unsound_call(p, e, answers)
 }
 
 fn begin(m: Model) -> Progress
@@ -328,7 +399,7 @@ pub fn run(
         let place = p.place;
         let e = entry_at(calls, place.calls);
         if call_fits(e, place, frames.len(), hits.len(), out.len(), answers.len()) {
-            let next = one(sound, p, e, frames, hits, out, flash, answers);
+            let next = some(sound, p, e, calls, frames, hits, out, flash, answers);
             p = next;
         } else {
             return p;

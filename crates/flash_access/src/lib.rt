@@ -2,9 +2,12 @@
 ghost use mathlib.Core.Path.{_≡_};
 ghost use mathlib.Core.Bool.{true};
 ghost use Prim.Native.Nat.{_≤_};
+ghost use lib.Dec.{eqb};
 ghost use lib.ListN.{length};
+ghost use Rattle.unit.specs.Choice.{either};
 ghost use Rattle.device.specs.FlashFrame.{flashModel};
-ghost use Rattle.device.specs.Parts.{eraseReply, eraseLeft, programReply, programLeft, loadReply, loadOut, flashReply, flashOut, flashLeft, flashFits};
+ghost use Rattle.device.specs.Parts.{eraseLeft, programLeft, loadOut, flashReply, flashOut, flashLeft, flashFits};
+ghost use Rattle.flash_access.specs.Work.{eraseNumber, programNumber, loadNumber, flashNumber, workOut, workLeft};
 use device::Model;
 use device::Reply;
 use flash::address_refused;
@@ -35,46 +38,71 @@ fn changed(m: Model) -> Model
     next
 }
 
-// `b` is the frame from its second byte: the address, and the word of a write.
-fn erase(m: Model, b: &[u8], mem: &mut [u8]) -> Reply
+// What a frame does with the memory and the output, and the number that refuses it; 0 for none. `b` is the frame from its second
+// byte: the address, and the word of a write. None of these takes the model: it is a large value, and a frame changes only
+// its status, so that the other frames of a list do not pay for a copy.
+fn erase(b: &[u8], mem: &mut [u8]) -> u32
     requires { ⌜ 2 ≤ length (now b) ⌝ }
-    ensures { λ r. ⌜ (r ≡ eraseReply m (now (b .entry)) (now (mem .entry))) × (now (mem .exit) ≡ eraseLeft (now (b .entry)) (now (mem .entry))) ⌝ }
+    ensures { λ r. ⌜ (r ≡ eraseNumber (now (b .entry)) (now (mem .entry))) × (now (mem .exit) ≡ eraseLeft (now (b .entry)) (now (mem .entry))) ⌝ }
 {
     let a = frame::word_at(b, 0);
     if erase_refused(mem.len(), a) {
-        return refuse(m, FLASH_ADDRESS);
+        return FLASH_ADDRESS;
     }
     erase_block(mem, a as usize);
-    accept(changed(m), false, false)
+    0
 }
 
-fn program(m: Model, b: &[u8], mem: &mut [u8]) -> Reply
+fn program(b: &[u8], mem: &mut [u8]) -> u32
     requires { ⌜ 4 ≤ length (now b) ⌝ }
-    ensures { λ r. ⌜ (r ≡ programReply m (now (b .entry)) (now (mem .entry))) × (now (mem .exit) ≡ programLeft (now (b .entry)) (now (mem .entry))) ⌝ }
+    ensures { λ r. ⌜ (r ≡ programNumber (now (b .entry)) (now (mem .entry))) × (now (mem .exit) ≡ programLeft (now (b .entry)) (now (mem .entry))) ⌝ }
 {
     let a = frame::word_at(b, 0);
     if address_refused(mem.len(), a) {
-        return refuse(m, FLASH_ADDRESS);
+        return FLASH_ADDRESS;
     }
     if not_erased(mem, a as usize) {
-        return refuse(m, NOT_ERASED);
+        return NOT_ERASED;
     }
     let w = frame::word_at(b, 1);
     write_word(mem, a as usize, w);
-    accept(changed(m), false, false)
+    0
 }
 
-fn load(m: Model, b: &[u8], out: &mut [u8], mem: &[u8]) -> Reply
+fn load(b: &[u8], out: &mut [u8], mem: &[u8]) -> u32
     requires { ⌜ (2 ≤ length (now b)) × (2 ≤ length (now out)) ⌝ }
-    ensures { λ r. ⌜ (r ≡ loadReply m (now (b .entry)) (now (mem .entry))) × (now (out .exit) ≡ loadOut (now (b .entry)) (now (out .entry)) (now (mem .entry))) ⌝ }
+    ensures { λ r. ⌜ (r ≡ loadNumber (now (b .entry)) (now (mem .entry))) × (now (out .exit) ≡ loadOut (now (b .entry)) (now (out .entry)) (now (mem .entry))) ⌝ }
 {
     let a = frame::word_at(b, 0);
     if address_refused(mem.len(), a) {
-        return refuse(m, FLASH_ADDRESS);
+        return FLASH_ADDRESS;
     }
     let w = read_word(mem, a as usize);
     put_word(out, w);
-    accept(m, false, false)
+    0
+}
+
+fn work(op: u32, b: &[u8], out: &mut [u8], mem: &mut [u8]) -> u32
+    requires { ⌜ flashFits op (length (now b)) (length (now out)) ≡ true ⌝ }
+    ensures { λ r. ⌜ (r ≡ flashNumber op (now (b .entry)) (now (mem .entry))) × (now (out .exit) ≡ workOut op (now (b .entry)) (now (out .entry)) (now (mem .entry))) × (now (mem .exit) ≡ workLeft op (now (b .entry)) (now (mem .entry))) ⌝ }
+{
+    if op == 0x13 {
+        return erase(b, mem);
+    }
+    if op == 0x10 {
+        return program(b, mem);
+    }
+    load(b, out, mem)
+}
+
+// Whether a frame changes the memory.
+fn changes(op: u32) -> bool
+    ensures { λ r. ⌜ r ≡ either (eqb op 0x13) (eqb op 0x10) ⌝ }
+{
+    if op == 0x13 {
+        return true;
+    }
+    op == 0x10
 }
 
 // A frame of the user flash whose length and output are right.
@@ -86,13 +114,14 @@ pub fn flash_reply(m: Model, op: u32, b: &[u8], out: &mut [u8], mem: &mut [u8]) 
         return refuse(m, BUSY);
     }
     if m.regulator {
-        if op == 0x13 {
-            return erase(m, b, mem);
+        let number = work(op, b, out, mem);
+        if 0 < number {
+            return refuse(m, number);
         }
-        if op == 0x10 {
-            return program(m, b, mem);
+        if changes(op) {
+            return accept(changed(m), false, false);
         }
-        return load(m, b, out, mem);
+        return accept(m, false, false);
     }
     refuse(m, SUPPLY_OFF)
 }

@@ -51,7 +51,8 @@ fn quiet_reply(m: Model) -> Reply
     }
 }
 
-fn tick_reply(m: Model) -> Reply
+// Whatever happens in it.
+pub fn tick_reply(m: Model) -> Reply
     requires { ⌜ isSound m ≡ true ⌝ }
     ensures { λ r. ⌜ r ≡ reply m Call.tick ⌝ }
 {

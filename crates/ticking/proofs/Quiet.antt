@@ -169,6 +169,10 @@ module _ (m : Model) (q : ℕ) (l : q < quietFor m) where
   fails-later differences = fails-none (m .flight .schedule) q (for-schedule differences)
   fails-later temperatures = fails-none (m .temperature .schedule) q (for-schedule temperatures)
 
+  report-later : (k : Kind) → reportOf (scheduleOf k (laterModel q m)) ≡ record { started = false; failed = false }
+  unfolding reportOf
+  report-later k = rw (begins-later k, fails-later k)
+
   status-later : tickStatus (laterModel q m) (clockTicked (laterModel q m)) ≡ m .status
   unfolding laterModel
   status-later =
@@ -213,6 +217,17 @@ unfolding modelTicked
 quiet-ticked m zero l = sym (none-later m)
 quiet-ticked m (suc q) l =
     ap tickModel (quiet-ticked m q (omega arith)) ∙ model-later m q (omega arith) ∙ ap (λ n. laterModel n m) (add-one q)
+
+-- the one after q of them reports nothing
+module _ (m : Model) (q : ℕ) (l : q < quietFor m) where
+  next-kind : (k : Kind) → reportOf (scheduleOf k (modelTicked q m)) ≡ record { started = false; failed = false }
+  next-kind k = ap (λ (n : Model). reportOf (scheduleOf k n)) (quiet-ticked m q (omega arith)) ∙ report-later m q l k
+
+  pub next-flight : reportOf (modelTicked q m .flight .schedule) ≡ record { started = false; failed = false }
+  next-flight = next-kind differences
+
+  pub next-temperature : reportOf (modelTicked q m .temperature .schedule) ≡ record { started = false; failed = false }
+  next-temperature = next-kind temperatures
 
 -- nothing is reported meanwhile
 quiet-report :

@@ -4,6 +4,7 @@ ghost use Prim.Native.Nat.{_≤_, _+_, _-_};
 ghost use lib.Dec.{leb, ltb};
 ghost use Rattle.unit.specs.Choice.{pick};
 ghost use Rattle.device.specs.Tick.{tickModel};
+ghost use Rattle.device.specs.Stretch.{modelTicked};
 ghost use Rattle.device.specs.StretchSteps.{least as Stretch·least, quietLeft, quietWait, quietClock, quietSchedule, quietFor, laterSchedule, laterClock, laterModel, progress, movedQuietly, noted, movedByOne, moved as Stretch·moved};
 use crate::tick::tick_model;
 use calendar::Clock;
@@ -74,7 +75,7 @@ fn quiet_schedule(k: Schedule) -> u32
 }
 
 // For how many ticks nothing starts, fails or ends a second.
-fn quiet_for(m: Model) -> u32
+pub fn quiet_for(m: Model) -> u32
     ensures { λ r. ⌜ r ≡ quietFor m ⌝ }
 {
     let flight = m.flight;
@@ -224,6 +225,14 @@ pub fn quiet_tick(m: Model) -> Model
     ensures { λ r. ⌜ r ≡ tickModel m ⌝ }
 {
     later_model(m, 1)
+}
+
+// n such ticks at once.
+pub fn quiet_ticks(m: Model, n: u32) -> Model
+    requires { ⌜ n ≤ quietFor m ⌝ }
+    ensures { λ r. ⌜ r ≡ modelTicked n m ⌝ }
+{
+    later_model(m, n)
 }
 
 // n ticks in which nothing happens.

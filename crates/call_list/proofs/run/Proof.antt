@@ -1,6 +1,6 @@
 -- `call_list::run` meets its contract.
 use Prim.Native.Nat.{_-_, _/_}
-use mathlib.Core.Path.{sym, ap, _∙_}
+use mathlib.Core.Path.{refl, sym, ap, _∙_}
 use native.Mathlib.Omega.{arith}
 use denote.Ref.{now}
 use lib.ListN.{length}
@@ -34,23 +34,25 @@ entry-at-requires c κs = let h = c .before .if1 .taken in omega arith
 call-fits-requires : tie.Need-call-fits-requires Inv-loop μ-loop
 call-fits-requires c κs = let i = c .before .before .before .before .loop .inv .inside in (i .inFrames, i .inHits, i .inOutput, i .inAnswers)
 
-one-requires : tie.Need-one-requires Inv-loop μ-loop
-one-requires c κs =
+some-requires : tie.Need-some-requires Inv-loop μ-loop
+some-requires c κs =
     let g = c .before .before .before .before .before .before .before .before .before .loop .inv in
     let i = g .inside in (
       g .judged,
       record { inFrames = i .inFrames; inHits = i .inHits; inOutput = i .inOutput; inAnswers = i .inAnswers; enough = sym (c .before .before .before .before .call-fits .ensures) ∙ c .before .before .before .if2 .taken },
+      c .before .before .before .before .before .before .before .if1 .taken,
+      c .before .before .before .before .before .entry-at .ensures,
     )
 
 loop-less : tie.Need-loop-less Inv-loop μ-loop
 loop-less c =
-    going-on _ _ _ _ _ _ _ _ (c .before .before .before .before .before .before .before .before .before .before .before .before .before .before .before .before .loop .inv) _ (c .before .before .before .before .before .before .before .before .before .before .before .before .before .before .if1 .taken) (c .before .before .before .before .before .before .before .before .before .before .before .before .entry-at .ensures)
-    (sym (c .before .before .before .before .before .before .before .before .before .before .before .call-fits .ensures) ∙ c .before .before .before .before .before .before .before .before .before .before .if2 .taken) (c .before .before .before .before .before .before .one .ensures) (search needs) (search needs) (search needs) .1
+    going-on _ _ _ _ _ _ _ record { kind = 0; first = 0; second = 0 } (c .before .before .before .before .before .before .before .before .before .before .before .before .before .before .before .before .loop .inv) _ refl (c .before .before .before .before .before .before .some .ensures)
+    (search needs) (search needs) (search needs) .1
 
 loop-again : tie.Need-loop-again Inv-loop μ-loop
 loop-again c =
-    going-on _ _ _ _ _ _ _ _ (c .before .before .before .before .before .before .before .before .before .before .before .before .before .before .before .before .loop .inv) _ (c .before .before .before .before .before .before .before .before .before .before .before .before .before .before .if1 .taken) (c .before .before .before .before .before .before .before .before .before .before .before .before .entry-at .ensures)
-    (sym (c .before .before .before .before .before .before .before .before .before .before .before .call-fits .ensures) ∙ c .before .before .before .before .before .before .before .before .before .before .if2 .taken) (c .before .before .before .before .before .before .one .ensures) (search needs) (search needs) (search needs) .0
+    going-on _ _ _ _ _ _ _ record { kind = 0; first = 0; second = 0 } (c .before .before .before .before .before .before .before .before .before .before .before .before .before .before .before .before .loop .inv) _ refl (c .before .before .before .before .before .before .some .ensures)
+    (search needs) (search needs) (search needs) .0
 
 same-length : tie.Need-same-length Inv-loop μ-loop
 same-length c = c .before .before .before .before .before .before .loop .inv .outputs
@@ -85,4 +87,4 @@ returns-2 c =
     (c .before .before .before .begin .ensures)
 
 pub run-spec : {M : Type 1} → statement M
-run-spec = tie.close (tie.spec Inv-loop μ-loop is-sound-requires begin-requires loop-holds entry-at-requires call-fits-requires one-requires loop-less loop-again same-length same-length-2 same-length-3 returns same-length-4 same-length-5 same-length-6 returns-2)
+run-spec = tie.close (tie.spec Inv-loop μ-loop is-sound-requires begin-requires loop-holds entry-at-requires call-fits-requires some-requires loop-less loop-again same-length same-length-2 same-length-3 returns same-length-4 same-length-5 same-length-6 returns-2)

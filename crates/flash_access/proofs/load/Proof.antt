@@ -1,7 +1,8 @@
 -- `flash_access::load` meets its contract.
-use Rattle.device.specs.Parts.{loadReply, loadOut}
+use Rattle.device.specs.Parts.{loadOut}
 use Rattle.device.specs.FlashFrame.{flashAddress}
 use Rattle.flash.proofs.Refusal.{address-accepted}
+use Rattle.flash_access.specs.Work.{loadNumber}
 use mathlib.Core.Path.{refl, sym, _∙_}
 use native.Mathlib.Omega.{arith}
 use borrow.Author.Needs.{needs}
@@ -14,12 +15,9 @@ word-at-requires c κs = search needs
 address-refused-requires : tie.Need-address-refused-requires
 address-refused-requires c κs = search needs
 
-refuse-requires : tie.Need-refuse-requires
-refuse-requires c κs = search needs
-
 returns : tie.Need-returns
-unfolding loadReply loadOut flashAddress
-returns c = simp (← c .before .before .before .word-at .ensures .0, ← c .before .before .address-refused .ensures, c .before .if1 .taken) (c .refuse .ensures, refl)
+unfolding loadNumber loadOut flashAddress
+returns c = simp (← c .before .before .word-at .ensures .0, ← c .before .address-refused .ensures, c .if1 .taken) (refl, refl)
 
 cast-read-word : tie.Need-cast-read-word
 cast-read-word c = search needs
@@ -31,22 +29,19 @@ read-word-requires c κs =
 put-word-requires : tie.Need-put-word-requires
 put-word-requires c κs = search needs
 
-accept-requires : tie.Need-accept-requires
-accept-requires c κs = search needs
-
 same-length : tie.Need-same-length
 same-length c = search needs
 
 returns-2 : tie.Need-returns-2
-unfolding loadReply loadOut flashAddress
+unfolding loadNumber loadOut flashAddress
 returns-2 c =
     simp (
-      ← c .before .before .before .before .before .before .before .before .word-at .ensures .0,
-      ← c .before .before .before .before .before .before .before .address-refused .ensures,
-      c .before .before .before .before .before .before .if1 .left,
-      ← c .before .before .before .before .before .read-word .ensures .0,
+      ← c .before .before .before .before .before .before .before .word-at .ensures .0,
+      ← c .before .before .before .before .before .before .address-refused .ensures,
+      c .before .before .before .before .before .if1 .left,
+      ← c .before .before .before .before .read-word .ensures .0,
     )
-    (c .accept .ensures, c .before .before .before .put-word .ensures)
+    (refl, c .before .before .put-word .ensures)
 
 pub load-spec : {M : Type 1} → statement M
 load-spec =
@@ -54,11 +49,9 @@ load-spec =
     (tie.spec
     word-at-requires
     address-refused-requires
-    refuse-requires
     returns
     cast-read-word
     read-word-requires
     put-word-requires
-    accept-requires
     same-length
     returns-2)

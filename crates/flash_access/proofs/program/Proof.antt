@@ -1,9 +1,9 @@
 -- `flash_access::program` meets its contract.
-use Rattle.device.specs.Parts.{accept, programReply, programLeft}
+use Rattle.device.specs.Parts.{programLeft}
 use Rattle.device.specs.FlashFrame.{flashAddress, flashData}
 use Rattle.flash.proofs.Refusal.{address-accepted}
-use mathlib.Core.Bool.{false}
-use mathlib.Core.Path.{refl, sym, ap, _∙_}
+use Rattle.flash_access.specs.Work.{programNumber}
+use mathlib.Core.Path.{refl, sym, _∙_}
 use native.Mathlib.Omega.{arith}
 use borrow.Author.Needs.{needs}
 use Rattle.flash_access.proofs.program.Statement.{statement}
@@ -15,12 +15,9 @@ word-at-requires c κs = search needs
 address-refused-requires : tie.Need-address-refused-requires
 address-refused-requires c κs = search needs
 
-refuse-requires : tie.Need-refuse-requires
-refuse-requires c κs = search needs
-
 returns : tie.Need-returns
-unfolding programReply programLeft flashAddress flashData
-returns c = simp (← c .before .before .before .word-at .ensures .0, ← c .before .before .address-refused .ensures, c .before .if1 .taken) (c .refuse .ensures, refl)
+unfolding programNumber programLeft flashAddress flashData
+returns c = simp (← c .before .before .word-at .ensures .0, ← c .before .address-refused .ensures, c .if1 .taken) (refl, refl)
 
 cast-not-erased : tie.Need-cast-not-erased
 cast-not-erased c = search needs
@@ -29,23 +26,20 @@ not-erased-requires : tie.Need-not-erased-requires
 not-erased-requires c κs =
     let ok = address-accepted _ _ .0 (sym (c .before .before .address-refused .ensures) ∙ c .before .if1 .left) in omega arith
 
-refuse-requires-2 : tie.Need-refuse-requires-2
-refuse-requires-2 c κs = search needs
-
 same-length : tie.Need-same-length
 same-length c = search needs
 
 returns-2 : tie.Need-returns-2
-unfolding programReply programLeft flashAddress flashData
+unfolding programNumber programLeft flashAddress flashData
 returns-2 c =
     simp (
-      ← c .before .before .before .before .before .before .word-at .ensures .0,
-      ← c .before .before .before .before .before .address-refused .ensures,
-      c .before .before .before .before .if1 .left,
-      ← c .before .before .not-erased .ensures,
-      c .before .if2 .taken,
+      ← c .before .before .before .before .before .word-at .ensures .0,
+      ← c .before .before .before .before .address-refused .ensures,
+      c .before .before .before .if1 .left,
+      ← c .before .not-erased .ensures,
+      c .if2 .taken,
     )
-    (c .refuse2 .ensures, refl)
+    (refl, refl)
 
 word-at-requires-2 : tie.Need-word-at-requires-2
 word-at-requires-2 c κs = search needs
@@ -59,27 +53,21 @@ write-word-requires c κs =
     let w = c .before .word-at2 .ensures .1 in
     omega arith
 
-changed-requires : tie.Need-changed-requires
-changed-requires c κs = search needs
-
-accept-requires : tie.Need-accept-requires
-accept-requires c κs = search needs
-
 same-length-2 : tie.Need-same-length-2
 same-length-2 c = search needs
 
 returns-3 : tie.Need-returns-3
-unfolding programReply programLeft flashAddress flashData
+unfolding programNumber programLeft flashAddress flashData
 returns-3 c =
     simp (
-      ← c .before .before .before .before .before .before .before .before .before .before .before .before .word-at .ensures .0,
-      ← c .before .before .before .before .before .before .before .before .before .before .before .address-refused .ensures,
-      c .before .before .before .before .before .before .before .before .before .before .if1 .left,
-      ← c .before .before .before .before .before .before .before .before .not-erased .ensures,
-      c .before .before .before .before .before .before .before .if2 .left,
-      ← c .before .before .before .before .before .before .word-at2 .ensures .0,
+      ← c .before .before .before .before .before .before .before .before .before .before .word-at .ensures .0,
+      ← c .before .before .before .before .before .before .before .before .before .address-refused .ensures,
+      c .before .before .before .before .before .before .before .before .if1 .left,
+      ← c .before .before .before .before .before .before .not-erased .ensures,
+      c .before .before .before .before .before .if2 .left,
+      ← c .before .before .before .before .word-at2 .ensures .0,
     )
-    (c .accept .ensures ∙ ap (accept false false) (c .before .changed .ensures .0), c .before .before .before .before .write-word .ensures)
+    (refl, c .before .before .write-word .ensures)
 
 pub program-spec : {M : Type 1} → statement M
 program-spec =
@@ -87,17 +75,13 @@ program-spec =
     (tie.spec
     word-at-requires
     address-refused-requires
-    refuse-requires
     returns
     cast-not-erased
     not-erased-requires
-    refuse-requires-2
     same-length
     returns-2
     word-at-requires-2
     cast-write-word
     write-word-requires
-    changed-requires
-    accept-requires
     same-length-2
     returns-3)

@@ -1,7 +1,7 @@
 // The bus transaction. It takes any model and any frame; a refusal changes nothing.
 ghost use mathlib.Core.Path.{_≡_};
 ghost use mathlib.Core.Bool.{true};
-ghost use Prim.Native.Nat.{_≤_, _+_, _*_};
+ghost use Prim.Native.Nat.{_<_, _≤_, _+_, _*_};
 ghost use lib.ListN.{length};
 ghost use Rattle.device.specs.Model.{isSound};
 ghost use Rattle.device.specs.Call.{Call};
@@ -11,12 +11,14 @@ use command::before_initialize;
 use command::command_busy;
 use command::command_unset;
 use command::run_model;
+use command::single_started;
 use command::starts_flight;
 use command::starts_temperature;
 use device::Model;
 use device::Reply;
 use flash_access::flash_reply;
 use frame::Decoded;
+use frame::opcode::TEMPERATURE;
 use model::refusal::BUSY;
 use model::refusal::CALENDAR;
 use model::refusal::NO_FRAME;
@@ -32,9 +34,30 @@ use registers::read::read_model;
 use registers::write::write_invalid;
 use registers::write::write_model;
 
+// TOF_Up, TOF_Down and TOF_Diff, the most frequent commands: what is judged of the others and done by them is passed over.
+fn start_reply(m: Model, op: u32) -> Reply
+    requires { ⌜ op < 3 ⌝ }
+    ensures { λ r. ⌜ r ≡ commandReply m op ⌝ }
+{
+    let setup = m.setup;
+    if is_busy(m) {
+        return refuse(m, BUSY);
+    }
+    if m.initialised {
+        if setup::flight_unset(setup) {
+            return refuse(m, SET_UP);
+        }
+        return accept(single_started(m, op), true, false);
+    }
+    refuse(m, NOT_INITIALISED)
+}
+
 fn command_reply(m: Model, op: u32) -> Reply
     ensures { λ r. ⌜ r ≡ commandReply m op ⌝ }
 {
+    if op < TEMPERATURE {
+        return start_reply(m, op);
+    }
     if command_busy(m, op) {
         return refuse(m, BUSY);
     }
@@ -71,7 +94,7 @@ fn refusal_number(d: Decoded) -> u32
 
 // A read, or the refusal that decoding found.
 fn read_reply(m: Model, d: Decoded, out: &mut [u8]) -> Reply
-    requires { ⌜ readFits d (length (now out)) ≡ true ⌝ }
+    requires { ⌜ (isSound m ≡ true) × (readFits d (length (now out)) ≡ true) ⌝ }
     ensures { λ r. ⌜ (r ≡ readReply m d) × (now (out .exit) ≡ readOutput m d (now (out .entry))) ⌝ }
 {
     let Decoded::Read(op, n) = d else {
@@ -83,7 +106,7 @@ fn read_reply(m: Model, d: Decoded, out: &mut [u8]) -> Reply
 
 // A flash frame, else a read or a refusal. `b` is the frame from its second byte.
 fn flash_frame_reply(m: Model, d: Decoded, b: &[u8], out: &mut [u8], mem: &mut [u8]) -> Reply
-    requires { ⌜ (readFits d (length (now out)) ≡ true) × (frameFits d (length (now b)) (length (now out)) ≡ true) ⌝ }
+    requires { ⌜ (isSound m ≡ true) × (readFits d (length (now out)) ≡ true) × (frameFits d (length (now b)) (length (now out)) ≡ true) ⌝ }
     ensures { λ r. ⌜ (r ≡ flashFrameReply m (now (b .entry)) (now (mem .entry)) d) × (now (out .exit) ≡ flashFrameOutput m (now (b .entry)) (now (out .entry)) (now (mem .entry)) d) × (now (mem .exit) ≡ flashFrameMemory m (now (b .entry)) (now (mem .entry)) d) ⌝ }
 {
     let Decoded::Flash(op) = d else {

@@ -8,7 +8,7 @@ use mathlib.Core.List.{List, _++_}
 use lib.ListN.{length, getD, take, drop, take-append-drop, length-append, length-set}
 use lib.Seq.{length-front, length-sets}
 use lib.Dec.{leb, eqb}
-use borrow.Author.Tests.{leb-true, le-leb, eq-eqb, ne-eqb, eqb-true}
+use borrow.Author.Tests.{leb-true, le-leb, lt-leb, eq-eqb, ne-eqb, eqb-true}
 use Rattle.unit.specs.Choice.{pick}
 use Rattle.unit.proofs.Cases.{by-test, by-ltb}
 use Rattle.unit.proofs.Joined.{both-true}
@@ -628,3 +628,45 @@ near-of e p f h o a room x y z =
       output = omega (arith, room .inOutput);
       told = omega (arith, room .inAnswers);
     }
+
+-- A call that fits, by what its frame, its words and its output need, where there is room for its answer; and where there is none.
+pub fits-of :
+    (e : Entry) (p : Place) (f h o a : ℕ) →
+    p .calls < a / 5 →
+    entryFits e (f - p .frames) (h - p .hits) (o - p .output) ≡ true →
+    callFits e p f h o a ≡ true
+unfolding callFits
+fits-of e p f h o a l t = let m : 5 ≤ a - 5 * p .calls = omega arith in rw (le-leb _ _ m, t) refl
+
+pub fits-not :
+    (e : Entry) (p : Place) (f h o a : ℕ) →
+    p .calls < a / 5 →
+    entryFits e (f - p .frames) (h - p .hits) (o - p .output) ≡ false →
+    callFits e p f h o a ≡ false
+unfolding callFits
+fits-not e p f h o a l t = let m : 5 ≤ a - 5 * p .calls = omega arith in rw (le-leb _ _ m, t) refl
+
+no-room : (e : Entry) (p : Place) (f h o a : ℕ) → a / 5 ≤ p .calls → callFits e p f h o a ≡ false
+unfolding callFits
+no-room e p f h o a l = let m : a - 5 * p .calls < 5 = omega arith in rw (lt-leb _ _ m) refl
+
+pub least-left : (a b k : ℕ) → k < least a b → (k < a) × (k < b)
+unfolding least
+least-left a b k = by-ltb b a (λ l e. rw e (λ h. (omega arith, omega arith))) (λ l e. rw e (λ h. (omega arith, omega arith)))
+
+over : (a b k : ℕ) → least a b ≤ k → k < a → b ≤ k
+unfolding least
+over a b k = by-ltb b a (λ l x. rw x (λ p q. p)) (λ l x. rw x (λ p q. absurd (omega arith)))
+
+-- a list is done where all its calls are, or where there is no room for a further answer
+pub going-over :
+    (n : ℕ) (sound : Bool) (calls frames hits : List ℕ) (s t : Run) →
+    Going n sound calls frames hits s t →
+    least n (length (t .answers) / 5) ≤ t .progress .place .calls →
+    t ≡ runs n calls frames hits s
+going-over n sound calls frames hits s t g h =
+    let e : Entry = entryAt calls (t .progress .place .calls) in
+    by-ltb (t .progress .place .calls) n
+    (λ l _. going-stops n sound calls frames hits s t e g l refl
+    (no-room e (t .progress .place) _ _ _ _ (over n (length (t .answers) / 5) (t .progress .place .calls) h l)))
+    (λ l _. going-ends n sound calls frames hits s t e g l)

@@ -8,7 +8,7 @@ ghost use Rattle.device.specs.Model.{isSound};
 ghost use Rattle.device.specs.Call.{Call};
 ghost use Rattle.device.specs.StretchSteps.{least, quietFor};
 ghost use Rattle.device.specs.Reply.{reply, output, memory};
-ghost use Rattle.call_list.specs.CallList.{answersAfter, beginning, callFits, entryAt, entryFits, part, placeAfter, runs, within};
+ghost use Rattle.call_list.specs.CallList.{answersAfter, beginning, entryAt, entryFits, part, placeAfter, runs, within};
 ghost use Rattle.call_list.specs.Room.{Moved, Near, Room, Ticks, Told, quietAnswers, quietProgress};
 use bus::sound_transaction;
 use device::Answer;
@@ -94,16 +94,6 @@ fn entry_fits(e: Entry, frames: usize, hits: usize, out: usize) -> bool
         return true;
     }
     e.kind == STRETCH
-}
-
-fn call_fits(e: Entry, p: Place, frames: usize, hits: usize, out: usize, answers: usize) -> bool
-    requires { ⌜ (p .frames ≤ frames) × (p .hits ≤ hits) × (p .output ≤ out) × (5 * p .calls ≤ answers) ⌝ }
-    ensures { λ r. ⌜ r ≡ callFits e p frames hits out answers ⌝ }
-{
-    if 5 <= answers - 5 * p.calls {
-        return entry_fits(e, frames - p.frames, hits - p.hits, out - p.output);
-    }
-    false
 }
 
 fn transact(m: Model, e: Entry, p: Place, frames: &[u8], out: &mut [u8], flash: &mut [u8]) -> Reply
@@ -392,13 +382,16 @@ pub fn run(
 ) -> Progress
     ensures { λ r. ⌜ record { progress = r; output = now (out .exit); flash = now (flash .exit); answers = now (answers .exit) } ≡ runs (length (now (calls .entry)) / 3) (now (calls .entry)) (now (frames .entry)) (now (hits .entry)) record { progress = beginning m; output = now (out .entry); flash = now (flash .entry); answers = now (answers .entry) } ⌝ }
 {
-    let n = calls.len() / 3;
+    // the calls that have room for an answer
+    let n = lesser(calls.len() / 3, answers.len() / 5);
     let sound = is_sound(m);
     let mut p = begin(m);
     while p.place.calls < n {
         let place = p.place;
         let e = entry_at(calls, place.calls);
-        if call_fits(e, place, frames.len(), hits.len(), out.len(), answers.len()) {
+        let frames_left = frames.len() - place.frames;
+        let hits_left = hits.len() - place.hits;
+        if entry_fits(e, frames_left, hits_left, out.len() - place.output) {
             let next = some(sound, p, e, calls, frames, hits, out, flash, answers);
             p = next;
         } else {

@@ -239,7 +239,8 @@ fn halted_model(m: Model) -> Model
     next
 }
 
-fn single_started(m: Model, op: u32) -> Model
+// A measurement that is no part of an event starts.
+pub fn single_started(m: Model, op: u32) -> Model
     ensures { λ r. ⌜ r ≡ singleStarted m op ⌝ }
 {
     let mut next = m;

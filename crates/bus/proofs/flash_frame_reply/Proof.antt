@@ -58,7 +58,7 @@ flash-reply-requires : tie.Need-flash-reply-requires
 flash-reply-requires c κs =
     let start = c .before .before .before .before .before .before .before .before .args in
     flash-bounds (start .d) (c .before .before .before .d .given .0 .0) (length (now (start .b))) (length (now (start .out)))
-    (c .before .before .before .d .given .1) (c .before .before .before .before .before .before .before .before .pre .1)
+    (c .before .before .before .d .given .1) (c .before .before .before .before .before .before .before .before .pre .2)
 
 same-length-2 : tie.Need-same-length-2
 same-length-2 c = search needs

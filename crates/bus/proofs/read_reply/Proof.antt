@@ -59,13 +59,13 @@ returns c =
 fill-words-requires : tie.Need-fill-words-requires
 fill-words-requires c κs =
     let start = c .before .before .before .before .before .args in
-    let b = read-bounds (start .d) (c .before .before .d .given .0 .0) (c .before .before .d .given .0 .1 .0) (length (now (start .out))) (c .before .before .d .given .1) (c .before .before .before .before .before .pre) in
-    b
+    let b = read-bounds (start .d) (c .before .before .d .given .0 .0) (c .before .before .d .given .0 .1 .0) (length (now (start .out))) (c .before .before .d .given .1) (c .before .before .before .before .before .pre .1) in
+    (c .before .before .before .before .before .pre .0, b .0, b .1, b .2)
 
 read-model-requires : tie.Need-read-model-requires
 read-model-requires c κs =
     let start = c .before .before .before .before .before .before .before .before .args in
-    let b = read-bounds (start .d) (c .before .before .before .before .before .d .given .0 .0) (c .before .before .before .before .before .d .given .0 .1 .0) (length (now (start .out))) (c .before .before .before .before .before .d .given .1) (c .before .before .before .before .before .before .before .before .pre) in
+    let b = read-bounds (start .d) (c .before .before .before .before .before .d .given .0 .0) (c .before .before .before .before .before .d .given .0 .1 .0) (length (now (start .out))) (c .before .before .before .before .before .d .given .1) (c .before .before .before .before .before .before .before .before .pre .1) in
     b .1
 
 accept-requires : tie.Need-accept-requires

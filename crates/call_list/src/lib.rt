@@ -320,7 +320,7 @@ fn quiet(p: Progress, n: u32, answers: &mut [u32]) -> Progress
 }
 
 // One call that fits, or several ticks in which nothing happens.
-fn some(
+fn advance(
     sound: bool,
     p: Progress,
     e: Entry,
@@ -392,7 +392,7 @@ pub fn run(
         let frames_left = frames.len() - place.frames;
         let hits_left = hits.len() - place.hits;
         if entry_fits(e, frames_left, hits_left, out.len() - place.output) {
-            let next = some(sound, p, e, calls, frames, hits, out, flash, answers);
+            let next = advance(sound, p, e, calls, frames, hits, out, flash, answers);
             p = next;
         } else {
             return p;

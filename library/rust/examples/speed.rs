@@ -42,6 +42,8 @@ const SET_UP: [&[u8]; 3] = [&[0x38, 0x10, 0x10], &[0x40, 0x00, 0x60], &[0x05]];
 
 /// Calls between two looks at the clock.
 const TIMES: u32 = 64;
+/// The same of a list: captures have thousands.
+const LISTED: u32 = 4096;
 
 fn ready() -> (Model, Second) {
     let (mut model, mut second) = (Model::fresh(), Second::fresh());
@@ -63,21 +65,21 @@ fn single(name: &str, calls: u32, ours: impl Fn(&mut Model), theirs: impl Fn(&mu
     );
 }
 
-/// The same row by lists of `TIMES` such calls.
+/// The same row by lists of `LISTED` such calls.
 fn list(name: &str, calls: u32, add: impl Fn(&mut Calls), theirs: impl Fn(&mut Second)) {
     let (mut model, mut second) = ready();
     let (mut list, mut answers) = (Calls::new(), Answers::new());
-    (0..TIMES).for_each(|_| add(&mut list));
+    (0..LISTED).for_each(|_| add(&mut list));
     model.run(&list, &mut [], &mut answers);
     assert!(answers.iter().all(|(answer, _)| answer.is_ok()), "{name}");
     row(
         &format!("{name}, in a list"),
-        calls * TIMES,
+        calls * LISTED,
         || {
             model.run(black_box(&list), &mut [], &mut answers);
             black_box(&answers);
         },
-        || (0..TIMES).for_each(|_| theirs(&mut second)),
+        || (0..LISTED).for_each(|_| theirs(&mut second)),
     );
 }
 

@@ -99,7 +99,7 @@ pub enum Answer {
 /// What the calls of a list answered; its memory serves one run after the other.
 #[derive(Clone, Debug, Default)]
 pub struct Answers {
-    kinds: Vec<(u32, usize)>,
+    calls: Vec<u32>,
     pub(crate) words: Vec<u32>,
     pub(crate) output: Vec<u8>,
 }
@@ -112,12 +112,8 @@ impl Answers {
 
     /// Room for the answers to a list.
     pub(crate) fn make_room(&mut self, calls: &Calls) {
-        self.kinds.clear();
-        self.kinds
-            .extend(calls.calls.chunks_exact(CALL).map(|call| {
-                let room = if call[0] == TRANSACTION { call[2] } else { 0 };
-                (call[0], room as usize)
-            }));
+        self.calls.clear();
+        self.calls.extend_from_slice(&calls.calls);
         self.words.resize(calls.len() * ANSWER, 0);
         self.output.clear();
         self.output.resize(calls.room, 0);
@@ -127,14 +123,15 @@ impl Answers {
     pub fn iter(&self) -> impl Iterator<Item = (Result<Answer, Refusal>, &[u8])> + '_ {
         let mut rest = &self.output[..];
         let answers = self.words.chunks_exact(ANSWER);
-        self.kinds
-            .iter()
+        self.calls
+            .chunks_exact(CALL)
             .zip(answers)
-            .map(move |(&(kind, room), words)| {
-                let (output, after) = rest.split_at(room);
+            .map(move |(call, words)| {
+                let room = if call[0] == TRANSACTION { call[2] } else { 0 };
+                let (output, after) = rest.split_at(room as usize);
                 rest = after;
                 let words = words.try_into().expect("five words");
-                (answer(kind, words), output)
+                (answer(call[0], words), output)
             })
     }
 }

@@ -1,10 +1,9 @@
 -- `call_list::run` meets its contract.
-use Prim.Native.Nat.{_-_, _/_, _<_}
+use Prim.Native.Nat.{_-_, _/_}
 use mathlib.Core.Path.{refl, sym, ap, _∙_}
 use native.Mathlib.Omega.{arith}
 use denote.Ref.{now}
 use lib.ListN.{length}
-use Rattle.device.specs.StretchSteps.{least}
 use Rattle.call_list.specs.declared.Progress.{Progress}
 use Rattle.call_list.specs.CallList.{runs}
 use Rattle.call_list.proofs.Laws.{Going, going-starts, going-on, going-stops, going-over, fits-of, fits-not, least-left}
@@ -52,8 +51,8 @@ sub-entry-fits c = c .before .before .before .before .before .before .before .lo
 entry-fits-requires : tie.Need-entry-fits-requires Inv-loop μ-loop
 entry-fits-requires c κs = search needs
 
-some-requires : tie.Need-some-requires Inv-loop μ-loop
-some-requires c κs =
+advance-requires : tie.Need-advance-requires Inv-loop μ-loop
+advance-requires c κs =
     let g = c .before .before .before .before .before .before .before .before .before .before .before .before .loop .inv in
     let l = least-left (length (now (c .before .before .before .before .before .before .before .before .before .before .before .before .before .before .before .before .before .before .before .before .before .before .args .calls)) / 3) (length (now (c .before .before .before .before .before .before .before .before .before .before .before .before .before .before .before .before .before .before .before .before .before .before .args .answers)) / 5) _ (rw (c .before .before .before .before .before .before .before .before .before .before .before .before .before .before .before .lesser .ensures) at (c .before .before .before .before .before .before .before .before .before .before .if1 .taken)) in
     let same = g .answers in
@@ -72,12 +71,12 @@ some-requires c κs =
 
 loop-less : tie.Need-loop-less Inv-loop μ-loop
 loop-less c =
-    going-on _ _ _ _ _ _ _ record { kind = 0; first = 0; second = 0 } (c .before .before .before .before .before .before .before .before .before .before .before .before .before .before .before .before .before .before .before .loop .inv) _ refl (c .before .before .before .before .before .before .some .ensures)
+    going-on _ _ _ _ _ _ _ record { kind = 0; first = 0; second = 0 } (c .before .before .before .before .before .before .before .before .before .before .before .before .before .before .before .before .before .before .before .loop .inv) _ refl (c .before .before .before .before .before .before .advance .ensures)
     (search needs) (search needs) (search needs) .1
 
 loop-again : tie.Need-loop-again Inv-loop μ-loop
 loop-again c =
-    going-on _ _ _ _ _ _ _ record { kind = 0; first = 0; second = 0 } (c .before .before .before .before .before .before .before .before .before .before .before .before .before .before .before .before .before .before .before .loop .inv) _ refl (c .before .before .before .before .before .before .some .ensures)
+    going-on _ _ _ _ _ _ _ record { kind = 0; first = 0; second = 0 } (c .before .before .before .before .before .before .before .before .before .before .before .before .before .before .before .before .before .before .before .loop .inv) _ refl (c .before .before .before .before .before .before .advance .ensures)
     (search needs) (search needs) (search needs) .0
 
 same-length : tie.Need-same-length Inv-loop μ-loop
@@ -133,7 +132,7 @@ run-spec =
     sub-hits-left
     sub-entry-fits
     entry-fits-requires
-    some-requires
+    advance-requires
     loop-less
     loop-again
     same-length

@@ -4,7 +4,6 @@ use native.Mathlib.Omega.{arith}
 use mathlib.Core.Path.{_≡_, refl, _∙_}
 use borrow.Author.Needs.{needs}
 use lib.ListN.{length}
-use Rattle.device.specs.declared.Model.{Model}
 use Rattle.registers.specs.Filled.{Filled}
 use Rattle.registers.proofs.Parts.{calendar-part, filled-none, filled-more, filled-between}
 use Rattle.registers.proofs.read.fill_calendar.Statement.{statement}

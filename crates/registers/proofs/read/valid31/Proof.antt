@@ -1,5 +1,4 @@
 -- `registers::read::valid31` meets its contract.
-use mathlib.Core.Path.{refl}
 use Rattle.calendar.specs.Words.{hourDigits, word31}
 use borrow.Author.Needs.{needs}
 use Rattle.registers.proofs.read.valid31.Statement.{statement}

@@ -1,6 +1,5 @@
 -- `registers::read::valid_word` meets its contract.
 use native.Mathlib.Omega.{arith}
-use mathlib.Core.Path.{refl, _∙_}
 use borrow.Author.Tests.{eq-eqb, ne-eqb}
 use Rattle.calendar.proofs.Laws.{month-length}
 use Rattle.device.specs.Registers.{calendarWord}

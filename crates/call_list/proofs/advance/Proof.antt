@@ -1,11 +1,11 @@
--- `call_list::some` meets its contract.
+-- `call_list::advance` meets its contract.
 use native.Mathlib.Omega.{arith}
 use mathlib.Core.Path.{sym, _∙_}
 use denote.Ref.{now}
 use Rattle.call_list.proofs.Laws.{frame-fits, flight-fits, temperature-fits, fits-parts, tick-is, stretch-is, flight-is, temperature-is, frame-step, other-step, unsound-step, moved-step, moved-quietly, entry-tick, near-of}
 use borrow.Author.Needs.{needs}
-use Rattle.call_list.proofs.some.Statement.{statement}
-use Rattle.call_list.proofs.some.Tie as tie
+use Rattle.call_list.proofs.advance.Statement.{statement}
+use Rattle.call_list.proofs.advance.Tie as tie
 
 frame-call-requires : tie.Need-frame-call-requires
 frame-call-requires c κs =
@@ -133,8 +133,8 @@ returns-7 c =
     (let k = c .before .before .unsound-call .ensures in
     unsound-step (now (g .frames)) (now (g .hits)) (g .e) record { progress = g .p; output = now (g .out); flash = now (g .flash); answers = now (g .answers) } _ _ (sym (s .pre .0) ∙ c .before .before .before .before .if1 .left) (k .0) (k .1))
 
-pub some-spec : {M : Type 1} → statement M
-some-spec =
+pub advance-spec : {M : Type 1} → statement M
+advance-spec =
     tie.close
     (tie.spec
     frame-call-requires

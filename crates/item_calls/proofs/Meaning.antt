@@ -1,5 +1,5 @@
 -- "N single ticks": the stretches of a line of ticks end as so many single ticks do. Assumes nothing.
-use Prim.Native.Nat.{ℕ, zero, suc, _+_, _-_, _%_, _≤_, min}
+use Prim.Native.Nat.{ℕ, zero, suc, _+_, _-_, _≤_, min}
 use mathlib.Core.Bool.{true}
 use mathlib.Core.Path.{_≡_, refl, ap, _∙_}
 use native.Mathlib.Omega.{arith}
@@ -30,7 +30,7 @@ all-turns (suc turns) n before m enough sound =
     (λ some e.
     let there : r .model ≡ modelTicked span m = stretch-end span m sound (omega arith) in
     let whole : span + (n - span) ≡ n = omega arith in
-    let rest = all-turns turns (n - span) ((before + span) % 4294967296) (r .model) (omega arith) (keeps-sound m (Call.stretch span) sound) in
+    let rest = all-turns turns (n - span) (before + span) (r .model) (omega arith) (keeps-sound m (Call.stretch span) sound) in
     rw e (rest ∙ (ap (modelTicked (n - span)) there ∙ (ticked-later (n - span) span m ∙ ap (λ (k : ℕ). modelTicked k m) whole))))
 
 -- Of a sound model, n ticks of a line leave what n single ticks leave.

@@ -1,9 +1,8 @@
 -- The lines that move the model, in the order of the format's table: what each leaves. What stands in quotation marks is the
 -- format's. Assumes nothing.
-use Prim.Native.Nat.{ℕ, zero, suc, _+_, _-_, _/_, _%_, _≤_, min}
+use Prim.Native.Nat.{ℕ, zero, suc, _+_, _-_, _/_, min}
 use mathlib.Core.Bool.{Bool, true, false, cond}
 use mathlib.Core.List.{List, [], _∷_, _++_}
-use mathlib.Core.Path.{_≡_}
 use lib.Dec.{eqb}
 use lib.ListN.{length, getD, set, take, drop, replicate}
 use Rattle.numeral.specs.Place.{joined}
@@ -18,7 +17,7 @@ use Rattle.device.specs.Reply.{reply, output, memory}
 use Rattle.line.specs.declared.Content.{Content}
 use Rattle.wording.specs.Text.{ascii}
 use Rattle.wording.specs.Wording.{Texts, lineFeed, bus, set as setTexts, delivery, numbered, single, nextNamed, noTick, named, stretch}
-use Rattle.item_state.specs.Log.{Log, added, put, called, refusals, longest}
+use Rattle.item_state.specs.Log.{Log, added, said, called, refusals}
 use Rattle.item_calls.specs.Buffer.{bufferSize}
 
 -- A model and what is kept beside it.
@@ -115,58 +114,53 @@ pub record Ticks : Type 0 where
 unfoldable pub onward : Reply → ℕ → Ticks → Ticks
 onward r before rest = record { model = rest .model; texts = stretchReports (r .answer) before ++ rest .texts }
 
--- n ticks in stretches of 16,384 and a last one, which end as so many single ticks do; n turns are enough
+-- n ticks, with so many before them, in stretches of 16,384 and a last one, which end as so many single ticks do; n turns are enough
 unfoldable pub ticked : ℕ → ℕ → ℕ → Model → Ticks
 ticked zero n before m = record { model = m; texts = [] }
 ticked (suc turns) n before m =
     let span = min n 16384 in
     let r = reply m (Call.stretch span) in
-    cond (eqb n 0) record { model = m; texts = [] }
-    (onward r before (ticked turns (n - span) ((before + span) % 4294967296) (r .model)))
+    cond (eqb n 0) record { model = m; texts = [] } (onward r before (ticked turns (n - span) (before + span) (r .model)))
 
--- "`tick N`, then ` WHAT@I`", and so for `at`: the texts of n ticks whose reports are counted from `passed` on
-unfoldable pub timeTexts : Texts → ℕ → ℕ → Model → Texts
-timeTexts head n passed m = head ++ (ticked n n passed m .texts ++ (lineFeed ∷ []))
+-- A line of ticks is answered in parts of 1,048,576 ticks, so that no answer is too long for a buffer. Count 21 has the ticks that are
+-- left, 0 where no line is under way; with the last of them the line ends.
+unfoldable pub partEnded : ℕ → Log → Log
+partEnded left l =
+    let told : Log = record { counts = set (l .counts) 21 left; answers = l .answers } in
+    cond (eqb left 0) (said (lineFeed ∷ []) told) told
 
--- no refusal
-unfoldable pub timeLine : Texts → ℕ → ℕ → Model → Log → Replayed
-timeLine head n passed m l = record { model = ticked n n passed m .model; log = called 0 (timeTexts head n passed m) l }
+-- "then ` WHAT@I`": a part of the ticks that are left, of so many
+unfoldable pub ticksPart : ℕ → Model → Log → Replayed
+ticksPart total m l =
+    let left = min (getD (l .counts) 21 0) total in
+    let n = min left 1048576 in
+    let t = ticked n n (total - left) m in record { model = t .model; log = partEnded (left - n) (said (t .texts) l) }
 
--- where the answer ends
-unfoldable pub timeEnd : Texts → ℕ → ℕ → Model → Log → ℕ
-timeEnd head n passed m l = put (timeTexts head n passed m) l .next
+-- a line's first words, and its ticks as those left; no refusal
+unfoldable pub ticksAhead : Texts → ℕ → Log → Log
+ticksAhead head n l = record { counts = set (called 0 head l .counts) 21 n; answers = called 0 head l .answers }
 
--- "N single ticks"
-abbrev pub tickHead : ℕ → Texts
-tickHead n = numbered (ascii "tick ") n
+-- unless the line is under way
+unfoldable pub unlessUnderWay : Log → Log → Log
+unlessUnderWay begun l = cond (eqb (getD (l .counts) 21 0) 0) begun l
 
-abbrev pub tickLog : ℕ → Log → Log
-tickLog n l = record { counts = moved n (l .counts); answers = l .answers }
-
-unfoldable pub ticksLine : ℕ → Model → Log → Replayed
-ticksLine n m l = timeLine (tickHead n) n 0 m (tickLog n l)
-
-unfoldable pub ticksEnd : ℕ → Model → Log → ℕ
-ticksEnd n m l = timeEnd (tickHead n) n 0 m (tickLog n l)
+-- "N single ticks": "`tick N`"
+unfoldable pub ticksBegun : ℕ → Log → Log
+ticksBegun n l =
+    unlessUnderWay (ticksAhead (numbered (ascii "tick ") n) n record { counts = moved n (l .counts); answers = l .answers }) l
 
 unfoldable pub tickLine : ℕ → Model → Log → Replayed
-tickLine n m l = cond (eqb n 1) (singleLine m l) (ticksLine n m l)
+tickLine n m l = cond (eqb n 1) (singleLine m l) (ticksPart n m (ticksBegun n l))
 
--- "single ticks until T ticks have passed"
-abbrev pub atHead : ℕ → Texts
-atHead t = numbered (ascii "at ") t
-
-abbrev pub passedAt : ℕ → Log → ℕ
-passedAt t l = min (getD (l .counts) 9 0) t
-
-abbrev pub atLog : ℕ → Log → Log
-atLog t l = record { counts = set (l .counts) 9 t; answers = l .answers }
+-- "single ticks until T ticks have passed": "`at T`"
+unfoldable pub atBegun : ℕ → Log → Log
+atBegun t l =
+    unlessUnderWay
+    (ticksAhead (numbered (ascii "at ") t) (t - getD (l .counts) 9 0) record { counts = set (l .counts) 9 t; answers = l .answers })
+    l
 
 unfoldable pub atLine : ℕ → Model → Log → Replayed
-atLine t m l = timeLine (atHead t) (t - passedAt t l) (passedAt t l) m (atLog t l)
-
-unfoldable pub atEnd : ℕ → Model → Log → ℕ
-atEnd t m l = timeEnd (atHead t) (t - passedAt t l) (passedAt t l) m (atLog t l)
+atLine t m l = ticksPart t m (atBegun t l)
 
 -- only an accepted stretch moves the count
 unfoldable pub movedBy : Answer → ℕ → List ℕ → List ℕ
@@ -259,46 +253,3 @@ callLine Content.Degrees numbers s = beside (s .flash) (timedLine Content.Degree
 callLine (Content.Record n) numbers s = beside (s .flash) (timedLine (Content.Record n) numbers (s .model) (s .log))
 callLine (Content.Listing old first) numbers s = beside (s .flash) (timedLine (Content.Listing old first) numbers (s .model) (s .log))
 callLine (Content.Quietest n) numbers s = beside (s .flash) (timedLine (Content.Quietest n) numbers (s .model) (s .log))
-
--- The answers to `tick` and `at` may be longer than any buffer, and are then written in parts. Where such an answer ends; 0 of every
--- other line.
-unfoldable pub ticksEndOf : Content → Model → Log → ℕ
-ticksEndOf Content.Nothing m l = 0
-ticksEndOf Content.TooLong m l = 0
-ticksEndOf Content.UnknownWord m l = 0
-ticksEndOf Content.BadNumber m l = 0
-ticksEndOf Content.WrongCount m l = 0
-ticksEndOf Content.Item m l = 0
-ticksEndOf (Content.Bus n) m l = 0
-ticksEndOf (Content.BusOut size n) m l = 0
-ticksEndOf (Content.Tick n) m l = ticksEnd n m l
-ticksEndOf (Content.Flight up down) m l = 0
-ticksEndOf (Content.Temperature n) m l = 0
-ticksEndOf Content.Int m l = 0
-ticksEndOf Content.Awaited m l = 0
-ticksEndOf Content.Regs m l = 0
-ticksEndOf (Content.Expect a n) m l = 0
-ticksEndOf Content.Show m l = 0
-ticksEndOf (Content.Set a n) m l = 0
-ticksEndOf (Content.At t) m l = atEnd t m l
-ticksEndOf (Content.Stretch n) m l = 0
-ticksEndOf Content.Frames m l = 0
-ticksEndOf (Content.Probe n) m l = 0
-ticksEndOf Content.Degrees m l = 0
-ticksEndOf (Content.Record n) m l = 0
-ticksEndOf (Content.Listing old first) m l = 0
-ticksEndOf (Content.Quietest n) m l = 0
-
--- Such an answer is the definition's where it stands in the buffer whole, and every other answer is.
-abbrev pub Short : Content → Model → Log → Type 0
-Short content m l = ticksEndOf content m l ≤ longest
-
--- What is left is what the definition gives.
-pub record Leaves (short : Type 0) (expected actual : Replayed) : Type 0 where
-  pub model : actual .model ≡ expected .model
-  pub log : short → actual .log ≡ expected .log
-
-pub record LeavesFlash (short : Type 0) (expected actual : WithFlash) : Type 0 where
-  pub model : actual .model ≡ expected .model
-  pub flash : actual .flash ≡ expected .flash
-  pub log : short → actual .log ≡ expected .log

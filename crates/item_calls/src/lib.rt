@@ -4,8 +4,9 @@ mod start;
 mod ticks;
 mod transaction;
 
+ghost use mathlib.Core.Path.{_≡_};
 ghost use Rattle.line.specs.Line.{Bounded};
-ghost use Rattle.item_calls.specs.Lines.{Short, Leaves, LeavesFlash, timedLine, callLine};
+ghost use Rattle.item_calls.specs.Lines.{timedLine, callLine};
 use device::Model;
 use line::Content;
 
@@ -19,7 +20,7 @@ pub fn answer_call(
     answers: &mut [u8],
 ) -> Model
     requires { ⌜ Bounded content ⌝ }
-    ensures { λ r. ⌜ LeavesFlash (Short content m record { counts = now (counts .entry); answers = now (answers .entry) }) (callLine content (now (numbers .entry)) record { model = m; flash = now (mem .entry); log = record { counts = now (counts .entry); answers = now (answers .entry) } }) record { model = r; flash = now (mem .exit); log = record { counts = now (counts .exit); answers = now (answers .exit) } } ⌝ }
+    ensures { λ r. ⌜ record { model = r; flash = now (mem .exit); log = record { counts = now (counts .exit); answers = now (answers .exit) } } ≡ callLine content (now (numbers .entry)) record { model = m; flash = now (mem .entry); log = record { counts = now (counts .entry); answers = now (answers .entry) } } ⌝ }
 {
     match content {
         Content::Tick(n) => ticks::tick(m, n, counts, answers),
@@ -43,7 +44,7 @@ fn answer_time(
     counts: &mut [usize; 22],
     answers: &mut [u8],
 ) -> Model
-    ensures { λ r. ⌜ Leaves (Short content m record { counts = now (counts .entry); answers = now (answers .entry) }) (timedLine content (now (numbers .entry)) m record { counts = now (counts .entry); answers = now (answers .entry) }) record { model = r; log = record { counts = now (counts .exit); answers = now (answers .exit) } } ⌝ }
+    ensures { λ r. ⌜ record { model = r; log = record { counts = now (counts .exit); answers = now (answers .exit) } } ≡ timedLine content (now (numbers .entry)) m record { counts = now (counts .entry); answers = now (answers .entry) } ⌝ }
 {
     match content {
         Content::At(t) => ticks::at(m, t, counts, answers),

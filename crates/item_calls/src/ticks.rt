@@ -1,38 +1,42 @@
 // The lines `tick`, `at` and `stretch`.
 ghost use mathlib.Core.Path.{_≡_};
-ghost use mathlib.Core.List.{[], _∷_, _++_};
-ghost use Prim.Native.Nat.{_≤_, min};
-ghost use Rattle.numeral.specs.Place.{putEach};
+ghost use Prim.Native.Nat.{_-_, min};
 ghost use Rattle.wording.specs.Text.{PutEach};
-ghost use Rattle.wording.specs.Wording.{lineFeed, named};
-ghost use Rattle.item_state.specs.Log.{counted, longest};
-ghost use Rattle.item_calls.specs.Lines.{movedBy, Leaves, ticksEnd, atEnd, singleLine, tickLine, ticksLine, atLine, stretchLine, stretchReports, ticked};
+ghost use Rattle.item_calls.specs.Lines.{movedBy, singleLine, tickLine, ticksBegun, atLine, atBegun, ticksPart, partEnded, stretchLine, stretchReports};
 use device::Answer;
 use device::Model;
-use device::StretchReport;
+use item_state::counts::LEFT;
 use item_state::counts::MOMENT;
 use item_state::counts::USED;
 use item_state::counts::count;
 use item_state::counts::count_call;
 use item_state::counts::more;
-use item_state::output::go_on;
 
-// n ticks.
+// The ticks of a part: what they report has room in the buffer of answers.
+const PART: u32 = 1048576;
+
+// n ticks, or the next part of them.
 pub fn tick(m: Model, n: u32, counts: &mut [usize; 22], answers: &mut [u8]) -> Model
-    ensures { λ r. ⌜ Leaves (ticksEnd n m record { counts = now (counts .entry); answers = now (answers .entry) } ≤ longest) (tickLine n m record { counts = now (counts .entry); answers = now (answers .entry) }) record { model = r; log = record { counts = now (counts .exit); answers = now (answers .exit) } } ⌝ }
+    ensures { λ r. ⌜ record { model = r; log = record { counts = now (counts .exit); answers = now (answers .exit) } } ≡ tickLine n m record { counts = now (counts .entry); answers = now (answers .entry) } ⌝ }
 {
     if n == 1 {
         return single(m, counts, answers);
     }
-    many(m, n, counts, answers)
+    begin_ticks(n, counts, answers);
+    run(m, n, counts, answers)
 }
 
-fn many(m: Model, n: u32, counts: &mut [usize; 22], answers: &mut [u8]) -> Model
-    ensures { λ r. ⌜ Leaves (ticksEnd n m record { counts = now (counts .entry); answers = now (answers .entry) } ≤ longest) (ticksLine n m record { counts = now (counts .entry); answers = now (answers .entry) }) record { model = r; log = record { counts = now (counts .exit); answers = now (answers .exit) } } ⌝ }
+// The line's first words, and its ticks as those left, unless it is under way.
+fn begin_ticks(n: u32, counts: &mut [usize; 22], answers: &mut [u8])
+    ensures { λ _. ⌜ record { counts = now (counts .exit); answers = now (answers .exit) } ≡ ticksBegun n record { counts = now (counts .entry); answers = now (answers .entry) } ⌝ }
 {
+    if counts[LEFT] != 0 {
+        return;
+    }
     counts[MOMENT] = more(counts[MOMENT], n as usize);
     let start = wording::heads::put_tick(answers, counts[USED], n);
-    run(m, n, 0, start, counts, answers)
+    count(counts, 0, start);
+    counts[LEFT] = n as usize;
 }
 
 fn single(m: Model, counts: &mut [usize; 22], answers: &mut [u8]) -> Model
@@ -46,97 +50,91 @@ fn single(m: Model, counts: &mut [usize; 22], answers: &mut [u8]) -> Model
     reply.model
 }
 
-// Ticks up to the moment t, which has not passed.
+// Ticks up to the moment t, which has not passed, or the next part of them.
 pub fn at(m: Model, t: u32, counts: &mut [usize; 22], answers: &mut [u8]) -> Model
-    ensures { λ r. ⌜ Leaves (atEnd t m record { counts = now (counts .entry); answers = now (answers .entry) } ≤ longest) (atLine t m record { counts = now (counts .entry); answers = now (answers .entry) }) record { model = r; log = record { counts = now (counts .exit); answers = now (answers .exit) } } ⌝ }
+    ensures { λ r. ⌜ record { model = r; log = record { counts = now (counts .exit); answers = now (answers .exit) } } ≡ atLine t m record { counts = now (counts .entry); answers = now (answers .entry) } ⌝ }
 {
-    let passed = passed_of(counts[MOMENT], t);
+    begin_at(t, counts, answers);
+    run(m, t, counts, answers)
+}
+
+fn begin_at(t: u32, counts: &mut [usize; 22], answers: &mut [u8])
+    ensures { λ _. ⌜ record { counts = now (counts .exit); answers = now (answers .exit) } ≡ atBegun t record { counts = now (counts .entry); answers = now (answers .entry) } ⌝ }
+{
+    if counts[LEFT] != 0 {
+        return;
+    }
+    let left = left_to(counts[MOMENT], t);
     counts[MOMENT] = t as usize;
     let start = wording::heads::put_at(answers, counts[USED], t);
-    run(m, t - passed, passed, start, counts, answers)
+    count(counts, 0, start);
+    counts[LEFT] = left;
 }
 
-// The ticks that have passed, t at most.
-fn passed_of(moment: usize, t: u32) -> u32
-    ensures { λ r. ⌜ r ≡ min moment t ⌝ }
+// The ticks from a moment to another, or none.
+fn left_to(moment: usize, t: u32) -> usize
+    ensures { λ r. ⌜ r ≡ t - moment ⌝ }
 {
-    if moment <= t as usize {
-        moment as u32
-    } else {
-        t
-    }
+    let end = t as usize;
+    if moment <= end { end - moment } else { 0 }
 }
 
-// In stretches, which end as so many single ticks do. Reports are counted from `passed` on, and put from
-// the place `start` on.
-fn run(
-    m: Model,
-    n: u32,
-    passed: u32,
-    start: usize,
-    counts: &mut [usize; 22],
-    answers: &mut [u8],
-) -> Model
-    ensures { λ r. ⌜ (r ≡ ticked n n passed m .model) × (putEach (now (answers .entry)) start (ticked n n passed m .texts ++ (lineFeed ∷ [])) .next ≤ longest → (now (counts .exit) ≡ counted (now (counts .entry)) 0 (putEach (now (answers .entry)) start (ticked n n passed m .texts ++ (lineFeed ∷ [])) .next)) × (now (answers .exit) ≡ putEach (now (answers .entry)) start (ticked n n passed m .texts ++ (lineFeed ∷ [])) .bytes)) ⌝ }
+// The ticks that are left, of so many, or a part of them: in stretches, which end as so many single ticks do. Reports are counted from
+// the ticks before; the line ends with the last.
+fn run(m: Model, total: u32, counts: &mut [usize; 22], answers: &mut [u8]) -> Model
+    ensures { λ r. ⌜ record { model = r; log = record { counts = now (counts .exit); answers = now (answers .exit) } } ≡ ticksPart total m record { counts = now (counts .entry); answers = now (answers .entry) } ⌝ }
 {
+    let all = at_most(counts[LEFT], total);
+    let part = at_most(all as usize, PART);
     let mut model = m;
-    let mut left = n;
-    let mut before = passed;
-    let mut place = start;
+    let mut left = part;
+    let mut before = total - all;
+    let mut place = counts[USED];
     while left > 0 {
-        let span = span_of(left);
+        let span = at_most(left as usize, 16384);
         let reply = converter::stretch(model, span);
         model = reply.model;
         let answer = reply.answer;
-        place = add_reports(answers, answer, before, place, counts);
-        before = std::num::wrapping_add_u32(before, span);
+        place = add_reports(answers, answer, before, place);
+        before += span;
         left -= span;
     }
-    let end = wording::heads::put_end(answers, place);
-    count(counts, 0, end);
+    counts[USED] = place;
+    end_part(all - part, counts, answers);
     model
 }
 
-// The next stretch, where so many ticks are left.
-fn span_of(left: u32) -> u32
-    ensures { λ r. ⌜ r ≡ min left 16384 ⌝ }
+// So many, n at most.
+fn at_most(k: usize, n: u32) -> u32
+    ensures { λ r. ⌜ r ≡ min k n ⌝ }
 {
-    if left <= 16384 { left } else { 16384 }
+    if k <= n as usize { k as u32 } else { n }
+}
+
+// Behind a part of the ticks, so many being left: with the last of them the line ends.
+fn end_part(left: u32, counts: &mut [usize; 22], answers: &mut [u8])
+    ensures { λ _. ⌜ record { counts = now (counts .exit); answers = now (answers .exit) } ≡ partEnded left record { counts = now (counts .entry); answers = now (answers .entry) } ⌝ }
+{
+    counts[LEFT] = left as usize;
+    if left > 0 {
+        return;
+    }
+    counts[USED] = wording::heads::put_end(answers, counts[USED]);
 }
 
 // Adds what a stretch reports, and answers the place behind it.
-fn add_reports(
-    answers: &mut [u8],
-    answer: Answer,
-    before: u32,
-    place: usize,
-    counts: &mut [usize; 22],
-) -> usize
-    ensures { λ r. ⌜ (place ≤ longest → (now (counts .exit) ≡ now (counts .entry)) × PutEach (now (answers .entry)) place (stretchReports answer before) r (now (answers .exit))) ⌝ }
+fn add_reports(answers: &mut [u8], answer: Answer, before: u32, place: usize) -> usize
+    ensures { λ r. ⌜ PutEach (now (answers .entry)) place (stretchReports answer before) r (now (answers .exit)) ⌝ }
 {
     match answer {
         Answer::Stretched(flight, temperature) => {
             if wording::ticks::none_named(flight, temperature) {
                 return place;
             }
-            add_named(answers, flight, temperature, before, place, counts)
+            wording::ticks::put_named(answers, place, flight, temperature, before)
         }
         _ => place,
     }
-}
-
-fn add_named(
-    answers: &mut [u8],
-    flight: StretchReport,
-    temperature: StretchReport,
-    before: u32,
-    place: usize,
-    counts: &mut [usize; 22],
-) -> usize
-    ensures { λ r. ⌜ (place ≤ longest → (now (counts .exit) ≡ now (counts .entry)) × PutEach (now (answers .entry)) place (named flight temperature before) r (now (answers .exit))) ⌝ }
-{
-    let start = go_on(answers, counts, place);
-    wording::ticks::put_named(answers, start, flight, temperature, before)
 }
 
 // One stretch of n ticks.

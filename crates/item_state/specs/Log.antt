@@ -34,7 +34,3 @@ called refused texts l = record { counts = counted (l .counts) refused (put text
 -- 1 for an answer `no`, which has a number
 unfoldable pub refusals : Answer → ℕ
 refusals answer = length (numberIn answer)
-
--- An answer that ends here at the latest stands in the buffer whole; the start of a longer one may have been written before its end.
-abbrev pub longest : ℕ
-longest = 65536

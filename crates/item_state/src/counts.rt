@@ -56,14 +56,8 @@ pub const OLD_TROUBLE: usize = 19;
 // Where the line's answer starts, behind its head in a check.
 pub const BODY: usize = 20;
 
-// How far reading the input has come: MORE, ENDED or UNREADABLE.
-pub const STATE: usize = 21;
-
-pub const MORE: usize = 0;
-
-pub const ENDED: usize = 1;
-
-pub const UNREADABLE: usize = 2;
+// Ticks of the line that are still to run: a long line of ticks is answered in parts. 0 where no line is under way.
+pub const LEFT: usize = 21;
 
 // The record and the probe table have so many places.
 pub const RECORD_PLACES: usize = 4096;

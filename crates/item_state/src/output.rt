@@ -1,12 +1,11 @@
 // Bytes to standard output, and parts of buffers.
 ghost use mathlib.Core.Path.{_≡_};
-ghost use Prim.Native.Nat.{_≤_};
 ghost use lib.ListN.{take, drop};
-ghost use Rattle.item_state.specs.Log.{longest};
 use crate::counts::BODY;
 use crate::counts::CHECK;
 use crate::counts::USED;
 use crate::counts::WRITTEN;
+use crate::counts::more;
 use libc::STDOUT_FILENO;
 
 // The first n bytes of a buffer; all of it where it has fewer.
@@ -41,11 +40,11 @@ pub fn words_from(words: &[u32], n: usize) -> &[u32]
 
 // Answers that are not written yet may use this many places when another is begun. Behind them the
 // buffer of 163,840 has room for the longest, a listing of 4,096 lines, and what a line expects.
-const FULL: usize = 49152;
+pub const FULL: usize = 49152;
 
-// An answer that grows past this place is written in parts. It starts at FULL at the latest, so its
-// first KEPT bytes, more than a line can expect, stay in the buffer.
-const LONG: usize = 65536;
+// An answer in parts that has grown past so many bytes is written before it ends. Its first KEPT bytes, more than a line can expect,
+// stay in the buffer.
+const LONG: usize = 16384;
 
 const KEPT: usize = 2048;
 
@@ -61,26 +60,18 @@ pub fn write_answers(answers: &[u8], counts: &mut [usize; 22]) {
     counts[WRITTEN] = 0;
 }
 
-// Makes room for another answer.
-pub fn make_room(answers: &[u8], counts: &mut [usize; 22]) {
-    if FULL < counts[USED] {
-        write_answers(answers, counts);
+// Between two parts of an answer: behind its kept start the rest is written, or left out of a check.
+pub fn spill(answers: &mut [u8], counts: &mut [usize; 22]) {
+    let body = counts[BODY];
+    if counts[USED] <= more(body, LONG) {
+        return;
     }
-}
-
-// The place at which an answer goes on: `at`, or one behind its kept start where the rest had to be
-// written, or is left out of a check.
-pub fn go_on(answers: &mut [u8], counts: &mut [usize; 22], at: usize) -> usize
-    ensures { λ r. ⌜ (at ≤ longest → (r ≡ at) × (now (answers .exit) ≡ now (answers .entry)) × (now (counts .exit) ≡ now (counts .entry))) ⌝ }
-{
-    if at <= LONG {
-        return at;
-    }
-    let kept = crate::counts::more(counts[BODY], KEPT);
+    let kept = more(body, KEPT);
     if counts[CHECK] == 0 {
-        write_part(answers, counts[WRITTEN], at);
+        write_part(answers, counts[WRITTEN], counts[USED]);
         counts[WRITTEN] = kept;
-        return kept;
+        counts[USED] = kept;
+        return;
     }
-    numeral::put_text(answers, kept, b" ..")
+    counts[USED] = numeral::put_text(answers, kept, b" ..");
 }

@@ -1,2 +1,2 @@
-pub mod Fault
+pub mod Feed
 pub mod Line

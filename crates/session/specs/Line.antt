@@ -1,13 +1,18 @@
--- What one line leaves, once it is read and found to be no bad one. Assumes nothing.
+-- What one line leaves, from its bytes on. Assumes nothing.
 use Prim.Native.Nat.{ℕ}
+use mathlib.Core.Bool.{cond}
 use mathlib.Core.List.{List}
+use lib.Dec.{eqb}
 use lib.IntN.{ℤ}
+use lib.ListN.{getD}
 use Rattle.device.specs.declared.Model.{Model}
 use Rattle.line.specs.declared.Content.{Content}
+use Rattle.line.specs.Line.{lineReading}
 use Rattle.item_state.specs.Log.{Log}
 use Rattle.item_calls.specs.Lines.{WithFlash, callLine}
-use Rattle.item_questions.specs.Answers.{questionLine}
-use Rattle.item_analysis.specs.Lines.{ItemKept, analysisLine}
+use Rattle.answer_text.specs.Line.{lineLeft}
+use Rattle.item_checks.specs.Open.{Opened, opened}
+use Rattle.item_checks.specs.Close.{expectedOf, closed}
 
 -- What a replay keeps from line to line: the model, the user flash, the record, the probe table, and the counts with the answers.
 pub record State : Type 0 where
@@ -17,19 +22,48 @@ pub record State : Type 0 where
   pub probes : List ℕ
   pub log : Log
 
--- a line that moves the model
-abbrev pub moved : Content → List ℕ → State → WithFlash
-moved content numbers s = callLine content numbers record { model = s .model; flash = s .flash; log = s .log }
+-- ---- the line's own answer
 
--- a line that asks, or one on the record and the probe table, on the model after it
-abbrev pub asked : Content → List ℕ → State → WithFlash → ItemKept
-asked content numbers s c =
-    analysisLine content numbers (c .model)
-    record { differences = s .differences; probes = s .probes; log = questionLine content numbers (c .model) (c .log) }
+-- Each line moves the model, or asks it, or goes by the record and the probe table, and passes over the others (`lineLeft`).
+abbrev pub withFlash : State → WithFlash
+withFlash s = record { model = s .model; flash = s .flash; log = s .log }
 
--- Each line is of one of these sorts, and passes over the others.
 unfoldable pub lineDone : Content → List ℕ → State → State
 lineDone content numbers s =
-    let c = moved content numbers s in
-    let k = asked content numbers s c in
+    let c = callLine content numbers (withFlash s) in
+    let k = lineLeft content numbers (withFlash s) (s .differences) (s .probes) in
     record { model = c .model; flash = c .flash; differences = k .differences; probes = k .probes; log = k .log }
+
+-- ---- what stands around it
+
+-- A line of ticks that is answered in parts is under way while count 21 is not 0. It is begun once: what stands before its answer, then
+-- the answer's first part
+unfoldable pub lineBegun : Content → List ℕ → List ℕ → Log → Opened
+lineBegun content text names l =
+    cond (eqb (getD (l .counts) 21 0) 0) (opened content text names l) record { content = content; names = names; log = l }
+
+-- and it is ended once, behind the last part.
+unfoldable pub lineEnded : List (List ℕ) → List ℕ → Log → Log
+lineEnded expected names l = cond (eqb (getD (l .counts) 21 0) 0) (closed expected names l) l
+
+-- What is kept from line to line with the names of the file and the item.
+pub record Replay : Type 0 where
+  pub state : State
+  pub names : List ℕ
+
+abbrev pub withLog : State → Log → State
+withLog s l = record { model = s .model; flash = s .flash; differences = s .differences; probes = s .probes; log = l }
+
+-- A line that was read: its content, its numbers, and the words that it expects of its answer
+unfoldable pub contentAnswered : Content → List (List ℕ) → List ℕ → List ℕ → Replay → Replay
+contentAnswered content expected text numbers r =
+    let b = lineBegun content text (r .names) (r .state .log) in
+    let s = lineDone (b .content) numbers (withLog (r .state) (b .log)) in
+    record { state = withLog s (lineEnded expected (b .names) (s .log)); names = b .names }
+
+-- ---- a line's bytes
+
+-- All that a line leaves; the numbers of the line before stand in the buffer that its own are read into.
+unfoldable pub lineAnswered : List ℕ → List ℕ → Replay → Replay
+lineAnswered text numbers r =
+    let read = lineReading numbers text in contentAnswered (read .content) (expectedOf text) text (read .numbers) r

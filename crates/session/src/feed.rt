@@ -1,25 +1,33 @@
 // The input, line by line.
-ghost use Prim.Native.Nat.{_≤_, _<_, _+_};
-ghost use lib.ListN.{length};
+ghost use mathlib.Core.Bool.{cond};
+ghost use mathlib.Core.Path.{_≡_};
+ghost use Prim.Native.Nat.{_+_, _≤_, _<_};
+ghost use lib.Dec.{eqb};
+ghost use lib.ListN.{length, getD};
+ghost use Rattle.line_buffer.specs.Lines.{lineEnd};
+ghost use Rattle.session.specs.Feed.{hasRoom, fed, withLeft};
 use crate::lines::answer_line;
 use device::Model;
 use item_state::counts::BAD;
 use item_state::counts::CALLS;
 use item_state::counts::CHECK;
 use item_state::counts::DIFFER;
-use item_state::counts::ENDED;
 use item_state::counts::EXPECTED;
 use item_state::counts::HELD;
-use item_state::counts::MORE;
+use item_state::counts::LEFT;
 use item_state::counts::PATH;
 use item_state::counts::REFUSED;
-use item_state::counts::STATE;
 use item_state::counts::UNANNOUNCED;
-use item_state::counts::UNREADABLE;
 use item_state::counts::USED;
 use item_state::counts::more;
+use item_state::output::FULL;
+use item_state::output::bytes_from;
 use item_state::output::first_bytes;
+use item_state::output::spill;
 use item_state::output::write_answers;
+use line_buffer::has_line;
+use line_buffer::hold;
+use line_buffer::line_end;
 
 // How a replay ended: whether all of the file was read, and what its last line counts.
 pub struct Outcome {
@@ -30,14 +38,30 @@ pub struct Outcome {
     pub differ: usize,
 }
 
-// As much of a line as is held: one with more bytes is too long, whatever they are.
-const LONGEST: usize = 1002;
+// What of the buffer is still to be answered, and how far reading has come.
+struct Input {
+    from: usize,
+    end: usize,
+    state: u8,
+}
+
+// The file may have more bytes; it has none; it can't be read; and there is nothing left to answer either, of a file read to its end or
+// not.
+const MORE: u8 = 0;
+
+const ENDED: u8 = 1;
+
+const UNREADABLE: u8 = 2;
+
+const DONE: u8 = 3;
+
+const BROKEN_OFF: u8 = 4;
 
 // Replays what a file has, to its end. With `check`, only what needs a look is written, by the file's
 // name and the line.
 //
-// Nothing says that the input ends, so the loop counts its turns down, from a number that no run
-// uses up.
+// Each turn answers lines of what was read, writes the answers, and reads on where no line is left. Nothing says that the input ends, so
+// the loop counts its turns down, from a number that no run uses up.
 pub fn replay(fd: i32, path: &[u8], check: bool) -> Outcome {
     let mut numbers = [0u32; 512];
     let mut counts = [0usize; 22];
@@ -48,14 +72,18 @@ pub fn replay(fd: i32, path: &[u8], check: bool) -> Outcome {
     let mut answers = [0u8; 163840];
     let mut part = io::large_buffer();
     let mut m = converter::fresh();
+    let mut input = Input {
+        from: 0,
+        end: 0,
+        state: MORE,
+    };
     let mut turns = u64::MAX;
     begin(path, check, &mut counts, &mut names);
-    while turns > 0 && counts[STATE] == MORE {
+    while turns > 0 && is_going(input) {
         turns -= 1;
-        let n = read_more(fd, path, &mut part, &mut counts);
-        m = answer_lines(
+        m = feed(
             m,
-            first_bytes(&part, n),
+            bytes_from(first_bytes(&part, input.end), input.from),
             &mut numbers,
             &mut counts,
             &mut mem,
@@ -64,10 +92,14 @@ pub fn replay(fd: i32, path: &[u8], check: bool) -> Outcome {
             &mut names,
             &mut answers,
         );
-        hold(&mut part, n, &mut counts);
-        write_answers(&answers, &mut counts);
+        flush(&mut answers, &mut counts);
+        input = go_on(fd, path, &mut part, input, &mut counts);
     }
-    end(&mut counts, &mut answers)
+    end(input, &mut counts, &mut answers)
+}
+
+fn is_going(input: Input) -> bool {
+    input.state < DONE
 }
 
 fn begin(path: &[u8], check: bool, counts: &mut [usize; 22], names: &mut [u8]) {
@@ -77,25 +109,80 @@ fn begin(path: &[u8], check: bool, counts: &mut [usize; 22], names: &mut [u8]) {
     }
 }
 
-// Reads on behind the bytes that are held, and answers how many stand there then. A last line without
-// a line feed gets one.
-fn read_more(fd: i32, path: &[u8], part: &mut [u8], counts: &mut [usize; 22]) -> usize {
-    let held = counts[HELD];
+// Writes the answers. Of a line that is under way the start stays in the buffer.
+fn flush(answers: &mut [u8], counts: &mut [usize; 22]) {
+    if counts[LEFT] != 0 {
+        spill(answers, counts);
+        return;
+    }
+    write_answers(answers, counts);
+}
+
+// What is to be answered next: a line that is left in the buffer, or, where none is, what is read on.
+fn go_on(fd: i32, path: &[u8], part: &mut [u8], input: Input, counts: &mut [usize; 22]) -> Input {
+    let end = input.end;
+    let from = place_before(end, counts[HELD]);
+    if has_line(bytes_from(first_bytes(part, end), from)) {
+        return Input {
+            from,
+            end,
+            state: input.state,
+        };
+    }
+    if input.state != MORE {
+        return over(input);
+    }
+    counts[HELD] = hold(part, from, end);
+    read_more(fd, path, part, counts[HELD])
+}
+
+fn place_before(end: usize, held: usize) -> usize {
+    if held <= end { end - held } else { 0 }
+}
+
+fn over(input: Input) -> Input {
+    let state = input.state;
+    Input {
+        from: 0,
+        end: 0,
+        state: if state == UNREADABLE {
+            BROKEN_OFF
+        } else {
+            DONE
+        },
+    }
+}
+
+// Reads on behind the bytes that are held. A last line without a line feed gets one.
+fn read_more(fd: i32, path: &[u8], part: &mut [u8], held: usize) -> Input {
     if part.len() <= held {
-        counts[STATE] = ENDED;
-        return 0;
+        return Input {
+            from: 0,
+            end: 0,
+            state: ENDED,
+        };
     }
     let got = libc::read(fd, &mut part[held..]);
     if got < 0 {
         os::fail(path);
-        counts[STATE] = UNREADABLE;
-        return 0;
+        return Input {
+            from: 0,
+            end: 0,
+            state: UNREADABLE,
+        };
     }
     if got == 0 {
-        counts[STATE] = ENDED;
-        return end_line(part, held);
+        return Input {
+            from: 0,
+            end: end_line(part, held),
+            state: ENDED,
+        };
     }
-    more(held, io::count(got, &part[held..]))
+    Input {
+        from: 0,
+        end: more(held, io::count(got, &part[held..])),
+        state: MORE,
+    }
 }
 
 // Puts a line feed behind the bytes that are held, if some are.
@@ -109,8 +196,9 @@ fn end_line(part: &mut [u8], held: usize) -> usize
     held + 1
 }
 
-// Answers the lines that end in these bytes, and counts those that are left.
-fn answer_lines(
+// Answers lines that end in these bytes, all of them or those that the buffer has room for, and counts the bytes that are left. The first
+// line may be under way.
+fn feed(
     m: Model,
     part: &[u8],
     numbers: &mut [u32],
@@ -120,7 +208,9 @@ fn answer_lines(
     probes: &mut [u32],
     names: &mut [u8],
     answers: &mut [u8],
-) -> Model {
+) -> Model
+    ensures { λ r. ⌜ (now (numbers .exit) ≡ fed (length (now (part .entry))) record { replay = record { state = record { model = m; flash = now (mem .entry); differences = now (kept .entry); probes = now (probes .entry); log = record { counts = now (counts .entry); answers = now (answers .entry) } }; names = now (names .entry) }; numbers = now (numbers .entry); left = now (part .entry) } .numbers) × (record { state = record { model = r; flash = now (mem .exit); differences = now (kept .exit); probes = now (probes .exit); log = record { counts = now (counts .exit); answers = now (answers .exit) } }; names = now (names .exit) } ≡ withLeft (length (fed (length (now (part .entry))) record { replay = record { state = record { model = m; flash = now (mem .entry); differences = now (kept .entry); probes = now (probes .entry); log = record { counts = now (counts .entry); answers = now (answers .entry) } }; names = now (names .entry) }; numbers = now (numbers .entry); left = now (part .entry) } .left)) (fed (length (now (part .entry))) record { replay = record { state = record { model = m; flash = now (mem .entry); differences = now (kept .entry); probes = now (probes .entry); log = record { counts = now (counts .entry); answers = now (answers .entry) } }; names = now (names .entry) }; numbers = now (numbers .entry); left = now (part .entry) } .replay)) ⌝ }
+{
     let mut model = m;
     let mut i = 0;
     let mut end = line_end(part, 0);
@@ -136,108 +226,52 @@ fn answer_lines(
             names,
             answers,
         );
-        i = end + 1;
-        end = line_end(part, i);
+        i = place_after(counts, i, end);
+        end = next_end(part, i, counts);
     }
     counts[HELD] = part.len() - i;
     model
 }
 
-// The place of the first line feed from `at` on, or the end. Eight places are looked at in a turn.
-fn line_end(part: &[u8], at: usize) -> usize
+// Where the next line starts; a line that is under way is the next once more.
+fn place_after(counts: &[usize; 22], start: usize, end: usize) -> usize
+    requires { ⌜ end < 18446744073709551615 ⌝ }
+    ensures { λ r. ⌜ (r ≡ cond (eqb (getD (now (counts .entry)) 21 0) 0) (end + 1) start) × (start ≤ end → r ≤ end + 1) ⌝ }
+{
+    if counts[LEFT] != 0 {
+        return start;
+    }
+    end + 1
+}
+
+// The end of the line from a place on, or that of the bytes where answers are to be written first.
+fn next_end(part: &[u8], at: usize, counts: &[usize; 22]) -> usize
     requires { ⌜ at ≤ length (now part) ⌝ }
-    ensures { λ r. ⌜ (at ≤ r) × (r ≤ length (now (part .entry))) ⌝ }
+    ensures { λ r. ⌜ (r ≡ cond (hasRoom (now (counts .entry))) (lineEnd at (now (part .entry))) (length (now (part .entry)))) × (r ≤ length (now (part .entry))) ⌝ }
 {
-    let mut i = at;
-    while 8 <= part.len() - i {
-        let end = end_in_eight(part, i);
-        if end < i + 8 {
-            return end;
-        }
-        i += 8;
+    if has_room(counts) {
+        return line_end(part, at);
     }
-    end_from(part, i)
+    part.len()
 }
 
-fn end_in_eight(part: &[u8], i: usize) -> usize
-    requires { ⌜ i + 8 ≤ length (now part) ⌝ }
-    ensures { λ r. ⌜ (i ≤ r) × (r ≤ i + 8) ⌝ }
+// Whether another line can be answered before answers are written.
+fn has_room(counts: &[usize; 22]) -> bool
+    ensures { λ r. ⌜ r ≡ hasRoom (now (counts .entry)) ⌝ }
 {
-    if part[i + 0] == 10 {
-        return i + 0;
+    if counts[LEFT] != 0 {
+        return false;
     }
-    if part[i + 1] == 10 {
-        return i + 1;
-    }
-    if part[i + 2] == 10 {
-        return i + 2;
-    }
-    if part[i + 3] == 10 {
-        return i + 3;
-    }
-    if part[i + 4] == 10 {
-        return i + 4;
-    }
-    if part[i + 5] == 10 {
-        return i + 5;
-    }
-    if part[i + 6] == 10 {
-        return i + 6;
-    }
-    if part[i + 7] == 10 {
-        return i + 7;
-    }
-    i + 8
+    counts[USED] <= FULL
 }
 
-fn end_from(part: &[u8], at: usize) -> usize
-    requires { ⌜ at ≤ length (now part) ⌝ }
-    ensures { λ r. ⌜ (at ≤ r) × (r ≤ length (now (part .entry))) ⌝ }
-{
-    let mut i = at;
-    while i < part.len() {
-        if part[i] == 10 {
-            return i;
-        }
-        i += 1;
-    }
-    i
-}
-
-// Brings what is left of the first n bytes to the front.
-fn hold(part: &mut [u8], n: usize, counts: &mut [usize; 22]) {
-    let left = counts[HELD];
-    if n < left {
-        return;
-    }
-    counts[HELD] = bring_forward(part, n - left, n);
-}
-
-// Brings the bytes from `at` to before n to the front, as many as are held of a line, and answers how
-// many.
-fn bring_forward(part: &mut [u8], at: usize, n: usize) -> usize {
-    let mut i = at;
-    let mut held = 0;
-    while i < n {
-        if LONGEST <= held {
-            return held;
-        }
-        if part.len() <= i {
-            return held;
-        }
-        part[held] = part[i];
-        held += 1;
-        i += 1;
-    }
-    held
-}
-
-// Writes what is left, and tells how the replay ended.
-fn end(counts: &mut [usize; 22], answers: &mut [u8]) -> Outcome {
-    put_end(counts, answers);
+// Writes the last line, and tells how the replay ended.
+fn end(input: Input, counts: &mut [usize; 22], answers: &mut [u8]) -> Outcome {
+    let whole = input.state != BROKEN_OFF;
+    put_end(whole, counts, answers);
     write_answers(answers, counts);
     Outcome {
-        whole: counts[STATE] != UNREADABLE,
+        whole: whole,
         unannounced: counts[UNANNOUNCED],
         bad: counts[BAD],
         expected: counts[EXPECTED],
@@ -246,8 +280,8 @@ fn end(counts: &mut [usize; 22], answers: &mut [u8]) -> Outcome {
 }
 
 // The last line, where the input was read to its end. A check has none.
-fn put_end(counts: &mut [usize; 22], answers: &mut [u8]) {
-    if counts[STATE] != ENDED {
+fn put_end(whole: bool, counts: &mut [usize; 22], answers: &mut [u8]) {
+    if !whole {
         return;
     }
     if counts[CHECK] != 0 {

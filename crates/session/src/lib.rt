@@ -5,11 +5,8 @@
 // record, the probe table, the names of the file and the item, and the answers that are not written
 // yet. Answers are written when what was read is answered, or when the buffer may not hold another
 // one. A function that branches takes few of the buffers, since each of them makes its proof longer.
-mod close;
-mod fault;
 mod feed;
 mod lines;
-mod open;
 
 pub use feed::Outcome;
 pub use feed::replay;

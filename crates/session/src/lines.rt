@@ -1,11 +1,12 @@
-// One line, answered.
+// One line, from its bytes to what it leaves.
 ghost use mathlib.Core.Path.{_≡_};
-ghost use Rattle.line.specs.Line.{Bounded};
-ghost use Rattle.item_calls.specs.Lines.{Short};
-ghost use Rattle.session.specs.Line.{lineDone};
-use crate::close::close;
-use crate::open::open;
+ghost use Rattle.line.specs.Line.{Bounded, lineReading};
+ghost use Rattle.session.specs.Line.{lineDone, lineBegun, lineEnded, contentAnswered, lineAnswered};
+ghost use Rattle.item_checks.specs.Close.{expectedFrom};
 use device::Model;
+use item_checks::close::close;
+use item_checks::open::open;
+use item_state::counts::LEFT;
 use line::Content;
 
 pub fn answer_line(
@@ -18,7 +19,9 @@ pub fn answer_line(
     probes: &mut [u32],
     names: &mut [u8],
     answers: &mut [u8],
-) -> Model {
+) -> Model
+    ensures { λ r. ⌜ (now (numbers .exit) ≡ lineReading (now (numbers .entry)) (now (text .entry)) .numbers) × (record { state = record { model = r; flash = now (mem .exit); differences = now (kept .exit); probes = now (probes .exit); log = record { counts = now (counts .exit); answers = now (answers .exit) } }; names = now (names .exit) } ≡ lineAnswered (now (text .entry)) (now (numbers .entry)) record { state = record { model = m; flash = now (mem .entry); differences = now (kept .entry); probes = now (probes .entry); log = record { counts = now (counts .entry); answers = now (answers .entry) } }; names = now (names .entry) }) ⌝ }
+{
     let said = line::read_line(text, numbers);
     let content = said.content;
     answer_content(
@@ -50,11 +53,38 @@ fn answer_content(
     answers: &mut [u8],
 ) -> Model
     requires { ⌜ Bounded content ⌝ }
+    ensures { λ r. ⌜ record { state = record { model = r; flash = now (mem .exit); differences = now (kept .exit); probes = now (probes .exit); log = record { counts = now (counts .exit); answers = now (answers .exit) } }; names = now (names .exit) } ≡ contentAnswered content (expectedFrom (now (text .entry)) expected) (now (text .entry)) (now (numbers .entry)) record { state = record { model = m; flash = now (mem .entry); differences = now (kept .entry); probes = now (probes .entry); log = record { counts = now (counts .entry); answers = now (answers .entry) } }; names = now (names .entry) } ⌝ }
 {
-    let left = open(content, text, counts, names, answers);
+    let left = begin(content, text, counts, names, answers);
     let model = answer_on_model(m, left, numbers, counts, mem, kept, probes, answers);
-    close(text, expected, counts, names, answers);
+    end(text, expected, counts, names, answers);
     model
+}
+
+// Before a line's answer, unless the line is under way.
+fn begin(
+    content: Content,
+    text: &[u8],
+    counts: &mut [usize; 22],
+    names: &mut [u8],
+    answers: &mut [u8],
+) -> Content
+    ensures { λ r. ⌜ (Bounded content → Bounded r) × (record { content = r; names = now (names .exit); log = record { counts = now (counts .exit); answers = now (answers .exit) } } ≡ lineBegun content (now (text .entry)) (now (names .entry)) record { counts = now (counts .entry); answers = now (answers .entry) }) ⌝ }
+{
+    if counts[LEFT] != 0 {
+        return content;
+    }
+    open(content, text, counts, names, answers)
+}
+
+// Behind it, once the line is no longer under way.
+fn end(text: &[u8], expected: usize, counts: &mut [usize; 22], names: &[u8], answers: &mut [u8])
+    ensures { λ _. ⌜ record { counts = now (counts .exit); answers = now (answers .exit) } ≡ lineEnded (expectedFrom (now (text .entry)) expected) (now (names .entry)) record { counts = now (counts .entry); answers = now (answers .entry) } ⌝ }
+{
+    if counts[LEFT] != 0 {
+        return;
+    }
+    close(text, expected, counts, names, answers);
 }
 
 // Each step answers the lines that are its own, and passes over the others.
@@ -69,7 +99,7 @@ fn answer_on_model(
     answers: &mut [u8],
 ) -> Model
     requires { ⌜ Bounded content ⌝ }
-    ensures { λ r. ⌜ (r ≡ lineDone content (now (numbers .entry)) record { model = m; flash = now (mem .entry); differences = now (kept .entry); probes = now (probes .entry); log = record { counts = now (counts .entry); answers = now (answers .entry) } } .model) × (now (mem .exit) ≡ lineDone content (now (numbers .entry)) record { model = m; flash = now (mem .entry); differences = now (kept .entry); probes = now (probes .entry); log = record { counts = now (counts .entry); answers = now (answers .entry) } } .flash) × (Short content m record { counts = now (counts .entry); answers = now (answers .entry) } → record { model = r; flash = now (mem .exit); differences = now (kept .exit); probes = now (probes .exit); log = record { counts = now (counts .exit); answers = now (answers .exit) } } ≡ lineDone content (now (numbers .entry)) record { model = m; flash = now (mem .entry); differences = now (kept .entry); probes = now (probes .entry); log = record { counts = now (counts .entry); answers = now (answers .entry) } }) ⌝ }
+    ensures { λ r. ⌜ record { model = r; flash = now (mem .exit); differences = now (kept .exit); probes = now (probes .exit); log = record { counts = now (counts .exit); answers = now (answers .exit) } } ≡ lineDone content (now (numbers .entry)) record { model = m; flash = now (mem .entry); differences = now (kept .entry); probes = now (probes .entry); log = record { counts = now (counts .entry); answers = now (answers .entry) } } ⌝ }
 {
     let model = item_calls::answer_call(m, content, numbers, counts, mem, answers);
     item_questions::answer_question(model, content, numbers, counts, answers);

@@ -5,12 +5,11 @@ use types.Run.{OneOf, miss}
 use denote.Enum.Declared.{tagOf}
 use Rattle.line.proofs.Content.{the-type}
 use Rattle.line.specs.declared.Content.{Content}
-use mathlib.Core.Path.{_≡_, refl}
+use mathlib.Core.Path.{_≡_, refl, ap}
 use Prim.Native.Nat.{ℕ}
 use mathlib.Core.List.{List, [], _∷_}
 use Rattle.line.specs.Line.{Bounded}
-use Rattle.item_calls.specs.Lines.{WithFlash, beside, itemLine, timedLine, callLine, ticksEndOf}
-use Rattle.item_calls.proofs.Left.{all-left-flash, flash-kept}
+use Rattle.item_calls.specs.Lines.{WithFlash, beside, itemLine, timedLine, callLine}
 use Rattle.item_calls.proofs.answer_call.Statement.{statement}
 use Rattle.item_calls.proofs.answer_call.Tie as tie
 
@@ -83,8 +82,8 @@ same-length : tie.Need-same-length
 same-length c = search needs
 
 returns : tie.Need-returns
-unfolding callLine ticksEndOf beside
-returns c = rw (c .before .before .before .before .before .before .content .given .1) (flash-kept _ (c .before .before .tick .ensures))
+unfolding callLine beside
+returns c = rw (c .before .before .before .before .before .before .content .given .1) (ap (beside _) (c .before .before .tick .ensures))
 
 same-length-2 : tie.Need-same-length-2
 same-length-2 c = search needs
@@ -94,7 +93,7 @@ same-length-3 c = search needs
 
 returns-2 : tie.Need-returns-2
 unfolding callLine
-returns-2 c = rw (c .before .before .before .before .before .before .before .before .before .content2 .given .1) (all-left-flash (c .before .before .before .before .bus .ensures))
+returns-2 c = rw (c .before .before .before .before .before .before .before .before .before .content2 .given .1) ((c .before .before .before .before .bus .ensures))
 
 same-length-4 : tie.Need-same-length-4
 same-length-4 c = search needs
@@ -104,7 +103,7 @@ same-length-5 c = search needs
 
 returns-3 : tie.Need-returns-3
 unfolding callLine
-returns-3 c = rw (c .before .before .before .before .before .before .before .before .before .content3 .given .1) (all-left-flash (c .before .before .before .before .bus-out .ensures))
+returns-3 c = rw (c .before .before .before .before .before .before .before .before .before .content3 .given .1) ((c .before .before .before .before .bus-out .ensures))
 
 same-length-6 : tie.Need-same-length-6
 same-length-6 c = search needs
@@ -114,21 +113,21 @@ same-length-7 c = search needs
 
 returns-4 : tie.Need-returns-4
 unfolding callLine
-returns-4 c = rw (c .before .before .before .before .before .before .before .before .before .content4 .given .1) (all-left-flash (c .before .before .before .before .set .ensures))
+returns-4 c = rw (c .before .before .before .before .before .before .before .before .before .content4 .given .1) ((c .before .before .before .before .set .ensures))
 
 same-length-8 : tie.Need-same-length-8
 same-length-8 c = search needs
 
 returns-5 : tie.Need-returns-5
 unfolding callLine itemLine
-returns-5 c = rw (c .before .before .before .before .before .enum-told .given .1) (all-left-flash (rw (c .before .before .start .ensures .0, c .before .before .start .ensures .1, c .before .before .start .ensures .2)))
+returns-5 c = rw (c .before .before .before .before .before .enum-told .given .1) ((rw (c .before .before .start .ensures .0, c .before .before .start .ensures .1, c .before .before .start .ensures .2)))
 
 same-length-9 : tie.Need-same-length-9
 same-length-9 c = search needs
 
 returns-6 : tie.Need-returns-6
 unfolding beside
-returns-6 c = rw (← others _ _ _ (c .before .before .before .before .before .match .keys6)) (flash-kept _ (c .before .before .answer-time .ensures))
+returns-6 c = rw (← others _ _ _ (c .before .before .before .before .before .match .keys6)) (ap (beside _) (c .before .before .answer-time .ensures))
 
 pub answer-call-spec : {M : Type 1} → statement M
 answer-call-spec =

@@ -10,8 +10,7 @@ use Prim.Native.Nat.{ℕ}
 use mathlib.Core.List.{List, [], _∷_}
 use Rattle.device.specs.declared.Model.{Model}
 use Rattle.item_state.specs.Log.{Log}
-use Rattle.item_calls.specs.Lines.{timedLine, ticksEndOf}
-use Rattle.item_calls.proofs.Left.{all-left}
+use Rattle.item_calls.specs.Lines.{timedLine}
 use Rattle.item_calls.proofs.answer_time.Statement.{statement}
 use Rattle.item_calls.proofs.answer_time.Tie as tie
 
@@ -72,7 +71,7 @@ same-length : tie.Need-same-length
 same-length c = search needs
 
 returns : tie.Need-returns
-unfolding timedLine ticksEndOf
+unfolding timedLine
 returns c = rw (c .before .before .before .before .before .before .content .given .1) (c .before .before .at .ensures)
 
 same-length-2 : tie.Need-same-length-2
@@ -80,24 +79,24 @@ same-length-2 c = search needs
 
 returns-2 : tie.Need-returns-2
 unfolding timedLine
-returns-2 c = rw (c .before .before .before .before .before .before .content2 .given .1) (all-left (c .before .before .stretch .ensures))
+returns-2 c = rw (c .before .before .before .before .before .before .content2 .given .1) ((c .before .before .stretch .ensures))
 
 same-length-3 : tie.Need-same-length-3
 same-length-3 c = search needs
 
 returns-3 : tie.Need-returns-3
 unfolding timedLine
-returns-3 c = rw (c .before .before .before .before .before .before .content3 .given .1) (all-left (c .before .before .flight .ensures))
+returns-3 c = rw (c .before .before .before .before .before .before .content3 .given .1) ((c .before .before .flight .ensures))
 
 same-length-4 : tie.Need-same-length-4
 same-length-4 c = search needs
 
 returns-4 : tie.Need-returns-4
 unfolding timedLine
-returns-4 c = rw (c .before .before .before .before .before .before .content4 .given .1) (all-left (c .before .before .temperature .ensures))
+returns-4 c = rw (c .before .before .before .before .before .before .content4 .given .1) ((c .before .before .temperature .ensures))
 
 returns-5 : tie.Need-returns-5
-returns-5 c = all-left (others _ _ _ _ (c .match .keys5))
+returns-5 c = (others _ _ _ _ (c .match .keys5))
 
 pub answer-time-spec : {M : Type 1} → statement M
 answer-time-spec =

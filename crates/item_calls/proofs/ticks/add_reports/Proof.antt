@@ -1,18 +1,16 @@
 -- `item_calls::ticks::add_reports` meets its contract.
 -- Assumes nothing.
-use borrow.Author.Needs.{needs}
 use types.Run.{OneOf, miss}
 use denote.Enum.Declared.{tagOf}
 use Rattle.device.proofs.Answer.{the-type}
-use mathlib.Core.Path.{_≡_, refl}
 use Prim.Native.Nat.{ℕ}
 use mathlib.Core.List.{List, [], _∷_}
 use Rattle.device.specs.declared.Answer.{Answer}
 use Rattle.device.specs.declared.Answer.the-variants.{Refused, Accepted, Ticked, Stretched, Good, Failed}
-use mathlib.Core.Bool.{cond}
 use Rattle.wording.specs.Text.{PutEach}
 use Rattle.wording.proofs.Each.{put-none}
 use Rattle.item_calls.specs.Lines.{stretchReports}
+use borrow.Author.Needs.{needs}
 use Rattle.item_calls.proofs.ticks.add_reports.Statement.{statement}
 use Rattle.item_calls.proofs.ticks.add_reports.Tie as tie
 
@@ -33,20 +31,20 @@ none-named-requires c κs = search needs
 
 returns : tie.Need-returns
 unfolding stretchReports
-returns c = λ short. (refl, rw (c .before .before .before .answer .given .1, ← c .before .none-named .ensures, c .if1 .taken) (put-none _ _))
+returns c = rw (c .before .before .before .answer .given .1, ← c .before .none-named .ensures, c .if1 .taken) (put-none _ _)
 
-add-named-requires : tie.Need-add-named-requires
-add-named-requires c κs = search needs
+put-named-requires : tie.Need-put-named-requires
+put-named-requires c κs = search needs
 
 same-length : tie.Need-same-length
 same-length c = search needs
 
 returns-2 : tie.Need-returns-2
 unfolding stretchReports
-returns-2 c = λ short. rw (c .before .before .before .before .before .before .before .before .answer .given .1, ← c .before .before .before .before .before .before .none-named .ensures, c .before .before .before .before .before .if1 .left) (c .before .before .add-named .ensures short)
+returns-2 c = rw (c .before .before .before .before .before .before .before .answer .given .1, ← c .before .before .before .before .before .none-named .ensures, c .before .before .before .before .if1 .left) (c .before .before .put-named .ensures)
 
 returns-3 : tie.Need-returns-3
-returns-3 c = λ short. (refl, others _ _ _ _ (c .match .keys2))
+returns-3 c = others _ _ _ _ (c .match .keys2)
 
 pub add-reports-spec : {M : Type 1} → statement M
 add-reports-spec =
@@ -55,7 +53,7 @@ add-reports-spec =
     enum-known-answer
     none-named-requires
     returns
-    add-named-requires
+    put-named-requires
     same-length
     returns-2
     returns-3)

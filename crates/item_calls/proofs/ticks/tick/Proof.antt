@@ -1,10 +1,8 @@
 -- `item_calls::ticks::tick` meets its contract.
 -- Assumes nothing.
-use borrow.Author.Needs.{needs}
 use borrow.Author.Tests.{eq-eqb, ne-eqb}
-use Prim.Native.Nat.{ℕ}
 use Rattle.item_calls.specs.Lines.{tickLine}
-use Rattle.item_calls.proofs.Left.{all-left}
+use borrow.Author.Needs.{needs}
 use Rattle.item_calls.proofs.ticks.tick.Statement.{statement}
 use Rattle.item_calls.proofs.ticks.tick.Tie as tie
 
@@ -16,18 +14,29 @@ same-length c = search needs
 
 returns : tie.Need-returns
 unfolding tickLine
-returns c = rw (eq-eqb _ 1 (c .before .before .before .before .before .if1 .taken)) (all-left (c .before .before .single .ensures))
+returns c = rw (eq-eqb _ 1 (c .before .before .before .before .before .if1 .taken)) (c .before .before .single .ensures)
 
-many-requires : tie.Need-many-requires
-many-requires c κs = search needs
+begin-ticks-requires : tie.Need-begin-ticks-requires
+begin-ticks-requires c κs = search needs
+
+run-requires : tie.Need-run-requires
+run-requires c κs = search needs
 
 same-length-2 : tie.Need-same-length-2
 same-length-2 c = search needs
 
 returns-2 : tie.Need-returns-2
 unfolding tickLine
-returns-2 c = rw (ne-eqb _ 1 (c .before .before .before .before .before .if1 .left)) (c .before .before .many .ensures)
+returns-2 c = rw (ne-eqb _ 1 (c .before .before .before .before .before .before .before .before .before .before .if1 .left), ← c .before .before .before .before .before .before .before .begin-ticks .ensures) (c .before .before .run .ensures)
 
 pub tick-spec : {M : Type 1} → statement M
 tick-spec =
-    tie.close (tie.spec single-requires same-length returns many-requires same-length-2 returns-2)
+    tie.close
+    (tie.spec
+    single-requires
+    same-length
+    returns
+    begin-ticks-requires
+    run-requires
+    same-length-2
+    returns-2)

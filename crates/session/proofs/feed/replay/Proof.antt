@@ -1,7 +1,6 @@
 -- `session::feed::replay` is safe and ends.
 -- Assumes nothing.
 use borrow.Author.Needs.{needs}
-use Prim.Native.Nat.{_-_, _≤_}
 use mathlib.Core.Path.{_≡_, _∙_}
 use native.Mathlib.Omega.{arith}
 use lib.ListN.{length}
@@ -9,17 +8,17 @@ use Rattle.session.proofs.feed.replay.Statement.{statement}
 use Rattle.session.proofs.feed.replay.Tie as tie
 
 abbrev Inv-loop : tie.InvT-loop
-Inv-loop fd path check numbers₀ counts₀ mem₀ kept₀ probes₀ names₀ answers₀ part₀ m₀ turns₀ numbers counts mem kept probes names answers part m turns =
-    (length numbers ≡ 512) ×
-    (length mem ≡ 8192) ×
-    (length kept ≡ 4096) ×
-    (length probes ≡ 1024) ×
-    (length names ≡ 5120) ×
-    (length answers ≡ 163840) ×
-    (length part ≡ 65536)
+Inv-loop fd path check numbers₀ counts₀ mem₀ kept₀ probes₀ names₀ answers₀ part₀ m₀ input₀ turns₀ numbers counts mem kept probes names answers part m input turns =
+    (length numbers ≡ 512)
+    × (length mem ≡ 8192)
+    × (length kept ≡ 4096)
+    × (length probes ≡ 1024)
+    × (length names ≡ 5120)
+    × (length answers ≡ 163840)
+    × (length part ≡ 65536)
 
 abbrev μ-loop : tie.MeasureT-loop
-μ-loop fd path check numbers₀ counts₀ mem₀ kept₀ probes₀ names₀ answers₀ part₀ m₀ turns₀ numbers counts mem kept probes names answers part m turns = turns
+μ-loop fd path check numbers₀ counts₀ mem₀ kept₀ probes₀ names₀ answers₀ part₀ m₀ input₀ turns₀ numbers counts mem kept probes names answers part m input turns = turns
 
 large-buffer-requires : tie.Need-large-buffer-requires Inv-loop μ-loop
 large-buffer-requires c κs = search needs
@@ -36,17 +35,11 @@ begin-requires c κs = search needs
 loop-holds : tie.Need-loop-holds Inv-loop μ-loop
 loop-holds c = search needs
 
-array-read-if1 : tie.Need-array-read-if1 Inv-loop μ-loop
-array-read-if1 c = search needs
+is-going-requires : tie.Need-is-going-requires Inv-loop μ-loop
+is-going-requires c κs = search needs
 
 sub-turns : tie.Need-sub-turns Inv-loop μ-loop
 sub-turns c = search needs
-
-slice-aggregate-read-more : tie.Need-slice-aggregate-read-more Inv-loop μ-loop
-slice-aggregate-read-more c = search needs
-
-read-more-requires : tie.Need-read-more-requires Inv-loop μ-loop
-read-more-requires c κs = search needs
 
 slice-aggregate-first-bytes : tie.Need-slice-aggregate-first-bytes Inv-loop μ-loop
 slice-aggregate-first-bytes c = search needs
@@ -54,55 +47,47 @@ slice-aggregate-first-bytes c = search needs
 first-bytes-requires : tie.Need-first-bytes-requires Inv-loop μ-loop
 first-bytes-requires c κs = search needs
 
-slice-aggregate-answer-lines : tie.Need-slice-aggregate-answer-lines Inv-loop μ-loop
-slice-aggregate-answer-lines c = search needs
+bytes-from-requires : tie.Need-bytes-from-requires Inv-loop μ-loop
+bytes-from-requires c κs = search needs
 
-slice-aggregate-answer-lines-2 : tie.Need-slice-aggregate-answer-lines-2 Inv-loop μ-loop
-slice-aggregate-answer-lines-2 c = search needs
+slice-aggregate-feed : tie.Need-slice-aggregate-feed Inv-loop μ-loop
+slice-aggregate-feed c = search needs
 
-slice-aggregate-answer-lines-3 : tie.Need-slice-aggregate-answer-lines-3 Inv-loop μ-loop
-slice-aggregate-answer-lines-3 c = search needs
+slice-aggregate-feed-2 : tie.Need-slice-aggregate-feed-2 Inv-loop μ-loop
+slice-aggregate-feed-2 c = search needs
 
-slice-aggregate-answer-lines-4 : tie.Need-slice-aggregate-answer-lines-4 Inv-loop μ-loop
-slice-aggregate-answer-lines-4 c = search needs
+slice-aggregate-feed-3 : tie.Need-slice-aggregate-feed-3 Inv-loop μ-loop
+slice-aggregate-feed-3 c = search needs
 
-slice-aggregate-answer-lines-5 : tie.Need-slice-aggregate-answer-lines-5 Inv-loop μ-loop
-slice-aggregate-answer-lines-5 c = search needs
+slice-aggregate-feed-4 : tie.Need-slice-aggregate-feed-4 Inv-loop μ-loop
+slice-aggregate-feed-4 c = search needs
 
-slice-aggregate-answer-lines-6 : tie.Need-slice-aggregate-answer-lines-6 Inv-loop μ-loop
-slice-aggregate-answer-lines-6 c = search needs
+slice-aggregate-feed-5 : tie.Need-slice-aggregate-feed-5 Inv-loop μ-loop
+slice-aggregate-feed-5 c = search needs
 
-answer-lines-requires : tie.Need-answer-lines-requires Inv-loop μ-loop
-answer-lines-requires c κs = search needs
+slice-aggregate-feed-6 : tie.Need-slice-aggregate-feed-6 Inv-loop μ-loop
+slice-aggregate-feed-6 c = search needs
 
-slice-aggregate-hold : tie.Need-slice-aggregate-hold Inv-loop μ-loop
-slice-aggregate-hold c = search needs
+feed-requires : tie.Need-feed-requires Inv-loop μ-loop
+feed-requires c κs = search needs
 
-hold-requires : tie.Need-hold-requires Inv-loop μ-loop
-hold-requires c κs = search needs
+slice-aggregate-flush : tie.Need-slice-aggregate-flush Inv-loop μ-loop
+slice-aggregate-flush c = search needs
 
-slice-aggregate-write-answers : tie.Need-slice-aggregate-write-answers Inv-loop μ-loop
-slice-aggregate-write-answers c = search needs
+flush-requires : tie.Need-flush-requires Inv-loop μ-loop
+flush-requires c κs = search needs
 
-write-answers-requires : tie.Need-write-answers-requires Inv-loop μ-loop
-write-answers-requires c κs = search needs
+slice-aggregate-go-on : tie.Need-slice-aggregate-go-on Inv-loop μ-loop
+slice-aggregate-go-on c = search (needs, c .before .before .before .before .before .before .before .before .before .before .before .before .before .before .before .before .before .before .before .before .before .before .before .before .before .loop .inv .6)
+
+go-on-requires : tie.Need-go-on-requires Inv-loop μ-loop
+go-on-requires c κs = search needs
 
 loop-less : tie.Need-loop-less Inv-loop μ-loop
-loop-less c = omega (arith, c .before .before .before .before .before .before .before .before .before .before .before .before .before .before .before .before .before .before .before .before .before .before .before .before .before .before .before .before .loop-test .taken)
+loop-less c = omega (arith, c .before .before .before .before .before .before .before .before .before .before .before .before .before .before .before .before .before .before .before .before .before .before .before .before .before .before .before .loop-test .taken)
 
 loop-again : tie.Need-loop-again Inv-loop μ-loop
-loop-again c =
-    let fed = c .before .before .before .before .before .before .before .before .before .before .before .before .before .answer-lines .kept in
-    let read = c .before .before .before .before .before .before .before .before .before .before .before .before .before .before .before .before .before .before .before .before .before .before .before .before .read-more .kept in
-    let inv = c .before .before .before .before .before .before .before .before .before .before .before .before .before .before .before .before .before .before .before .before .before .before .before .before .before .before .before .before .before .loop .inv in (
-      fed .1 .1 .0 ∙ inv .0,
-      fed .1 .1 .1 .1 .0 ∙ inv .1,
-      fed .1 .1 .1 .1 .1 .0 ∙ inv .2,
-      fed .1 .1 .1 .1 .1 .1 .0 ∙ inv .3,
-      fed .1 .1 .1 .1 .1 .1 .1 .0 ∙ inv .4,
-      fed .1 .1 .1 .1 .1 .1 .1 .1 .0 ∙ inv .5,
-      c .before .before .before .before .hold .kept .0 ∙ read .1 .1 .0 ∙ inv .6,
-    )
+loop-again c = let fed = c .before .before .before .before .before .before .before .before .before .before .before .before .before .before .feed .kept in let inv = c .before .before .before .before .before .before .before .before .before .before .before .before .before .before .before .before .before .before .before .before .before .before .before .before .before .before .before .before .loop .inv in (fed .1 .1 .0 ∙ inv .0, fed .1 .1 .1 .1 .0 ∙ inv .1, fed .1 .1 .1 .1 .1 .0 ∙ inv .2, fed .1 .1 .1 .1 .1 .1 .0 ∙ inv .3, fed .1 .1 .1 .1 .1 .1 .1 .0 ∙ inv .4, c .before .before .before .before .before .flush .kept .0 ∙ fed .1 .1 .1 .1 .1 .1 .1 .1 .0 ∙ inv .5, c .before .go-on .kept .1 .1 .0 ∙ inv .6)
 
 slice-aggregate-end : tie.Need-slice-aggregate-end Inv-loop μ-loop
 slice-aggregate-end c = search needs
@@ -124,23 +109,22 @@ replay-spec =
     slice-aggregate-begin
     begin-requires
     loop-holds
-    array-read-if1
+    is-going-requires
     sub-turns
-    slice-aggregate-read-more
-    read-more-requires
     slice-aggregate-first-bytes
     first-bytes-requires
-    slice-aggregate-answer-lines
-    slice-aggregate-answer-lines-2
-    slice-aggregate-answer-lines-3
-    slice-aggregate-answer-lines-4
-    slice-aggregate-answer-lines-5
-    slice-aggregate-answer-lines-6
-    answer-lines-requires
-    slice-aggregate-hold
-    hold-requires
-    slice-aggregate-write-answers
-    write-answers-requires
+    bytes-from-requires
+    slice-aggregate-feed
+    slice-aggregate-feed-2
+    slice-aggregate-feed-3
+    slice-aggregate-feed-4
+    slice-aggregate-feed-5
+    slice-aggregate-feed-6
+    feed-requires
+    slice-aggregate-flush
+    flush-requires
+    slice-aggregate-go-on
+    go-on-requires
     loop-less
     loop-again
     slice-aggregate-end

@@ -1,6 +1,7 @@
 -- `session::lines::answer_on_model` meets its contract.
 -- Assumes nothing.
 use borrow.Author.Needs.{needs}
+use Rattle.answer_text.specs.Line.{lineLeft}
 use Rattle.session.specs.Line.{lineDone}
 use Rattle.session.proofs.lines.answer_on_model.Statement.{statement}
 use Rattle.session.proofs.lines.answer_on_model.Tie as tie
@@ -27,10 +28,8 @@ same-length-4 : tie.Need-same-length-4
 same-length-4 c = search needs
 
 returns : tie.Need-returns
-unfolding lineDone
-returns c =
-    let call = c .before .before .before .before .before .before .before .before .before .before .before .before .before .before .before .before .before .before .before .answer-call .ensures in
-    (call .model, call .flash, λ short. let asked = c .before .before .before .before .before .before .before .before .before .before .before .before .answer-question .ensures in rw (← call .model, ← call .flash, ← call .log short, ← asked, ← c .before .before .before .before .before .answer-analysis .ensures))
+unfolding lineDone lineLeft
+returns c = rw (← c .before .before .before .before .before .before .before .before .before .before .before .before .before .before .before .before .before .before .before .answer-call .ensures, ← c .before .before .before .before .before .before .before .before .before .before .before .before .answer-question .ensures, ← c .before .before .before .before .before .answer-analysis .ensures)
 
 pub answer-on-model-spec : {M : Type 1} → statement M
 answer-on-model-spec =

@@ -1,0 +1,4 @@
+pub mod Answers
+pub mod CloseLaws
+pub mod Examples
+pub mod OpenLaws

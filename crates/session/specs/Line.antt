@@ -54,7 +54,7 @@ pub record Replay : Type 0 where
 abbrev pub withLog : State → Log → State
 withLog s l = record { model = s .model; flash = s .flash; differences = s .differences; probes = s .probes; log = l }
 
--- A line that was read: its content, its numbers, and the words that it expects of its answer
+-- A line that was read: its content, the words that it expects of its answer, its bytes and its numbers
 unfoldable pub contentAnswered : Content → List (List ℕ) → List ℕ → List ℕ → Replay → Replay
 contentAnswered content expected text numbers r =
     let b = lineBegun content text (r .names) (r .state .log) in

@@ -15,7 +15,8 @@ use Rattle.wording.specs.Wording.{Texts, refusal, reportedWhere}
 use Rattle.item_state.specs.Told.{readWord}
 use Rattle.show.specs.Row.{binary}
 
--- "the answer that `bus` would give now, without changing anything", with two bytes of output and an empty user flash
+-- "the answer that `bus` would give now, without changing anything", with two bytes of output and a user flash of zeros: the answer to
+-- none of these frames goes by what the flash holds
 unfoldable pub answerTo : Model → List ℕ → Answer
 answerTo m frame = reply m (Call.transaction frame (replicate 2 0) (replicate 8192 0)) .answer
 

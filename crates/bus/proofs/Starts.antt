@@ -2,14 +2,22 @@
 use Prim.Native.Nat.{ℕ, zero, suc, _<_}
 use native.Mathlib.Omega.{arith}
 use mathlib.Core.Bool.{true, false}
+use mathlib.Core.List.{List}
+use lib.ListN.{length, getD}
+use borrow.Author.Tests.{le-ltb, ne-eqb}
 use mathlib.Core.Path.{_≡_, refl, sym, _∙_}
 use Rattle.unit.specs.Choice.{pick}
 use Rattle.unit.proofs.Cases.{by-test}
 use Rattle.setup.specs.Setup.{flightUnset}
 use Rattle.device.specs.declared.Model.{Model}
 use Rattle.device.specs.declared.Reply.{Reply}
-use Rattle.device.specs.Model.{isBusy}
-use Rattle.device.specs.Reply.{refuse}
+use Rattle.device.specs.Model.{isBusy, isSound}
+use Rattle.device.specs.Call.{transaction}
+use Rattle.device.specs.Reply.{refuse, reply, output, memory}
+use Rattle.frame.specs.Frame.{isCommand}
+use Rattle.frame.specs.Decoding.{decodeFrame}
+use Rattle.frame.specs.declared.Decoded.the-variants.{Command}
+use Rattle.reply_parts.proofs.Decode.{reply-command}
 use Rattle.device.specs.Bus.{mustBeIdle, startsFlight, startsTemperature, isEvent, commandBusy, beforeInitialize, flightSideUnset, temperatureSideUnset, eventSideUnset, commandUnset, singleStarted, runModel}
 use Rattle.device.specs.Parts.{accept, commandReply}
 
@@ -45,3 +53,25 @@ module _ (m : Model) where
         flightUnset (m .setup) ≡ false →
         accept true false (singleStarted m op) ≡ commandReply m op
     start-done b i u = sym (form op h ∙ rw (b, i, u) refl)
+
+-- A frame of one byte, which is one of them.
+start-decoded : (f : List ℕ) (room : ℕ) → length f ≡ 1 → getD f 0 0 < 3 → decodeFrame f room ≡ Command (getD f 0 0)
+unfolding decodeFrame isCommand
+start-decoded f room l h =
+    rw (
+      l,
+      le-ltb 0x0D (getD f 0 0) (omega arith),
+      ne-eqb (getD f 0 0) 0x06 (λ e. omega arith),
+      ne-eqb (getD f 0 0) 0x0B (λ e. omega arith),
+    )
+    refl
+
+pub start-frame :
+    (m : Model) (f o x : List ℕ) →
+    isSound m ≡ true →
+    length f ≡ 1 →
+    getD f 0 0 < 3 →
+    (commandReply m (getD f 0 0) ≡ reply m (transaction f o x)) ×
+    (o ≡ output m (transaction f o x)) ×
+    (x ≡ memory m (transaction f o x))
+start-frame m f o x s l h = reply-command m f o x s (getD f 0 0) (start-decoded f (length o) l h)

@@ -18,7 +18,6 @@ use device::Model;
 use device::Reply;
 use flash_access::flash_reply;
 use frame::Decoded;
-use frame::opcode::TEMPERATURE;
 use model::refusal::BUSY;
 use model::refusal::CALENDAR;
 use model::refusal::NO_FRAME;
@@ -34,8 +33,9 @@ use registers::read::read_model;
 use registers::write::write_invalid;
 use registers::write::write_model;
 
-// TOF_Up, TOF_Down and TOF_Diff, the most frequent commands: what is judged of the others and done by them is passed over.
-fn start_reply(m: Model, op: u32) -> Reply
+// TOF_Up, TOF_Down and TOF_Diff, the most frequent commands in a list of calls: what is judged of the others and done by them is
+// passed over.
+pub fn start_reply(m: Model, op: u32) -> Reply
     requires { ⌜ op < 3 ⌝ }
     ensures { λ r. ⌜ r ≡ commandReply m op ⌝ }
 {
@@ -55,9 +55,6 @@ fn start_reply(m: Model, op: u32) -> Reply
 fn command_reply(m: Model, op: u32) -> Reply
     ensures { λ r. ⌜ r ≡ commandReply m op ⌝ }
 {
-    if op < TEMPERATURE {
-        return start_reply(m, op);
-    }
     if command_busy(m, op) {
         return refuse(m, BUSY);
     }

@@ -8,9 +8,11 @@ ghost use Rattle.device.specs.Model.{isSound};
 ghost use Rattle.device.specs.Call.{Call};
 ghost use Rattle.device.specs.StretchSteps.{least, quietFor};
 ghost use Rattle.device.specs.Reply.{reply, output, memory};
+ghost use Rattle.device.specs.Parts.{commandReply};
 ghost use Rattle.call_list.specs.CallList.{answersAfter, beginning, entryAt, entryFits, part, placeAfter, runs, within};
-ghost use Rattle.call_list.specs.Room.{Moved, Near, Room, Ticks, Told, quietAnswers, quietProgress};
+ghost use Rattle.call_list.specs.Room.{Measured, Moved, Near, Room, Stepped, Ticks, Told, goesOn, isFlight, quietAnswers, quietProgress};
 use bus::sound_transaction;
+use bus::start_reply;
 use device::Answer;
 use device::Model;
 use device::Reply;
@@ -36,6 +38,9 @@ const STRETCH: u32 = 2;
 const FLIGHT: u32 = 3;
 
 const TEMPERATURE: u32 = 4;
+
+// The opcodes below it start a flight measurement: TOF_Up, TOF_Down, TOF_Diff.
+const AFTER_STARTS: u8 = 3;
 
 // One call of a list: its kind, and two sizes.
 pub struct Entry {
@@ -319,6 +324,84 @@ fn quiet(p: Progress, n: u32, answers: &mut [u32]) -> Progress
     Progress { model, place: next }
 }
 
+// Whether a call starts or delivers a flight measurement. A start is a frame of one byte.
+fn is_flight(e: Entry, at: usize, frames: &[u8]) -> bool
+    requires { ⌜ (e .kind ≡ 0 → at + e .first ≤ length (now frames)) ⌝ }
+    ensures { λ r. ⌜ r ≡ isFlight e at (now (frames .entry)) ⌝ }
+{
+    if e.kind == FLIGHT {
+        return true;
+    }
+    if e.kind == TRANSACTION {
+        if e.first == 1 {
+            return frames[at] < AFTER_STARTS;
+        }
+        return false;
+    }
+    false
+}
+
+fn start_call(p: Progress, e: Entry, op: u32, answers: &mut [u32]) -> Progress
+    requires { ⌜ (op < 3) × Near (p .place) (length (now answers)) ⌝ }
+    ensures { λ r. ⌜ (r ≡ record { model = commandReply (p .model) op .model; place = placeAfter e (p .place) }) × (now (answers .exit) ≡ answersAfter (commandReply (p .model) op .answer) (5 * p .place .calls) (now (answers .entry))) ⌝ }
+{
+    let place = p.place;
+    let r = start_reply(p.model, op);
+    settle(e, place, r, answers)
+}
+
+fn flight_step(p: Progress, e: Entry, frames: &[u8], hits: &[u32], answers: &mut [u32]) -> Progress
+    requires { ⌜ (isSound (p .model) ≡ true) × Near (p .place) (length (now answers)) × (isFlight e (p .place .frames) (now frames) ≡ true) × (e .kind ≡ 0 → p .place .frames + e .first ≤ length (now frames)) × (e .kind ≡ 3 → p .place .hits + e .first + e .second ≤ length (now hits)) ⌝ }
+    ensures { λ r. ⌜ Stepped (now (frames .entry)) (now (hits .entry)) e p r (now (answers .entry)) (now (answers .exit)) ⌝ }
+{
+    if e.kind == FLIGHT {
+        return flight_call(p, e, hits, answers);
+    }
+    let place = p.place;
+    let at = place.frames;
+    start_call(p, e, frames[at] as u32, answers)
+}
+
+// Whether a call fits that starts or delivers a flight measurement.
+fn goes_on(e: Entry, p: Place, frames: &[u8], hits: usize, out: usize) -> bool
+    requires { ⌜ (p .frames ≤ length (now frames)) × (p .hits ≤ hits) × (p .output ≤ out) ⌝ }
+    ensures { λ r. ⌜ r ≡ goesOn e p (now (frames .entry)) hits out ⌝ }
+{
+    let frames_left = frames.len() - p.frames;
+    if entry_fits(e, frames_left, hits - p.hits, out - p.output) {
+        return is_flight(e, p.frames, frames);
+    }
+    false
+}
+
+// Starts and deliveries of flight measurements, all that follow each other. They have a loop of their own, so that the compiler
+// moves no field of the model that none of them changes.
+fn measure(
+    p: Progress,
+    calls: &[u32],
+    frames: &[u8],
+    hits: &[u32],
+    out: &[u8],
+    answers: &mut [u32],
+) -> Progress
+    requires { ⌜ (isSound (p .model) ≡ true) × Room (entryAt (now calls) (p .place .calls)) (p .place) (length (now frames)) (length (now hits)) (length (now out)) (length (now answers)) × (p .place .calls < length (now calls) / 3) × (isFlight (entryAt (now calls) (p .place .calls)) (p .place .frames) (now frames) ≡ true) ⌝ }
+    ensures { λ r. ⌜ Measured (now (calls .entry)) (now (frames .entry)) (now (hits .entry)) (now (out .entry)) p r (now (answers .entry)) (now (answers .exit)) ⌝ }
+{
+    let n = lesser(calls.len() / 3, answers.len() / 5);
+    let mut q = p;
+    while q.place.calls < n {
+        let place = q.place;
+        let e = entry_at(calls, place.calls);
+        if goes_on(e, place, frames, hits.len(), out.len()) {
+            let next = flight_step(q, e, frames, hits, answers);
+            q = next;
+        } else {
+            return q;
+        }
+    }
+    q
+}
+
 // One call that fits, or several ticks in which nothing happens.
 fn advance(
     sound: bool,
@@ -335,14 +418,14 @@ fn advance(
     ensures { λ r. ⌜ Moved (now (calls .entry)) (now (frames .entry)) (now (hits .entry)) record { progress = p; output = now (out .entry); flash = now (flash .entry); answers = now (answers .entry) } record { progress = r; output = now (out .exit); flash = now (flash .exit); answers = now (answers .exit) } ⌝ }
 {
     if sound {
+        let place = p.place;
+        if is_flight(e, place.frames, frames) {
+            return measure(p, calls, frames, hits, out, answers);
+        }
         if e.kind == TRANSACTION {
             return frame_call(p, e, frames, out, flash, answers);
         }
-        if e.kind == FLIGHT {
-            return flight_call(p, e, hits, answers);
-        }
         if e.kind == TICK {
-            let place = p.place;
             let q = quiet_for(p.model);
             if 0 < q {
                 let n = quiet_ahead(calls, place.calls, q, answers.len());

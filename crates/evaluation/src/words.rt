@@ -3,7 +3,7 @@ ghost use mathlib.Core.Path.{_≡_};
 ghost use Prim.Native.Nat.{_<_, _≤_, _*_, _/_, _+_};
 ghost use lib.ListN.{getD};
 ghost use Rattle.unit.specs.Choice.{pick};
-ghost use Rattle.hit.specs.Words.{wordOrZero, sixWords, fourWords, sixTotal, average, filled, failedPairs, failedPorts, plusEach, portPair, portPairs};
+ghost use Rattle.hit.specs.Words.{wordOrZero, sixWords, fourWords, filled, failedPairs, failedPorts, plusEach, portPair, portPairs};
 use crate::limit::short_below;
 use unit::Quanta;
 use unit::wide;
@@ -41,18 +41,12 @@ pub fn four_words(words: &[u32]) -> [u32; 4]
     [a, b, c, d]
 }
 
-fn six_total(hits: [u32; 6]) -> u64
-    ensures { λ r. ⌜ r ≡ sixTotal hits ⌝ }
+// The average of n hits by their sum, rounded down. It is below 2^31, as every word that is a hit.
+pub fn average(total: u64, n: u32) -> Quanta
+    requires { ⌜ total < n * 2147483648 ⌝ }
+    ensures { λ r. ⌜ (r ≡ record { 0 = total / n }) × (r .0 < 2147483648) ⌝ }
 {
-    wide(hits[0]) + wide(hits[1]) + wide(hits[2]) + wide(hits[3]) + wide(hits[4]) + wide(hits[5])
-}
-
-// The average of n hits, rounded down. It is below 2^31, as every word that is a hit.
-pub fn average(hits: [u32; 6], n: u32) -> Quanta
-    requires { ⌜ sixTotal hits < n * 2147483648 ⌝ }
-    ensures { λ r. ⌜ (r ≡ average hits n) × (r .0 < 2147483648) ⌝ }
-{
-    Quanta(six_total(hits) / (n as u64))
+    Quanta(total / (n as u64))
 }
 
 pub fn choose_pairs(test: bool, yes: [u32; 7], no: [u32; 7]) -> [u32; 7]

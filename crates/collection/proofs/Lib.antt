@@ -1,2 +1,3 @@
 pub mod Parts
 pub mod Meaning
+pub mod Room

@@ -2,7 +2,7 @@
 use Prim.Native.Nat.{ℕ, suc, _+_, _≤_, _<_, min}
 use mathlib.Core.Path.{_≡_, refl, ap, _∙_}
 use mathlib.Core.Bool.{Bool, true, false, cond}
-use mathlib.Core.List.{List, [], _∷_}
+use mathlib.Core.List.{List, [], _∷_, _++_}
 use native.Mathlib.Omega.{arith}
 use lib.Dec.{eqb}
 use lib.ListN.{length}
@@ -13,7 +13,7 @@ use Rattle.collection.specs.declared.Kinds.{Kinds}
 use Rattle.collection.specs.declared.Group.{Group}
 use Rattle.collection.specs.Kind.{kinds, agreeing}
 use Rattle.collection.specs.Group.{oneMore, Members, counted, joined}
-use Rattle.collection.specs.Tally.{none, Collection, collection, agreed, after}
+use Rattle.collection.specs.Tally.{none, Collection, collection, agreed, after, File, collected}
 
 -- A file that agrees, in plain numbers: it was read to its end, has an expectation, and nothing in it needs a look.
 pub record Agrees (o : Outcome) : Type 0 where
@@ -48,16 +48,18 @@ numbers o false e = rw e (λ h. let z : _≡_ {A = ℕ} 0 1 = cc in absurd (omeg
 pub agrees : (o : Outcome) → agreeing (kinds o) ≡ true → Agrees o
 agrees o h = numbers o (o .whole) refl h
 
--- The files of a run, by name and outcome.
-pub record File : Type 0 where
-  pub name : List ℕ
-  pub outcome : Outcome
+-- The order of the files: those of a second part come after those of the first.
+pub in-order : (fs gs : List File) (c : Collection) → collected (fs ++ gs) c ≡ collected gs (collected fs c)
+unfolding collected
+in-order [] gs c = refl
+in-order (f ∷ fs) gs c = in-order fs gs (after (f .outcome) (f .name) c)
 
-unfoldable pub run : List File → Collection → Collection
-run [] c = c
-run (f ∷ fs) c = run fs (after (f .outcome) (f .name) c)
+-- One more file at the end of a run.
+pub one-more : (fs : List File) (f : File) (c : Collection) → collected (fs ++ (f ∷ [])) c ≡ after (f .outcome) (f .name) (collected fs c)
+unfolding collected
+one-more fs f c = in-order fs (f ∷ []) c
 
--- How many of them are of a kind.
+-- How many files of a run are of a kind.
 unfoldable pub numberOf : (Kinds → Bool) → List File → ℕ
 numberOf kind [] = 0
 numberOf kind (f ∷ fs) = cond (kind (kinds (f .outcome))) (numberOf kind fs + 1) (numberOf kind fs)
@@ -74,12 +76,12 @@ next-count n n′ others l total false h e rest = let all = rest (omega arith) i
 -- A count that goes up by one with each file of a kind is, in the end, how many files are of that kind.
 module _ (count : Collection → ℕ) (kind : Kinds → Bool)
     (step : (o : Outcome) (name : List ℕ) (c : Collection) → count (after o name c) ≡ cond (kind (kinds o)) (oneMore (count c)) (count c)) where
-  count-of : (fs : List File) (c : Collection) → count c + length fs ≤ 18446744073709551615 → count (run fs c) ≡ count c + numberOf kind fs
-  unfolding run numberOf
+  count-of : (fs : List File) (c : Collection) → count c + length fs ≤ 18446744073709551615 → count (collected fs c) ≡ count c + numberOf kind fs
+  unfolding collected numberOf
   count-of [] c h = omega arith
   count-of (f ∷ fs) c h =
       let next = after (f .outcome) (f .name) c in
-      next-count (count c) (count next) (numberOf kind fs) (length fs) (count (run fs next)) (kind (kinds (f .outcome))) (omega arith)
+      next-count (count c) (count next) (numberOf kind fs) (length fs) (count (collected fs next)) (kind (kinds (f .outcome))) (omega arith)
       (step (f .outcome) (f .name) c) (count-of fs next)
 
 joined-count : (belongs : Bool) (name : List ℕ) (m : Members) → joined belongs name m .group .count ≡ cond belongs (oneMore (m .group .count)) (m .group .count)
@@ -132,7 +134,7 @@ pub record Counts (fs : List File) (c : Collection) : Type 0 where
   pub plain : c .plain .group .count ≡ numberOf (λ k. k .plain) fs
 
 pub counts : (fs : List File) → length fs ≤ 18446744073709551615 → (differ unannounced bad unread plain : List ℕ)
-    → Counts fs (run fs (collection none differ unannounced bad unread plain))
+    → Counts fs (collected fs (collection none differ unannounced bad unread plain))
 counts fs h differ unannounced bad unread plain =
     let c = collection none differ unannounced bad unread plain in
     record {

@@ -62,3 +62,13 @@ after o name c = record {
   unread = joined (kinds o .unread) name (c .unread);
   plain = joined (kinds o .plain) name (c .plain);
 }
+
+-- a file of a run: its name, and what its replay came to
+pub record File : Type 0 where
+  pub name : List ℕ
+  pub outcome : Outcome
+
+-- The files of a run, each after the one before it.
+unfoldable pub collected : List File → Collection → Collection
+collected [] c = c
+collected (f ∷ fs) c = collected fs (after (f .outcome) (f .name) c)

@@ -1,4 +1,5 @@
 pub mod Answers
+pub mod Briefly
 pub mod CloseLaws
 pub mod Examples
 pub mod OpenLaws

@@ -13,7 +13,7 @@ use Rattle.numeral.specs.Place.{Placed, putEach, joined}
 use Rattle.line.specs.Words.{words}
 use Rattle.line.specs.Line.{contentLength, lineExpected}
 use Rattle.line.specs.Spaced.{spaced}
-use Rattle.wording.specs.Wording.{Texts, lineFeed, expected, itemName}
+use Rattle.wording.specs.Wording.{Texts, lineFeed, expected, leftOut, itemName}
 use Rattle.item_state.specs.Log.{Log, added, said}
 
 -- ---- the answer as text
@@ -48,7 +48,7 @@ startsWith (w ∷ ws) (c ∷ cs) = cond (eqb c w) (startsWith ws cs) false
 abbrev pub laterPart : List ℕ → List ℕ
 laterPart bytes = drop 1 (drop (placeOf 32 bytes) bytes)
 
--- "the words that its answer begins with"; "`=>`: any answer will do"
+-- "the words that its answer begins with"; of a `=>` without words "any answer will do"
 unfoldable pub beginsWith : List ℕ → List ℕ → Bool
 beginsWith wanted bytes = cond (eqb (length wanted) 0) true (startsWith wanted (laterPart bytes))
 
@@ -106,6 +106,23 @@ announced (wanted ∷ others) l = cond (isCall l) (beginsWith wanted (answer l))
 -- "U those of R that are not announced": a refusal more than before the line
 unfoldable pub refusalCounted : Bool → List ℕ → List ℕ
 refusalCounted told counts = cond told counts (cond (eqb (getD counts 4 0) (getD counts 17 0)) counts (added counts 5 1))
+
+-- ---- "of an answer of more than 2,051 bytes, its line feeds among them, the first 2,048 and ` ..`"
+
+unfoldable pub briefly : List ℕ → List ℕ
+briefly answer = cond (leb (length answer) 2051) answer (take 2048 answer ++ joined leftOut)
+
+-- the first bytes of the answer in the buffer, and ` ..` behind them
+unfoldable pub cutOff : Log → Log
+cutOff l =
+    let p = putEach (l .answers) (min (getD (l .counts) 20 0 + 2048) 18446744073709551615) leftOut in
+    record { counts = set (l .counts) 0 (p .next); answers = p .bytes }
+
+-- In a check no more than that is kept of an answer.
+unfoldable pub keptBriefly : Log → Log
+keptBriefly l =
+    cond (eqb (getD (l .counts) 14 0) 0) l
+    (cond (leb (getD (l .counts) 0 0) (min (getD (l .counts) 20 0 + 2051) 18446744073709551615)) l (cutOff l))
 
 -- ---- "`--check` prints nothing of an item but what needs a look"
 

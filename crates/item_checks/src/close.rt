@@ -3,7 +3,7 @@ ghost use mathlib.Core.Path.{_≡_};
 ghost use mathlib.Core.List.{_++_};
 ghost use Prim.Native.Nat.{_+_, _≤_, min};
 ghost use lib.ListN.{length, take, drop};
-ghost use Rattle.item_checks.specs.Close.{answer, placeOf, firstEnd, startsWith, beginsWith, wantedIn, inserted, compared, judgedLog, announced as Close·announced, refusalCounted, trouble as Close·trouble, shortened, looked, closed, expectedFrom};
+ghost use Rattle.item_checks.specs.Close.{answer, placeOf, firstEnd, startsWith, beginsWith, wantedIn, inserted, compared, judgedLog, announced as Close·announced, refusalCounted, trouble as Close·trouble, shortened, looked, closed, expectedFrom, cutOff, keptBriefly};
 use item_state::counts::BAD;
 use item_state::counts::BODY;
 use item_state::counts::CHECK;
@@ -32,6 +32,32 @@ pub fn trouble(counts: &[usize; 22]) -> usize
     ensures { λ r. ⌜ r ≡ Close·trouble (now (counts .entry)) ⌝ }
 {
     more(more(counts[BAD], counts[DIFFER]), counts[UNANNOUNCED])
+}
+
+// In a check no more is kept of an answer.
+const SHOWN: usize = 2051;
+
+// Of a longer one so many bytes are, and ` ..`.
+const KEPT: usize = 2048;
+
+// Behind a part of an answer, in a check: of a long one its first bytes are kept.
+pub fn shorten(counts: &mut [usize; 22], answers: &mut [u8])
+    ensures { λ _. ⌜ record { counts = now (counts .exit); answers = now (answers .exit) } ≡ keptBriefly record { counts = now (counts .entry); answers = now (answers .entry) } ⌝ }
+{
+    if counts[CHECK] == 0 {
+        return;
+    }
+    if counts[USED] <= more(counts[BODY], SHOWN) {
+        return;
+    }
+    cut_off(counts, answers);
+}
+
+fn cut_off(counts: &mut [usize; 22], answers: &mut [u8])
+    ensures { λ _. ⌜ record { counts = now (counts .exit); answers = now (answers .exit) } ≡ cutOff record { counts = now (counts .entry); answers = now (answers .entry) } ⌝ }
+{
+    let kept = more(counts[BODY], KEPT);
+    counts[USED] = wording::heads::put_left_out(answers, kept);
 }
 
 // The line is answered; what it expects stands from the place `expected` on, if that is not 0.

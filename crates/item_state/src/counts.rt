@@ -6,9 +6,7 @@ use device::Answer;
 
 // The places of the counts. Bytes of answers that are not written yet.
 pub const USED: usize = 0;
-// Bytes of the next line that are held until the rest of it is read.
-pub const HELD: usize = 1;
-// Lines that were read.
+// Lines that were read. Place 1 is not used.
 pub const LINES: usize = 2;
 // For the last line: calls, those refused, those of them not announced, bad lines, what was
 // expected, and what of it differs.

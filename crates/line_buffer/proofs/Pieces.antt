@@ -12,7 +12,7 @@ use Rattle.line_buffer.specs.Lines.{hasLine, lineOf, behindLine, withFir
 
 -- ---- bytes without a line feed
 
-none-first : (c : ℕ) (cs : List ℕ) → hasLine (c ∷ cs) ≡ false → (eqb c 10 ≡ false) × (hasLine cs ≡ false)
+pub none-first : (c : ℕ) (cs : List ℕ) → hasLine (c ∷ cs) ≡ false → (eqb c 10 ≡ false) × (hasLine cs ≡ false)
 unfolding hasLine
 none-first c cs = go (eqb c 10)
   where
@@ -21,19 +21,19 @@ none-first c cs = go (eqb c 10)
     go false e = (refl, e)
 
 -- have no line
-no-lines : (bytes : List ℕ) → hasLine bytes ≡ false → linesIn bytes ≡ []
+pub no-lines : (bytes : List ℕ) → hasLine bytes ≡ false → linesIn bytes ≡ []
 unfolding linesIn withFirst
 no-lines [] none = refl
 no-lines (c ∷ cs) none = let so = none-first c cs none in rw (so .0, no-lines cs (so .1))
 
 -- and are all rest
-all-rest : (bytes : List ℕ) → hasLine bytes ≡ false → restIn bytes ≡ bytes
+pub all-rest : (bytes : List ℕ) → hasLine bytes ≡ false → restIn bytes ≡ bytes
 unfolding restIn
 all-rest [] none = refl
 all-rest (c ∷ cs) none = rw none
 
 -- The rest has none.
-rest-none : (bytes : List ℕ) → hasLine (restIn bytes) ≡ false
+pub rest-none : (bytes : List ℕ) → hasLine (restIn bytes) ≡ false
 unfolding restIn hasLine
 rest-none [] = refl
 rest-none (c ∷ cs) = go (hasLine (c ∷ cs)) refl (rest-none cs)
@@ -43,13 +43,13 @@ rest-none (c ∷ cs) = go (hasLine (c ∷ cs)) refl (rest-none cs)
     go false e later = e
 
 -- Neither have the first bytes of such, or two such together.
-none-taken : (n : ℕ) (bytes : List ℕ) → hasLine bytes ≡ false → hasLine (take n bytes) ≡ false
+pub none-taken : (n : ℕ) (bytes : List ℕ) → hasLine bytes ≡ false → hasLine (take n bytes) ≡ false
 unfolding hasLine
 none-taken zero bytes none = refl
 none-taken (suc n) [] none = refl
 none-taken (suc n) (c ∷ cs) none = let so = none-first c cs none in rw (so .0) (none-taken n cs (so .1))
 
-none-both : (a b : List ℕ) → hasLine a ≡ false → hasLine b ≡ false → hasLine (a ++ b) ≡ false
+pub none-both : (a b : List ℕ) → hasLine a ≡ false → hasLine b ≡ false → hasLine (a ++ b) ≡ false
 unfolding hasLine
 none-both [] b none later = later
 none-both (c ∷ cs) b none later = let so = none-first c cs none in rw (so .0) (none-both cs b (so .1) later)
@@ -85,7 +85,7 @@ with-first c bytes more some =
     first-line bytes some (λ (ls : List (List ℕ)). withFirst c (ls ++ more) ≡ withFirst c ls ++ more) (λ l ls. refl)
 
 -- The first line, behind bytes without a line feed; the lines and the rest behind it.
-line-first : (bytes : List ℕ) → hasLine bytes ≡ true
+pub line-first : (bytes : List ℕ) → hasLine bytes ≡ true
     → (linesIn bytes ≡ lineOf bytes ∷ linesIn (behindLine bytes)) × (restIn bytes ≡ restIn (behindLine bytes))
 unfolding hasLine linesIn withFirst restIn lineOf behindLine
 line-first [] some = absurd (false≢true some)
@@ -141,7 +141,7 @@ rest-cut (c ∷ cs) b = go (hasLine (c ∷ cs)) refl (rest-cut cs b)
 
 -- ---- pieces
 
-each-append : {S : Type 0} (answer : List ℕ → S → S) (a b : List (List ℕ)) (s : S)
+pub each-append : {S : Type 0} (answer : List ℕ → S → S) (a b : List (List ℕ)) (s : S)
     → eachLine answer (a ++ b) s ≡ eachLine answer b (eachLine answer a s)
 unfolding eachLine
 each-append answer [] b s = refl

@@ -16,7 +16,7 @@ use Rattle.answer_text.specs.Texts.{Told}
 use Rattle.answer_text.specs.Line.{lineTold}
 use Rattle.answer_text.proofs.Aside.{behind-aside}
 use Rattle.session.specs.Line.{State}
-use Rattle.line_text.specs.Text.{itemTold, namesAfter, bare, ownTold, isCall, judgedText, judgedCounts, isAnnounced, closedCounts, lookedText, closedText, elsewhere}
+use Rattle.line_text.specs.Text.{itemTold, namesAfter, bare, ownTold, isCall, judgedText, judgedCounts, isAnnounced, shownAnswer, closedCounts, lookedText, closedText, toldText, toldCounts, elsewhere}
 use Rattle.line_text.proofs.Told.{fault-same, left-set, fault-aside, item-aside}
 use Rattle.line_text.proofs.Whole.{tell-aside}
 use Rattle.line_text.proofs.Own.{own-placed}
@@ -124,17 +124,17 @@ module _ (p v : ℕ) (a : Apart p) where
   call-apart : (counts : List ℕ) → isCall (set counts p v) ≡ isCall counts
   call-apart counts = rw (getD-set-other counts p 6 v 0 (a .six), getD-set-other counts p 18 v 0 (a .eighteen))
 
-  judged-text-apart : (expected : List (List ℕ)) (counts answer : List ℕ) → judgedText expected (set counts p v) answer ≡ judgedText expected counts answer
+  pub judged-text-apart : (expected : List (List ℕ)) (counts answer : List ℕ) → judgedText expected (set counts p v) answer ≡ judgedText expected counts answer
   unfolding judgedText
   judged-text-apart [] counts answer = refl
   judged-text-apart (wanted ∷ others) counts answer = rw (call-apart counts)
 
-  announced-apart : (expected : List (List ℕ)) (counts answer : List ℕ) → isAnnounced expected (set counts p v) answer ≡ isAnnounced expected counts answer
+  pub announced-apart : (expected : List (List ℕ)) (counts answer : List ℕ) → isAnnounced expected (set counts p v) answer ≡ isAnnounced expected counts answer
   unfolding isAnnounced
   announced-apart [] counts answer = refl
   announced-apart (wanted ∷ others) counts answer = rw (call-apart counts)
 
-  judged-counts-apart : (expected : List (List ℕ)) (counts answer : List ℕ) → judgedCounts expected (set counts p v) answer ≡ set (judgedCounts expected counts answer) p v
+  pub judged-counts-apart : (expected : List (List ℕ)) (counts answer : List ℕ) → judgedCounts expected (set counts p v) answer ≡ set (judgedCounts expected counts answer) p v
   unfolding judgedCounts
   judged-counts-apart [] counts answer = refl
   judged-counts-apart (wanted ∷ others) counts answer =
@@ -157,7 +157,7 @@ module _ (p v : ℕ) (a : Apart p) where
       go true = refl
       go false = refl
 
-  closed-counts-apart : (expected : List (List ℕ)) (counts answer : List ℕ) → closedCounts expected (set counts p v) answer ≡ set (closedCounts expected counts answer) p v
+  pub closed-counts-apart : (expected : List (List ℕ)) (counts answer : List ℕ) → closedCounts expected (set counts p v) answer ≡ set (closedCounts expected counts answer) p v
   unfolding closedCounts
   closed-counts-apart expected counts answer =
       rw (announced-apart expected counts answer, judged-counts-apart expected counts answer)
@@ -171,15 +171,63 @@ module _ (p v : ℕ) (a : Apart p) where
   unfolding tail
   tail-apart names counts = rw (getD-set-other counts p 15 v 0 (a .fifteen))
 
-  closed-text-apart : (names counts head answer : List ℕ) → closedText names (set counts p v) head answer ≡ closedText names counts head answer
+  pub closed-text-apart : (names counts head answer : List ℕ) → closedText names (set counts p v) head answer ≡ closedText names counts head answer
   unfolding closedText lookedText
   closed-text-apart names counts head answer =
       rw (getD-set-other counts p 14 v 0 (a .fourteen), trouble-apart counts, getD-set-other counts p 19 v 0 (a .nineteen), tail-apart names counts)
+
+  shown-apart : (counts answer : List ℕ) → shownAnswer (set counts p v) answer ≡ shownAnswer counts answer
+  unfolding shownAnswer
+  shown-apart counts answer = rw (getD-set-other counts p 14 v 0 (a .fourteen))
+
+  told-counts-apart : (expected : List (List ℕ)) (t : Told) → toldCounts expected record { texts = t .texts; counts = set (t .counts) p v } ≡ set (toldCounts expected t) p v
+  unfolding toldCounts
+  told-counts-apart expected t =
+      rw (shown-apart (t .counts) (joined (t .texts))) (closed-counts-apart expected (t .counts) (shownAnswer (t .counts) (joined (t .texts))))
+
+  told-text-apart : (expected : List (List ℕ)) (names : List ℕ) (head t : Told)
+      → toldText expected names head record { texts = t .texts; counts = set (t .counts) p v } ≡ toldText expected names head t
+  unfolding toldText
+  told-text-apart expected names head t =
+      let answer = shownAnswer (t .counts) (joined (t .texts)) in
+      rw (shown-apart (t .counts) (joined (t .texts)), closed-counts-apart expected (t .counts) answer, judged-text-apart expected (t .counts) answer)
+      (closed-text-apart names (closedCounts expected (t .counts) answer) (joined (head .texts)) (judgedText expected (t .counts) answer))
 
   pub left-apart : (content : Content) (counts : List ℕ) → leftOf content (set counts p v) ≡ leftOf content counts
   unfolding leftOf
   left-apart content counts =
       rw (fault-same content counts (set counts p v) (getD-set-other counts p 9 v 0 (a .nine)) (getD-set-other counts p 10 v 0 (a .ten)) (getD-set-other counts p 11 v 0 (a .eleven)))
+
+-- ---- by what a line tells
+
+-- what a line tells, with other numbers in the places of the buffer
+abbrev pub toldElsewhere : ℕ → ℕ → ℕ → ℕ → Told → Told
+toldElsewhere w x y z t = record { texts = t .texts; counts = elsewhere w x y z (t .counts) }
+
+abbrev placed : ℕ → ℕ → Told → Told
+placed p v t = record { texts = t .texts; counts = set (t .counts) p v }
+
+pub told-counts-elsewhere : (expected : List (List ℕ)) (w x y z : ℕ) (t : Told) → toldCounts expected (toldElsewhere w x y z t) ≡ elsewhere w x y z (toldCounts expected t)
+told-counts-elsewhere expected w x y z t =
+    rw (told-counts-apart 20 z body-apart expected (placed 13 y (placed 12 x (placed 0 w t))), told-counts-apart 13 y spare-apart expected (placed 12 x (placed 0 w t)), told-counts-apart 12 x start-apart expected (placed 0 w t), told-counts-apart 0 w ends-apart expected t)
+
+pub told-text-elsewhere : (expected : List (List ℕ)) (names : List ℕ) (head : Told) (w x y z : ℕ) (t : Told)
+    → toldText expected names head (toldElsewhere w x y z t) ≡ toldText expected names head t
+told-text-elsewhere expected names head w x y z t =
+    told-text-apart 20 z body-apart expected names head (placed 13 y (placed 12 x (placed 0 w t)))
+    ∙ (told-text-apart 13 y spare-apart expected names head (placed 12 x (placed 0 w t))
+    ∙ (told-text-apart 12 x start-apart expected names head (placed 0 w t) ∙ told-text-apart 0 w ends-apart expected names head t))
+
+-- Of the head the text says no more than its own.
+pub told-head : (expected : List (List ℕ)) (names : List ℕ) (head own : Told) (counts : List ℕ)
+    → toldText expected names record { texts = head .texts; counts = counts } own ≡ toldText expected names head own
+unfolding toldText
+told-head expected names head own counts = refl
+
+pub left-elsewhere : (content : Content) (w x y z : ℕ) (counts : List ℕ) → leftOf content (elsewhere w x y z counts) ≡ leftOf content counts
+left-elsewhere content w x y z counts =
+    left-apart 20 z body-apart content (set (set (set counts 0 w) 12 x) 13 y) ∙ (left-apart 13 y spare-apart content (set (set counts 0 w) 12 x)
+    ∙ (left-apart 12 x start-apart content (set counts 0 w) ∙ left-apart 0 w ends-apart content counts))
 
 -- ---- from the head on
 
@@ -187,28 +235,8 @@ module _ (content : Content) (expected : List (List ℕ)) (text numbers names : 
   abbrev own : List ℕ → Told
   own = ownTold content text numbers names s
 
-  abbrev answer : List ℕ → List ℕ
-  answer counts = joined (own counts .texts)
-
-  -- the counts after the line, and its text, from the counts behind its head on
-  abbrev pub countsFrom : List ℕ → List ℕ
-  countsFrom counts = closedCounts expected (own counts .counts) (answer counts)
-
-  abbrev pub textFrom : List ℕ → List ℕ → List ℕ
-  textFrom head counts =
-      closedText (namesAfter (leftOf content counts) text names) (countsFrom counts) head (judgedText expected (own counts .counts) (answer counts))
-
   abbrev Kept : ℕ → ℕ → Type 0
   Kept p v = (counts : List ℕ) → own (set counts p v) ≡ record { texts = own counts .texts; counts = set (own counts .counts) p v }
-
-  module _ (p v : ℕ) (a : Apart p) (kept : Kept p v) where
-    counts-apart : (counts : List ℕ) → countsFrom (set counts p v) ≡ set (countsFrom counts) p v
-    counts-apart counts = rw (kept counts) (closed-counts-apart p v a expected (own counts .counts) (answer counts))
-
-    text-apart : (head counts : List ℕ) → textFrom head (set counts p v) ≡ textFrom head counts
-    text-apart head counts =
-        rw (kept counts, left-apart p v a content counts, closed-counts-apart p v a expected (own counts .counts) (answer counts), judged-text-apart p v a expected (own counts .counts) (answer counts))
-        (closed-text-apart p v a (namesAfter (leftOf content counts) text names) (countsFrom counts) head (judgedText expected (own counts .counts) (answer counts)))
 
   ends-kept : (v : ℕ) → Kept 0 v
   unfolding ownTold
@@ -225,26 +253,21 @@ module _ (content : Content) (expected : List (List ℕ)) (text numbers names : 
   own-elsewhere w x y z counts =
       rw (later-kept 20 z (omega arith) (omega arith) (λ e. omega arith) (set (set (set counts 0 w) 12 x) 13 y), later-kept 13 y (omega arith) (omega arith) (λ e. omega arith) (set (set counts 0 w) 12 x), later-kept 12 x (omega arith) (omega arith) (λ e. omega arith) (set counts 0 w), ends-kept w counts)
 
-  pub counts-elsewhere : (w x y z : ℕ) (counts : List ℕ) → countsFrom (elsewhere w x y z counts) ≡ elsewhere w x y z (countsFrom counts)
-  counts-elsewhere w x y z counts =
-      rw (counts-apart 20 z body-apart (later-kept 20 z (omega arith) (omega arith) (λ e. omega arith)) (set (set (set counts 0 w) 12 x) 13 y), counts-apart 13 y spare-apart (later-kept 13 y (omega arith) (omega arith) (λ e. omega arith)) (set (set counts 0 w) 12 x), counts-apart 12 x start-apart (later-kept 12 x (omega arith) (omega arith) (λ e. omega arith)) (set counts 0 w), counts-apart 0 w ends-apart (ends-kept w) counts)
+  -- the counts after the line, and its text, from the counts behind its head on
+  pub counts-elsewhere : (w x y z : ℕ) (counts : List ℕ) → toldCounts expected (own (elsewhere w x y z counts)) ≡ elsewhere w x y z (toldCounts expected (own counts))
+  counts-elsewhere w x y z counts = rw (own-elsewhere w x y z counts) (told-counts-elsewhere expected w x y z (own counts))
 
-  pub text-elsewhere : (w x y z : ℕ) (head counts : List ℕ) → textFrom head (elsewhere w x y z counts) ≡ textFrom head counts
+  pub text-elsewhere : (w x y z : ℕ) (head : Told) (counts : List ℕ)
+      → toldText expected (namesAfter (leftOf content (elsewhere w x y z counts)) text names) head (own (elsewhere w x y z counts))
+      ≡ toldText expected (namesAfter (leftOf content counts) text names) head (own counts)
   text-elsewhere w x y z head counts =
-      text-apart 20 z body-apart (later-kept 20 z (omega arith) (omega arith) (λ e. omega arith)) head (set (set (set counts 0 w) 12 x) 13 y)
-      ∙ (text-apart 13 y spare-apart (later-kept 13 y (omega arith) (omega arith) (λ e. omega arith)) head (set (set counts 0 w) 12 x)
-      ∙ (text-apart 12 x start-apart (later-kept 12 x (omega arith) (omega arith) (λ e. omega arith)) head (set counts 0 w)
-      ∙ text-apart 0 w ends-apart (ends-kept w) head counts))
+      rw (own-elsewhere w x y z counts, left-elsewhere content w x y z counts)
+      (told-text-elsewhere expected (namesAfter (leftOf content counts) text names) head w x y z (own counts))
 
 pub tail-elsewhere : (names : List ℕ) (w x y z : ℕ) (counts : List ℕ) → tail names (elsewhere w x y z counts) ≡ tail names counts
 tail-elsewhere names w x y z counts =
     tail-apart 20 z body-apart names (set (set (set counts 0 w) 12 x) 13 y) ∙ (tail-apart 13 y spare-apart names (set (set counts 0 w) 12 x)
     ∙ (tail-apart 12 x start-apart names (set counts 0 w) ∙ tail-apart 0 w ends-apart names counts))
-
-pub left-elsewhere : (content : Content) (w x y z : ℕ) (counts : List ℕ) → leftOf content (elsewhere w x y z counts) ≡ leftOf content counts
-left-elsewhere content w x y z counts =
-    left-apart 20 z body-apart content (set (set (set counts 0 w) 12 x) 13 y) ∙ (left-apart 13 y spare-apart content (set (set counts 0 w) 12 x)
-    ∙ (left-apart 12 x start-apart content (set counts 0 w) ∙ left-apart 0 w ends-apart content counts))
 
 pub count-elsewhere : (w x y z : ℕ) (counts : List ℕ) (p : ℕ) → (p ≡ 0 → ⊥) → (p ≡ 12 → ⊥) → (p ≡ 13 → ⊥) → (p ≡ 20 → ⊥)
     → getD (elsewhere w x y z counts) p 0 ≡ getD counts p 0

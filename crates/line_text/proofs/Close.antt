@@ -3,17 +3,19 @@ use Prim.Native.Nat.{ℕ, _+_, _≤_, _<_, min}
 use mathlib.Core.Path.{_≡_, refl, sym, ap, _∙_}
 use mathlib.Core.Bool.{Bool, true, false, cond}
 use mathlib.Core.List.{List, [], _∷_, _++_, append-assoc, append-nil}
+use native.Mathlib.Decide.{decLe}
 use native.Mathlib.Omega.{arith}
-use lib.Dec.{eqb}
-use lib.ListN.{length, getD, set, take, drop, length-append, length-set, length-drop, take-append-drop}
+use lib.Dec.{leb, eqb}
+use lib.ListN.{length, getD, set, take, drop, length-append, length-set, length-take, length-drop, take-append-drop}
 use lib.Seq.{set-comm, set-set, getD-set-same, getD-set-other, length-take-le, take-at, drop-at, take-take}
-use borrow.Author.Tests.{le-leb}
-use Rattle.numeral.specs.Place.{overwrite, putEach, joined}
-use Rattle.numeral.proofs.PlaceLaws.{put-each}
-use Rattle.wording.specs.Wording.{expected as expectedTexts}
+use borrow.Author.Tests.{le-leb, lt-leb}
+use Rattle.numeral.specs.Place.{noRoom, overwrite, putEach, joined}
+use Rattle.numeral.proofs.PlaceLaws.{length-overwrite, put-each}
+use Rattle.wording.specs.Wording.{expected as expectedTexts, leftOut}
 use Rattle.item_state.specs.Log.{Log, added}
-use Rattle.item_checks.specs.Close.{answer, placeOf, firstEnd, beginsWith, within, inserted, oneMore, compared, judgedLog, announced, refusalCounted, trouble, tail, shortened, dropped, looked, closed}
-use Rattle.line_text.specs.Text.{differingText, isCall, judgedText, judgedCounts, isAnnounced, closedCounts, lookedText, closedText}
+use Rattle.item_checks.specs.Close.{answer, placeOf, firstEnd, beginsWith, within, inserted, oneMore, compared, judgedLog, announced, refusalCounted, briefly, cutOff, keptBriefly, trouble, tail, shortened, dropped, looked, closed}
+use Rattle.item_checks.proofs.Briefly.{dots, left-out, briefly-short, briefly-long, briefly-shorter}
+use Rattle.line_text.specs.Text.{differingText, isCall, judgedText, judgedCounts, isAnnounced, shownAnswer, closedCounts, lookedText, closedText}
 
 -- The answers are the text before a line, its head and its own answer, and the counts have where each starts.
 pub record Stands (base head own : List ℕ) (l : Log) : Type 0 where
@@ -46,31 +48,43 @@ module _ {base head own : List ℕ} {l : Log} (s : Stands base head own l) where
   unfolding firstEnd
   first-end = rw (answer-is, s .body, s .ends) (omega (arith, place-low 10 own))
 
+  -- the text up to so many bytes of the line's own answer
+  abbrev start : ℕ → List ℕ
+  start n = base ++ (head ++ take n own)
+
+  start-then : (n : ℕ) (more : List ℕ) → start n ++ more ≡ base ++ (head ++ (take n own ++ more))
+  start-then n more = append-assoc base (head ++ take n own) more ∙ ap (λ (x : List ℕ). base ++ x) (append-assoc head (take n own) more)
+
+  split : (n : ℕ) → base ++ (head ++ own) ≡ start n ++ drop n own
+  split n = sym (start-then n (drop n own) ∙ ap (λ (x : List ℕ). base ++ (head ++ x)) (take-append-drop n own))
+
+  module _ (n : ℕ) (low : n ≤ length own) where
+    start-long : length (start n) ≡ length base + length head + n
+    start-long = rw (length-append, length-append, length-take-le n own low) (omega arith)
+
+    start-is : take (length base + length head + n) (l .answers) ≡ start n
+    start-is =
+        let at = length base + length head + n in
+        sym (take-take at used (l .answers) (omega (arith, s .ends, low))) ∙ (ap (take at) (s .text ∙ split n) ∙ take-at (start n) (drop n own) at start-long)
+
   abbrev front : List ℕ
-  front = base ++ (head ++ take k own)
+  front = start k
 
   front-long : length front ≡ firstEnd l
-  front-long = rw (first-end, length-append, length-append, length-take-le k own (place-low 10 own)) (omega arith)
-
-  split : base ++ (head ++ own) ≡ front ++ drop k own
-  split =
-      sym (append-assoc base (head ++ take k own) (drop k own)
-      ∙ ap (λ (x : List ℕ). base ++ x) (append-assoc head (take k own) (drop k own) ∙ ap (λ (x : List ℕ). head ++ x) (take-append-drop k own)))
+  front-long = start-long k (place-low 10 own) ∙ sym first-end
 
   early : firstEnd l ≤ used
   early = omega (arith, first-end, place-low 10 own, s .ends)
 
   -- the answers up to the end of the answer's first line, and those behind it
   front-is : take (firstEnd l) (l .answers) ≡ front
-  front-is =
-      sym (take-take (firstEnd l) used (l .answers) early)
-      ∙ (ap (take (firstEnd l)) (s .text ∙ split) ∙ take-at front (drop k own) (firstEnd l) front-long)
+  front-is = rw first-end (start-is k (place-low 10 own))
 
   back-is : drop (firstEnd l) (take used (l .answers)) ≡ drop k own
-  back-is = ap (drop (firstEnd l)) (s .text ∙ split) ∙ drop-at front (drop k own) (firstEnd l) front-long
+  back-is = ap (drop (firstEnd l)) (s .text ∙ split k) ∙ drop-at front (drop k own) (firstEnd l) front-long
 
   front-then : (more : List ℕ) → front ++ more ≡ base ++ (head ++ (take k own ++ more))
-  front-then more = append-assoc base (head ++ take k own) more ∙ ap (λ (x : List ℕ). base ++ x) (append-assoc head (take k own) more)
+  front-then more = start-then k more
 
   back-long : firstEnd l + length (drop k own) ≡ used
   back-long = rw (first-end, length-drop k own) (omega (arith, place-low 10 own, s .ends))
@@ -204,6 +218,125 @@ module _ {base head own counts : List ℕ} {l : Log} (w : Written base head own 
       go true = w
       go false = written-more 5 (λ e. omega arith) (λ e. omega arith) (λ e. omega arith)
 
+-- ---- "of an answer of more than 2,051 bytes the first 2,048 and ` ..`"
+
+-- The other counts stay as they are.
+cut-count : (l : Log) (p : ℕ) → (p ≡ 0 → ⊥) → getD (cutOff l .counts) p 0 ≡ getD (l .counts) p 0
+unfolding cutOff
+cut-count l p apart = getD-set-other (l .counts) 0 p _ 0 apart
+
+pub briefly-count : (l : Log) (p : ℕ) → (p ≡ 0 → ⊥) → getD (keptBriefly l .counts) p 0 ≡ getD (l .counts) p 0
+unfolding keptBriefly
+briefly-count l p apart =
+    go (eqb (getD (l .counts) 14 0) 0) (leb (getD (l .counts) 0 0) (min (getD (l .counts) 20 0 + 2051) 18446744073709551615))
+  where
+    go : (t u : Bool) → getD (cond t l (cond u l (cutOff l)) .counts) p 0 ≡ getD (l .counts) p 0
+    go true u = refl
+    go false true = refl
+    go false false = cut-count l p apart
+
+shown-shorter : (counts own : List ℕ) → length (shownAnswer counts own) ≤ length own
+unfolding shownAnswer
+shown-shorter counts own = go (eqb (getD counts 14 0) 0)
+  where
+    go : (t : Bool) → length (cond t own (briefly own)) ≤ length own
+    go true = omega arith
+    go false = briefly-shorter own
+
+module _ {base head own counts : List ℕ} {l : Log} (w : Written base head own counts l) (small : length (l .answers) ≤ noRoom) where
+  abbrev at : ℕ
+  at = length base + length head + 2048
+
+  -- The answers end in the buffer.
+  in-buffer : getD (l .counts) 0 0 ≤ length (l .answers)
+  in-buffer =
+      let long : length (take (getD (l .counts) 0 0) (l .answers)) ≡ length base + (length head + length own) =
+      ap length (w .stands .text) ∙ (length-append base (head ++ own) ∙ omega (arith, length-append head own)) in
+      omega (arith, long, length-take (getD (l .counts) 0 0) (l .answers), w .stands .ends)
+
+  module _ (long : 2052 ≤ length own) where
+    room : at + 3 ≤ length (l .answers)
+    room = omega (arith, in-buffer, w .stands .ends, long)
+
+    cut-is : cutOff l ≡ record { counts = set (l .counts) 0 (at + 3); answers = overwrite (l .answers) at dots }
+    unfolding cutOff
+    cut-is =
+        let place : min (getD (l .counts) 20 0 + 2048) 18446744073709551615 ≡ at = omega (arith, w .stands .body, room, small) in
+        rw (place, put-each leftOut (l .answers) at (rw left-out room), left-out)
+
+    cut-text : take (at + 3) (overwrite (l .answers) at dots) ≡ base ++ (head ++ (take 2048 own ++ dots))
+    unfolding overwrite
+    cut-text =
+        let low : 2048 ≤ length own = omega (arith, long) in
+        let first = start (w .stands) 2048 in
+        rw (start-is (w .stands) 2048 low)
+        (take-at (first ++ dots) (drop (at + 3) (l .answers)) (at + 3) (length-append first dots ∙ omega (arith, start-long (w .stands) 2048 low))
+        ∙ start-then (w .stands) 2048 dots)
+
+    cut-stands : Stands base head (take 2048 own ++ dots) (cutOff l)
+    cut-stands =
+        let end : getD (set (l .counts) 0 (at + 3)) 0 0 ≡ at + 3 = getD-set-same (l .counts) 0 (at + 3) 0 (w .some) in
+        rw cut-is record {
+          text = rw end cut-text;
+          ends = end ∙ omega (arith, length-append (take 2048 own) dots, length-take-le 2048 own (omega (arith, long)));
+          body = getD-set-other (l .counts) 0 20 (at + 3) 0 (λ e. omega arith) ∙ w .stands .body;
+          start = getD-set-other (l .counts) 0 12 (at + 3) 0 (λ e. omega arith) ∙ w .stands .start;
+        }
+
+    cut-written : Written base head (take 2048 own ++ dots) counts (cutOff l)
+    cut-written = record {
+      stands = cut-stands;
+      same = rw (cut-is, getD-set-same (l .counts) 0 (at + 3) 0 (w .some))
+          (ap (λ (x : List ℕ). set x 0 (at + 3)) (w .same) ∙ set-set counts 0 (getD (l .counts) 0 0) (at + 3));
+      some = rw (cut-is, length-set) (w .some);
+    }
+
+    cut-buffer : length (cutOff l .answers) ≡ length (l .answers)
+    cut-buffer = rw cut-is (length-overwrite (l .answers) at dots room)
+
+    past : min (getD (l .counts) 20 0 + 2051) 18446744073709551615 < getD (l .counts) 0 0
+    past = omega (arith, w .stands .ends, w .stands .body, long)
+
+  up-to : length own ≤ 2051 → getD (l .counts) 0 0 ≤ min (getD (l .counts) 20 0 + 2051) 18446744073709551615
+  up-to short = omega (arith, w .stands .ends, w .stands .body, in-buffer, small, short)
+
+  -- what is left of the buffer in a check
+  abbrev checked : Log
+  checked = cond (leb (getD (l .counts) 0 0) (min (getD (l .counts) 20 0 + 2051) 18446744073709551615)) l (cutOff l)
+
+  checked-briefly : Written base head (briefly own) counts checked × (length (checked .answers) ≡ length (l .answers))
+  checked-briefly = go (decLe (length own) 2051)
+    where
+      go : Dec (length own ≤ 2051) → Written base head (briefly own) counts checked × (length (checked .answers) ≡ length (l .answers))
+      go (yes p) =
+          rw (briefly-short own p, le-leb (getD (l .counts) 0 0) (min (getD (l .counts) 20 0 + 2051) 18446744073709551615) (up-to p)) (w, refl)
+      go (no p) =
+          let long : 2052 ≤ length own = omega arith in
+          rw (briefly-long own long, lt-leb (getD (l .counts) 0 0) (min (getD (l .counts) 20 0 + 2051) 18446744073709551615) (past long))
+          (cut-written long, cut-buffer long)
+
+  -- What a check keeps of the answer is what it shows
+  pub written-briefly : Written base head (shownAnswer counts own) counts (keptBriefly l)
+  unfolding shownAnswer keptBriefly
+  written-briefly = rw (other-count w 14 (λ e. omega arith)) (go (eqb (getD counts 14 0) 0))
+    where
+      go : (t : Bool) → Written base head (cond t own (briefly own)) counts (cond t l checked)
+      go true = w
+      go false = checked-briefly .0
+
+  -- in a buffer of the same length,
+  pub buffer-briefly : length (keptBriefly l .answers) ≡ length (l .answers)
+  unfolding keptBriefly
+  buffer-briefly = go (eqb (getD (l .counts) 14 0) 0)
+    where
+      go : (t : Bool) → length (cond t l checked .answers) ≡ length (l .answers)
+      go true = refl
+      go false = checked-briefly .1
+
+  -- and takes no more of it.
+  pub ends-briefly : getD (keptBriefly l .counts) 0 0 ≤ getD (l .counts) 0 0
+  ends-briefly = omega (arith, written-briefly .stands .ends, w .stands .ends, shown-shorter counts own)
+
 -- ---- "`=>` and the words that its answer begins with"
 
 -- the text that may be put into the answer
@@ -263,6 +396,35 @@ module _ {base head own counts : List ℕ} {l : Log} (w : Written base head own 
   announced-is (wanted ∷ others) = rw (other-count w 6 (λ e. omega arith), other-count w 18 (λ e. omega arith), answer-is (w .stands))
 
 -- ---- a check
+
+-- The item's name goes by neither the answer nor what is expected of it.
+refusal-name : (told : Bool) (counts : List ℕ) → getD (refusalCounted told counts) 15 0 ≡ getD counts 15 0
+unfolding refusalCounted added
+refusal-name true counts = refl
+refusal-name false counts = go (eqb (getD counts 4 0) (getD counts 17 0))
+  where
+    go : (t : Bool) → getD (cond t counts (set counts 5 (min (getD counts 5 0 + 1) 18446744073709551615))) 15 0 ≡ getD counts 15 0
+    go true = refl
+    go false = getD-set-other counts 5 15 _ 0 (λ e. omega arith)
+
+added-name : (counts : List ℕ) (p : ℕ) → (15 ≡ p → ⊥) → getD (added counts p 1) 15 0 ≡ getD counts 15 0
+unfolding added
+added-name counts p apart = getD-set-other counts p 15 _ 0 apart
+
+judged-name : (expected : List (List ℕ)) (counts answer : List ℕ) → getD (judgedCounts expected counts answer) 15 0 ≡ getD counts 15 0
+unfolding judgedCounts
+judged-name [] counts answer = refl
+judged-name (wanted ∷ others) counts answer = go (isCall counts) (beginsWith wanted answer)
+  where
+    go : (t u : Bool) → getD (cond t (cond u (added counts 7 1) (added (added counts 7 1) 8 1)) counts) 15 0 ≡ getD counts 15 0
+    go true true = added-name counts 7 (λ e. omega arith)
+    go true false = added-name (added counts 7 1) 8 (λ e. omega arith) ∙ added-name counts 7 (λ e. omega arith)
+    go false u = refl
+
+pub closed-tail : (names : List ℕ) (expected : List (List ℕ)) (counts answer : List ℕ) → tail names (closedCounts expected counts answer) ≡ tail names counts
+unfolding tail closedCounts
+closed-tail names expected counts answer =
+    rw (refusal-name (isAnnounced expected counts answer) (judgedCounts expected counts answer), judged-name expected counts answer)
 
 module _ {base head own counts : List ℕ} {l : Log} (w : Written base head own counts l) (names : List ℕ) where
   trouble-is : trouble (l .counts) ≡ trouble counts

@@ -1,6 +1,6 @@
 -- A line's text and the counts after it go by neither the buffer nor where the answers ended. Assumes nothing.
 use Prim.Native.Nat.{ℕ, suc, _+_}
-use mathlib.Core.Path.{_≡_, refl}
+use mathlib.Core.Path.{_≡_, refl, _∙_}
 use mathlib.Core.Bool.{Bool, true, false, cond}
 use mathlib.Core.List.{List, [], _∷_}
 use native.Mathlib.Omega.{arith}
@@ -15,7 +15,7 @@ use Rattle.item_checks.specs.Close.{trouble}
 use Rattle.answer_text.specs.Texts.{Told, silent, asked}
 use Rattle.session.specs.Line.{State, Replay, withLog}
 use Rattle.line_text.specs.Text.{headTold, begunTold, ownTold, lineText, lineCounts, elsewhere}
-use Rattle.line_text.proofs.Apart.{counts-elsewhere, text-elsewhere}
+use Rattle.line_text.proofs.Apart.{told-head, counts-elsewhere, text-elsewhere}
 
 -- ---- the head
 
@@ -24,7 +24,7 @@ by-cons : (P : List ℕ → Type 0) (n : ℕ) → ((c : ℕ) (cs : List ℕ) →
 by-cons P n f [] h = absurd (omega arith)
 by-cons P n f (c ∷ cs) h = f c cs (omega arith)
 
-by-counts : (P : List ℕ → Type 0) → ((c0 c1 c2 c3 c4 c5 c6 c7 c8 c9 c10 c11 c12 c13 c14 c15 c16 c17 c18 c19 c20 : ℕ) (rest : List ℕ) → P (c0 ∷ c1 ∷ c2 ∷ c3 ∷ c4 ∷ c5 ∷ c6 ∷ c7 ∷ c8 ∷ c9 ∷ c10 ∷ c11 ∷ c12 ∷ c13 ∷ c14 ∷ c15 ∷ c16 ∷ c17 ∷ c18 ∷ c19 ∷ c20 ∷ rest))
+pub by-counts : (P : List ℕ → Type 0) → ((c0 c1 c2 c3 c4 c5 c6 c7 c8 c9 c10 c11 c12 c13 c14 c15 c16 c17 c18 c19 c20 : ℕ) (rest : List ℕ) → P (c0 ∷ c1 ∷ c2 ∷ c3 ∷ c4 ∷ c5 ∷ c6 ∷ c7 ∷ c8 ∷ c9 ∷ c10 ∷ c11 ∷ c12 ∷ c13 ∷ c14 ∷ c15 ∷ c16 ∷ c17 ∷ c18 ∷ c19 ∷ c20 ∷ rest))
     → (counts : List ℕ) → length counts ≡ 22 → P counts
 by-counts P f = by-cons P 21 (λ c0 l0 h0. by-cons (λ x. P (c0 ∷ x)) 20 (λ c1 l1 h1. by-cons (λ x. P (c0 ∷ c1 ∷ x)) 19 (λ c2 l2 h2. by-cons (λ x. P (c0 ∷ c1 ∷ c2 ∷ x)) 18 (λ c3 l3 h3. by-cons (λ x. P (c0 ∷ c1 ∷ c2 ∷ c3 ∷ x)) 17 (λ c4 l4 h4. by-cons (λ x. P (c0 ∷ c1 ∷ c2 ∷ c3 ∷ c4 ∷ x)) 16 (λ c5 l5 h5. by-cons (λ x. P (c0 ∷ c1 ∷ c2 ∷ c3 ∷ c4 ∷ c5 ∷ x)) 15 (λ c6 l6 h6. by-cons (λ x. P (c0 ∷ c1 ∷ c2 ∷ c3 ∷ c4 ∷ c5 ∷ c6 ∷ x)) 14 (λ c7 l7 h7. by-cons (λ x. P (c0 ∷ c1 ∷ c2 ∷ c3 ∷ c4 ∷ c5 ∷ c6 ∷ c7 ∷ x)) 13 (λ c8 l8 h8. by-cons (λ x. P (c0 ∷ c1 ∷ c2 ∷ c3 ∷ c4 ∷ c5 ∷ c6 ∷ c7 ∷ c8 ∷ x)) 12 (λ c9 l9 h9. by-cons (λ x. P (c0 ∷ c1 ∷ c2 ∷ c3 ∷ c4 ∷ c5 ∷ c6 ∷ c7 ∷ c8 ∷ c9 ∷ x)) 11 (λ c10 l10 h10. by-cons (λ x. P (c0 ∷ c1 ∷ c2 ∷ c3 ∷ c4 ∷ c5 ∷ c6 ∷ c7 ∷ c8 ∷ c9 ∷ c10 ∷ x)) 10 (λ c11 l11 h11. by-cons (λ x. P (c0 ∷ c1 ∷ c2 ∷ c3 ∷ c4 ∷ c5 ∷ c6 ∷ c7 ∷ c8 ∷ c9 ∷ c10 ∷ c11 ∷ x)) 9 (λ c12 l12 h12. by-cons (λ x. P (c0 ∷ c1 ∷ c2 ∷ c3 ∷ c4 ∷ c5 ∷ c6 ∷ c7 ∷ c8 ∷ c9 ∷ c10 ∷ c11 ∷ c12 ∷ x)) 8 (λ c13 l13 h13. by-cons (λ x. P (c0 ∷ c1 ∷ c2 ∷ c3 ∷ c4 ∷ c5 ∷ c6 ∷ c7 ∷ c8 ∷ c9 ∷ c10 ∷ c11 ∷ c12 ∷ c13 ∷ x)) 7 (λ c14 l14 h14. by-cons (λ x. P (c0 ∷ c1 ∷ c2 ∷ c3 ∷ c4 ∷ c5 ∷ c6 ∷ c7 ∷ c8 ∷ c9 ∷ c10 ∷ c11 ∷ c12 ∷ c13 ∷ c14 ∷ x)) 6 (λ c15 l15 h15. by-cons (λ x. P (c0 ∷ c1 ∷ c2 ∷ c3 ∷ c4 ∷ c5 ∷ c6 ∷ c7 ∷ c8 ∷ c9 ∷ c10 ∷ c11 ∷ c12 ∷ c13 ∷ c14 ∷ c15 ∷ x)) 5 (λ c16 l16 h16. by-cons (λ x. P (c0 ∷ c1 ∷ c2 ∷ c3 ∷ c4 ∷ c5 ∷ c6 ∷ c7 ∷ c8 ∷ c9 ∷ c10 ∷ c11 ∷ c12 ∷ c13 ∷ c14 ∷ c15 ∷ c16 ∷ x)) 4 (λ c17 l17 h17. by-cons (λ x. P (c0 ∷ c1 ∷ c2 ∷ c3 ∷ c4 ∷ c5 ∷ c6 ∷ c7 ∷ c8 ∷ c9 ∷ c10 ∷ c11 ∷ c12 ∷ c13 ∷ c14 ∷ c15 ∷ c16 ∷ c17 ∷ x)) 3 (λ c18 l18 h18. by-cons (λ x. P (c0 ∷ c1 ∷ c2 ∷ c3 ∷ c4 ∷ c5 ∷ c6 ∷ c7 ∷ c8 ∷ c9 ∷ c10 ∷ c11 ∷ c12 ∷ c13 ∷ c14 ∷ c15 ∷ c16 ∷ c17 ∷ c18 ∷ x)) 2 (λ c19 l19 h19. by-cons (λ x. P (c0 ∷ c1 ∷ c2 ∷ c3 ∷ c4 ∷ c5 ∷ c6 ∷ c7 ∷ c8 ∷ c9 ∷ c10 ∷ c11 ∷ c12 ∷ c13 ∷ c14 ∷ c15 ∷ c16 ∷ c17 ∷ c18 ∷ c19 ∷ x)) 1 (λ c20 l20 h20. f c0 c1 c2 c3 c4 c5 c6 c7 c8 c9 c10 c11 c12 c13 c14 c15 c16 c17 c18 c19 c20 l20) l19 h19) l18 h18) l17 h17) l16 h16) l15 h15) l14 h14) l13 h13) l12 h12) l11 h11) l10 h10) l9 h9) l8 h8) l7 h7) l6 h6) l5 h5) l4 h4) l3 h3) l2 h2) l1 h1) l0 h0)
 
@@ -98,7 +98,7 @@ module _ (content : Content) (expected : List (List ℕ)) (text numbers : List �
   unfolding lineText
   text-same =
       rw (begun-elsewhere (r .names) w x y z (r .state .log .counts) long, own-other (elsewhere w w y body (head .counts)))
-      (text-elsewhere content expected text numbers (r .names) (r .state) w w y body (joined (head .texts)) (head .counts))
+      (told-head expected _ head _ (elsewhere w w y body (head .counts)) ∙ text-elsewhere content expected text numbers (r .names) (r .state) w w y body head (head .counts))
 
   -- and the counts after it are, but for the places of the buffer.
   pub counts-same : lineCounts content expected text numbers other ≡ elsewhere w w y body (lineCounts content expected text numbers r)

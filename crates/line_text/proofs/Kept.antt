@@ -17,6 +17,7 @@ use Rattle.answer_text.proofs.Calls.{call-model}
 use Rattle.answer_text.proofs.Line.{line-kept}
 use Rattle.session.specs.Line.{State, lineDone, Replay, withLog, contentAnswered, lineAnswered}
 use Rattle.line_text.specs.Text.{faultTold, itemTold, namesAfter, bare, ownTold, closedCounts, headOf, ownOf, lineText, lineCounts, elsewhere}
+use Rattle.line_text.proofs.Close.{closed-tail}
 use Rattle.line_text.proofs.Told.{begun-long, left-set, fault-aside, item-aside}
 use Rattle.line_text.proofs.Whole.{names-page, model-page, flash-page, differences-page, probes-page}
 use Rattle.line_text.proofs.Places.{behind-placed, model-placed, left-placed}
@@ -43,7 +44,7 @@ alike-then a b = record {
 
 module _ (content : Content) (numbers : List ℕ) (s : State) where
   -- what a line does of counts, with no buffer
-  abbrev done : List ℕ → State
+  abbrev pub done : List ℕ → State
   done counts = lineDone content numbers (withLog s record { counts = counts; answers = [] })
 
   done-later : (p v : ℕ) → 11 < p → p < 21 → (counts : List ℕ) → Alike (done (set counts p v)) (done counts)
@@ -60,7 +61,7 @@ module _ (content : Content) (numbers : List ℕ) (s : State) where
       let keeps = line-kept content numbers (bare s counts) (s .differences) (s .probes) v [] some in
       record { model = moves .0; flash = moves .1; differences = keeps .0; probes = keeps .1 }
 
-  done-elsewhere : (w x y z : ℕ) (counts : List ℕ) → 0 < length counts → Alike (done (elsewhere w x y z counts)) (done counts)
+  pub done-elsewhere : (w x y z : ℕ) (counts : List ℕ) → 0 < length counts → Alike (done (elsewhere w x y z counts)) (done counts)
   done-elsewhere w x y z counts some =
       alike-then (done-later 20 z (omega arith) (omega arith) (set (set (set counts 0 w) 12 x) 13 y))
       (alike-then (done-later 13 y (omega arith) (omega arith) (set (set counts 0 w) 12 x))
@@ -69,7 +70,7 @@ module _ (content : Content) (numbers : List ℕ) (s : State) where
 -- ---- before the line's own answer
 
 module _ (content : Content) (text names : List ℕ) where
-  abbrev before : List ℕ → Told
+  abbrev pub before : List ℕ → Told
   before counts = behind (faultTold content counts) (itemTold (leftOf content counts) text names)
 
   before-later : (p v : ℕ) → 11 < p → p < 21 → (p ≡ 15 → ⊥) → (counts : List ℕ) → before (set counts p v) .counts ≡ set (before counts .counts) p v
@@ -85,7 +86,7 @@ module _ (content : Content) (text names : List ℕ) where
       rw (left-set content counts v)
       (ap (λ (t : Told). t .counts) (behind-aside counts v _ _ (itemTold left text names) (item-aside left text names) (fault-aside content counts v) .same))
 
-  before-elsewhere : (w x y z : ℕ) (counts : List ℕ) → before (elsewhere w x y z counts) .counts ≡ elsewhere w x y z (before counts .counts)
+  pub before-elsewhere : (w x y z : ℕ) (counts : List ℕ) → before (elsewhere w x y z counts) .counts ≡ elsewhere w x y z (before counts .counts)
   before-elsewhere w x y z counts =
       rw (before-later 20 z (omega arith) (omega arith) (λ e. omega arith) (set (set (set counts 0 w) 12 x) 13 y), before-later 13 y (omega arith) (omega arith) (λ e. omega arith) (set (set counts 0 w) 12 x), before-later 12 x (omega arith) (omega arith) (λ e. omega arith) (set counts 0 w), before-first w counts)
 
@@ -129,11 +130,10 @@ module _ (content : Content) (expected : List (List ℕ)) (text numbers : List �
 
   tail-same : tail (namesAfter (leftOf content (headOf other .counts)) text (r .names)) (closedCounts expected (ownOf content text numbers other .counts) (joined (ownOf content text numbers other .texts)))
       ≡ tail names (closedCounts expected (own .counts) (joined (own .texts)))
-  unfolding lineCounts
   tail-same =
-      rw left-same
-      (ap (tail names) (counts-same content expected text numbers r w x y z answers (here .counts))
-      ∙ tail-elsewhere names w w y body (closedCounts expected (own .counts) (joined (own .texts))))
+      let there = ownOf content text numbers other in
+      rw (left-same, closed-tail names expected (there .counts) (joined (there .texts)), closed-tail names expected (own .counts) (joined (own .texts)))
+      (ap (λ (t : Told). tail names (t .counts)) own-same ∙ tail-elsewhere names w w y body (own .counts))
 
   length-same : lineLength content expected text numbers other ≡ lineLength content expected text numbers r
   length-same =

@@ -5,7 +5,7 @@ use mathlib.Core.List.{List, [], _++_, append-assoc}
 use native.Mathlib.Omega.{arith}
 use lib.ListN.{length, getD, length-set}
 use lib.Seq.{set-getD, getD-set-other}
-use borrow.Author.Tests.{eq-eqb}
+use borrow.Author.Tests.{eq-eqb, ne-eqb}
 use Rattle.numeral.specs.Place.{noRoom}
 use Rattle.listing.proofs.Meaning.{Fit}
 use Rattle.line.specs.declared.Content.{Content}
@@ -13,7 +13,7 @@ use Rattle.item_state.specs.Log.{Log, put}
 use Rattle.item_calls.specs.Lines.{WithFlash}
 use Rattle.item_checks.specs.Fault.{leftOf, faultLog}
 use Rattle.item_checks.specs.Open.{begun, opened}
-use Rattle.item_checks.specs.Close.{closed}
+use Rattle.item_checks.specs.Close.{keptBriefly, closed}
 use Rattle.answer_text.specs.Texts.{Told, onPage, HasRoom, behind}
 use Rattle.answer_text.specs.Line.{beside, lineTold}
 use Rattle.answer_text.proofs.Page.{page-long, room-first, room-second}
@@ -23,6 +23,7 @@ use Rattle.answer_text.proofs.Calls.{call-model}
 use Rattle.answer_text.proofs.Line.{line-page, line-aside, line-kept}
 use Rattle.session.specs.Line.{State, withFlash, lineDone, Replay, withLog, lineBegun, lineEnded, contentAnswered}
 use Rattle.line_text.specs.Text.{faultTold, itemTold, namesAfter, bare, ownTold, headOf, ownOf}
+use Rattle.line_text.proofs.Close.{briefly-count}
 use Rattle.line_text.proofs.Told.{begun-long, begun-page, left-set, fault-page, fault-aside, item-page, item-aside, item-names}
 
 -- ---- what is told of the model goes by no answers
@@ -34,7 +35,7 @@ module _ (content : Content) (numbers : List ℕ) (s : State) where
   pub tell-aside : Apart tell
   tell-aside counts place = line-aside content numbers (bare s counts) (s .differences) (s .probes) place []
 
-  tell-any : (l : Log) → lineTold content numbers record { model = s .model; flash = s .flash; log = l } (s .differences) (s .probes) ≡ tell (l .counts)
+  pub tell-any : (l : Log) → lineTold content numbers record { model = s .model; flash = s .flash; log = l } (s .differences) (s .probes) ≡ tell (l .counts)
   tell-any l =
       let place = getD (l .counts) 0 0 in
       let w : WithFlash = record { model = s .model; flash = s .flash; log = l } in
@@ -54,14 +55,21 @@ behind-all head f i t =
     rw (append-assoc (head .texts ++ one .texts) (two .texts) (three .texts), append-assoc (head .texts) (one .texts) (two .texts ++ three .texts), append-assoc (one .texts) (two .texts) (three .texts))
 
 -- A line that is not under way any more is closed.
-page-left : (told : Told) (l : Log) → getD (onPage told l .counts) 21 0 ≡ getD (told .counts) 21 0
+pub page-left : (told : Told) (l : Log) → getD (onPage told l .counts) 21 0 ≡ getD (told .counts) 21 0
 unfolding onPage
 page-left told l = getD-set-other (told .counts) 0 21 _ 0 (λ e. omega arith)
 
 ended-whole : (expected : List (List ℕ)) (names : List ℕ) (told : Told) (l : Log) → getD (told .counts) 21 0 ≡ 0
-    → lineEnded expected names (onPage told l) ≡ closed expected names (onPage told l)
+    → lineEnded expected names (onPage told l) ≡ closed expected names (keptBriefly (onPage told l))
 unfolding lineEnded
-ended-whole expected names told l after = rw (eq-eqb (getD (onPage told l .counts) 21 0) 0 (page-left told l ∙ after))
+ended-whole expected names told l after =
+    rw (eq-eqb (getD (keptBriefly (onPage told l) .counts) 21 0) 0 (briefly-count (onPage told l) 21 (λ e. omega arith) ∙ (page-left told l ∙ after)))
+
+ended-part : (expected : List (List ℕ)) (names : List ℕ) (told : Told) (l : Log) → (getD (told .counts) 21 0 ≡ 0 → ⊥)
+    → lineEnded expected names (onPage told l) ≡ keptBriefly (onPage told l)
+unfolding lineEnded
+ended-part expected names told l more =
+    rw (ne-eqb (getD (keptBriefly (onPage told l) .counts) 21 0) 0 (λ e. more (sym (briefly-count (onPage told l) 21 (λ k. omega arith) ∙ page-left told l) ∙ e)))
 
 -- ---- a line, before it is closed
 
@@ -79,7 +87,7 @@ module _ (content : Content) (text numbers : List ℕ) (r : Replay) where
   abbrev pub whole : Told
   whole = record { texts = headOf r .texts ++ ownOf content text numbers r .texts; counts = ownOf content text numbers r .counts }
 
-  whole-is : behind opening (tell left numbers (r .state)) ≡ whole
+  pub whole-is : behind opening (tell left numbers (r .state)) ≡ whole
   unfolding ownTold
   whole-is = behind-all (headOf r) (faultTold content) (itemTold left text (r .names)) (tell left numbers (r .state))
 
@@ -106,7 +114,7 @@ module _ (content : Content) (text numbers : List ℕ) (r : Replay) where
         (fault-page content (onPage (headOf r) log) ∙ page-behind (headOf r) (faultTold content) log head-some (fault-aside content))
 
     -- What stands before the line's own answer is on the page.
-    opened-page : opened content text (r .names) log ≡ record { content = left; names = namesAfter left text (r .names); log = onPage opening log }
+    pub opened-page : opened content text (r .names) log ≡ record { content = left; names = namesAfter left text (r .names); log = onPage opening log }
     unfolding opened
     opened-page =
         let first = behind (headOf r) (faultTold content) in
@@ -172,16 +180,23 @@ module _ (content : Content) (text numbers : List ℕ) (r : Replay) where
       unfolding onPage
       page-some′ = rw length-set opening-some
 
-      done-page : lineDone left numbers there .log ≡ onPage whole log
+      pub done-page : lineDone left numbers there .log ≡ onPage whole log
       unfolding lineDone
       done-page =
           line-page left numbers (withFlash there) (r .state .differences) (r .state .probes) page-some′ can
           ∙ (ap (λ (t : Told). onPage t (onPage opening log)) (tell-any left numbers (r .state) (onPage opening log))
           ∙ (page-behind opening (tell left numbers (r .state)) log opening-some (tell-aside left numbers (r .state)) ∙ ap (λ (t : Told). onPage t log) whole-is))
 
-      -- A line that is answered whole is closed with its head and its own answer on the page.
+      -- A line that is answered whole is closed with its head and its own answer on the page, which a check keeps briefly.
       pub whole-page : (expected : List (List ℕ)) → getD (log .counts) 21 0 ≡ 0 → getD (ownOf content text numbers r .counts) 21 0 ≡ 0
-          → contentAnswered content expected text numbers r .state .log ≡ closed expected (namesAfter left text (r .names)) (onPage whole log)
+          → contentAnswered content expected text numbers r .state .log ≡ closed expected (namesAfter left text (r .names)) (keptBriefly (onPage whole log))
       unfolding contentAnswered lineBegun
       whole-page expected before after =
           rw (eq-eqb (getD (log .counts) 21 0) 0 before, opened-page, done-page) (ended-whole expected (namesAfter left text (r .names)) whole log after)
+
+      -- One that is under way behind its first part is not closed.
+      pub under-page : (expected : List (List ℕ)) → getD (log .counts) 21 0 ≡ 0 → (getD (ownOf content text numbers r .counts) 21 0 ≡ 0 → ⊥)
+          → contentAnswered content expected text numbers r .state .log ≡ keptBriefly (onPage whole log)
+      unfolding contentAnswered lineBegun
+      under-page expected before after =
+          rw (eq-eqb (getD (log .counts) 21 0) 0 before, opened-page, done-page) (ended-part expected (namesAfter left text (r .names)) whole log after)

@@ -12,7 +12,7 @@ use Rattle.item_state.specs.Log.{added}
 use Rattle.item_calls.specs.Lines.{WithFlash}
 use Rattle.item_checks.specs.Fault.{isFault, leftOf}
 use Rattle.item_checks.specs.Open.{lineCounted, isItem}
-use Rattle.item_checks.specs.Close.{lineWords, placeOf, beginsWith, refusalCounted, trouble, tail}
+use Rattle.item_checks.specs.Close.{lineWords, placeOf, beginsWith, refusalCounted, briefly, trouble, tail}
 use Rattle.answer_text.specs.Texts.{Told, silent, behind, asked}
 use Rattle.answer_text.specs.Line.{lineTold}
 use Rattle.session.specs.Line.{State, Replay}
@@ -60,6 +60,10 @@ ownTold content text numbers names s counts =
 
 -- ---- behind it
 
+-- The answer that is judged and shown: in a check, "of an answer of more than 2,051 bytes the first 2,048 and ` ..`"
+unfoldable pub shownAnswer : List ℕ → List ℕ → List ℕ
+shownAnswer counts answer = cond (eqb (getD counts 14 0) 0) answer (briefly answer)
+
 -- "What differs stands behind ` expected ` in the answer's first line."
 unfoldable pub differingText : List ℕ → List ℕ → List ℕ
 differingText wanted answer =
@@ -102,6 +106,16 @@ closedText names counts head answer =
 
 -- ---- all of it
 
+-- The text of a line by what it tells: the words that it expects, the names after it, its head, its own answer
+unfoldable pub toldText : List (List ℕ) → List ℕ → Told → Told → List ℕ
+toldText expected names head own =
+    let answer = shownAnswer (own .counts) (joined (own .texts)) in
+    closedText names (closedCounts expected (own .counts) answer) (joined (head .texts)) (judgedText expected (own .counts) answer)
+
+-- The counts after it, but for the first, which is where the answers end.
+unfoldable pub toldCounts : List (List ℕ) → Told → List ℕ
+toldCounts expected own = closedCounts expected (own .counts) (shownAnswer (own .counts) (joined (own .texts)))
+
 -- what a line tells before it is closed: the head, and its own answer
 abbrev pub headOf : Replay → Told
 headOf r = begunTold (r .names) (r .state .log .counts)
@@ -113,15 +127,11 @@ ownOf content text numbers r = ownTold content text numbers (r .names) (r .state
 -- byte of the buffer.
 unfoldable pub lineText : Content → List (List ℕ) → List ℕ → List ℕ → Replay → List ℕ
 lineText content expected text numbers r =
-    let own = ownOf content text numbers r in
-    let answer = joined (own .texts) in
-    closedText (namesAfter (leftOf content (headOf r .counts)) text (r .names)) (closedCounts expected (own .counts) answer)
-    (joined (headOf r .texts)) (judgedText expected (own .counts) answer)
+    toldText expected (namesAfter (leftOf content (headOf r .counts)) text (r .names)) (headOf r) (ownOf content text numbers r)
 
--- The counts after it, but for the first, which is where the answers end.
+-- and the counts after it
 unfoldable pub lineCounts : Content → List (List ℕ) → List ℕ → List ℕ → Replay → List ℕ
-lineCounts content expected text numbers r =
-    let own = ownOf content text numbers r in closedCounts expected (own .counts) (joined (own .texts))
+lineCounts content expected text numbers r = toldCounts expected (ownOf content text numbers r)
 
 -- The same counts with other numbers in the four places of the buffer: where the answers end, where the line starts, where what was
 -- written before ends, and where the line's own answer starts.

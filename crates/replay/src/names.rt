@@ -3,6 +3,10 @@ use crate::options::Options;
 use item_state::counts::more;
 use item_state::output::first_bytes;
 use libc::STDIN_FILENO;
+ghost use lib.Dec.{eqb};
+ghost use lib.IntN.{negsuc};
+ghost use mathlib.Core.Path.{_≡_};
+ghost use Rattle.replay.specs.Files.{isThere, NextArgument};
 
 // Where the next name comes from, and the one that was found last.
 pub struct Source {
@@ -32,12 +36,16 @@ pub const BROKEN: u8 = 2;
 // There are no more names.
 const ENDED: u8 = 3;
 
-pub fn is_there(s: Source) -> bool {
+pub fn is_there(s: Source) -> bool
+    ensures { λ r. ⌜ r ≡ isThere s ⌝ }
+{
     s.state != ENDED
 }
 
 // The source of the names that are asked for, with the first of them.
-pub fn first(o: Options, part: &mut [u8], path: &mut [u8]) -> Source {
+pub fn first(o: Options, part: &mut [u8], path: &mut [u8]) -> Source
+    ensures { λ r. ⌜ (o .list ≡ 0 → NextArgument (o .files) r) ⌝ }
+{
     let s = Source {
         fd: -1,
         list: o.list,
@@ -110,7 +118,9 @@ fn broken(s: Source, path: &mut [u8]) -> Source {
 // The source with the name after the one that it has.
 //
 // Nothing says that the list ends, so the loop counts its turns down, from a number that no run uses up.
-pub fn next(s: Source, part: &mut [u8], path: &mut [u8]) -> Source {
+pub fn next(s: Source, part: &mut [u8], path: &mut [u8]) -> Source
+    ensures { λ r. ⌜ (s .fd ≡ negsuc 0 → NextArgument (s .left) r) ⌝ }
+{
     let mut turns = u64::MAX;
     let mut it = seeking(s, s.at, 0);
     while turns > 0 && is_seeking(it) {
@@ -120,12 +130,16 @@ pub fn next(s: Source, part: &mut [u8], path: &mut [u8]) -> Source {
     it
 }
 
-fn is_seeking(s: Source) -> bool {
+fn is_seeking(s: Source) -> bool
+    ensures { λ r. ⌜ r ≡ eqb (s .state) 0 ⌝ }
+{
     s.state == SEEKING
 }
 
 // The source with a name's first bytes, and the place in the list behind them.
-fn seeking(s: Source, at: usize, length: usize) -> Source {
+fn seeking(s: Source, at: usize, length: usize) -> Source
+    ensures { λ r. ⌜ (r .fd ≡ s .fd) × (r .left ≡ s .left) × (r .state ≡ 0) ⌝ }
+{
     Source {
         fd: s.fd,
         list: s.list,
@@ -138,7 +152,9 @@ fn seeking(s: Source, at: usize, length: usize) -> Source {
     }
 }
 
-fn step(s: Source, part: &mut [u8], path: &mut [u8]) -> Source {
+fn step(s: Source, part: &mut [u8], path: &mut [u8]) -> Source
+    ensures { λ r. ⌜ (s .fd ≡ negsuc 0 → NextArgument (s .left) r) ⌝ }
+{
     if s.fd < 0 {
         return argument(s, path);
     }
@@ -246,7 +262,9 @@ fn argument_length(i: usize, path: &mut [u8]) -> usize {
 }
 
 // The next argument.
-fn argument(s: Source, path: &mut [u8]) -> Source {
+fn argument(s: Source, path: &mut [u8]) -> Source
+    ensures { λ r. ⌜ NextArgument (s .left) r ⌝ }
+{
     if s.left == 0 {
         return ended(s);
     }
@@ -263,7 +281,9 @@ fn argument(s: Source, path: &mut [u8]) -> Source {
     }
 }
 
-fn ended(s: Source) -> Source {
+fn ended(s: Source) -> Source
+    ensures { λ r. ⌜ (r .fd ≡ negsuc 0) × (r .state ≡ 3) ⌝ }
+{
     Source {
         fd: -1,
         list: s.list,

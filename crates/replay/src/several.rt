@@ -9,17 +9,64 @@ use collection::Outcome;
 use collection::Tally;
 use item_state::output::first_bytes;
 use libc::STDOUT_FILENO;
+ghost use Prim.Native.Nat.{_≤_};
+ghost use mathlib.Core.Path.{_≡_};
+ghost use lib.ListN.{length, take};
+ghost use Rattle.collection.specs.Tally.{none, collection};
+ghost use Rattle.replay.specs.Files.{notRead, Gathered, Summed};
 
-// Each group has this much room for its names.
-//
-// Nothing says that a list of names ends, so the loop counts its turns down, from a number that no
-// run uses up.
+// Each group has this much room for its names. The summary has room for all names, and for 20 lines
+// more.
 pub fn replay_all(o: Options) {
+    let mut out = [0u8; 331776];
     let mut differ = [0u8; 65536];
     let mut unannounced = [0u8; 65536];
     let mut bad = [0u8; 65536];
     let mut unread = [0u8; 65536];
     let mut plain = [0u8; 65536];
+    let end = replay_each(
+        o,
+        &mut out,
+        &mut differ,
+        &mut unannounced,
+        &mut bad,
+        &mut unread,
+        &mut plain,
+    );
+    io::write_all(STDOUT_FILENO, first_bytes(&out, end));
+}
+
+// Replays the files, and puts the summary of them all into the places from 0 on.
+fn replay_each(
+    o: Options,
+    out: &mut [u8],
+    differ: &mut [u8],
+    unannounced: &mut [u8],
+    bad: &mut [u8],
+    unread: &mut [u8],
+    plain: &mut [u8],
+) -> usize
+    requires { ⌜ (331776 ≤ length (now out)) × (length (now differ) ≤ 65536) × (length (now unannounced) ≤ 65536) × (length (now bad) ≤ 65536) × (length (now unread) ≤ 65536) × (length (now plain) ≤ 65536) ⌝ }
+    ensures { λ r. ⌜ Summed o (collection none (now (differ .entry)) (now (unannounced .entry)) (now (bad .entry)) (now (unread .entry)) (now (plain .entry))) (take r (now (out .exit))) ⌝ }
+{
+    let tally = gather(o, differ, unannounced, bad, unread, plain);
+    collection::put_summary(out, tally, differ, unannounced, bad, unread, plain)
+}
+
+// Replays file after file, and hands on what each came to.
+//
+// Nothing says that a list of names ends, so the loop counts its turns down, from a number that no
+// run uses up.
+fn gather(
+    o: Options,
+    differ: &mut [u8],
+    unannounced: &mut [u8],
+    bad: &mut [u8],
+    unread: &mut [u8],
+    plain: &mut [u8],
+) -> Tally
+    ensures { λ r. ⌜ Gathered o (collection none (now (differ .entry)) (now (unannounced .entry)) (now (bad .entry)) (now (unread .entry)) (now (plain .entry))) (collection r (now (differ .exit)) (now (unannounced .exit)) (now (bad .exit)) (now (unread .exit)) (now (plain .exit))) ⌝ }
+{
     let mut part = io::large_buffer();
     let mut path = io::buffer();
     let mut tally = collection::empty();
@@ -33,37 +80,25 @@ pub fn replay_all(o: Options) {
             tally,
             outcome,
             first_bytes(&path, source.length),
-            &mut differ,
-            &mut unannounced,
-            &mut bad,
-            &mut unread,
-            &mut plain,
+            differ,
+            unannounced,
+            bad,
+            unread,
+            plain,
         );
         shown = progress::tell(shown, tally.files);
         source = names::next(source, &mut part, &mut path);
     }
     progress::end(shown);
-    write_summary(tally, &differ, &unannounced, &bad, &unread, &plain);
+    tally
 }
 
 // The file of the name that was found.
-fn replay_named(source: Source, path: &[u8], check: bool) -> Outcome {
+fn replay_named(source: Source, path: &[u8], check: bool) -> Outcome
+    ensures { λ r. ⌜ (source .state ≡ 2 → r ≡ notRead) ⌝ }
+{
     if source.state == names::BROKEN {
         return not_read();
     }
     replay_file(first_bytes(path, source.length), check, !check)
-}
-
-// The summary has room for all names, and for 20 lines more.
-fn write_summary(
-    tally: Tally,
-    differ: &[u8],
-    unannounced: &[u8],
-    bad: &[u8],
-    unread: &[u8],
-    plain: &[u8],
-) {
-    let mut out = [0u8; 331776];
-    let end = collection::put_summary(&mut out, tally, differ, unannounced, bad, unread, plain);
-    io::write_all(STDOUT_FILENO, first_bytes(&out, end));
 }

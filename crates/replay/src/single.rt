@@ -2,6 +2,8 @@
 use collection::Outcome;
 use libc::STDIN_FILENO;
 use libc::STDOUT_FILENO;
+ghost use mathlib.Core.Path.{_≡_};
+ghost use Rattle.replay.specs.Files.{outcome, notRead};
 
 // The file that an argument names, without a heading.
 pub fn replay_argument(i: usize) {
@@ -31,7 +33,9 @@ pub fn replay_file(path: &[u8], check: bool, heading: bool) -> Outcome {
     o
 }
 
-fn outcome_of(o: session::Outcome) -> Outcome {
+fn outcome_of(o: session::Outcome) -> Outcome
+    ensures { λ r. ⌜ r ≡ outcome o ⌝ }
+{
     Outcome {
         whole: o.whole,
         unannounced: o.unannounced,
@@ -41,7 +45,9 @@ fn outcome_of(o: session::Outcome) -> Outcome {
     }
 }
 
-pub fn not_read() -> Outcome {
+pub fn not_read() -> Outcome
+    ensures { λ r. ⌜ r ≡ notRead ⌝ }
+{
     Outcome {
         whole: false,
         unannounced: 0,

@@ -21,9 +21,9 @@ use Rattle.item_analysis.specs.Lines.{analysisLine}
 use Rattle.answer_text.specs.Line.{lineLeft}
 use Rattle.item_checks.specs.Fault.{comesWrong, isFault, leftOf, faultTold, faultLog}
 use Rattle.item_checks.specs.Open.{lineCounted, headed, begun, isItem, named, opened}
-use Rattle.item_checks.specs.Close.{expectedOf, judgedLog, announced, refusalCounted, closed}
+use Rattle.item_checks.specs.Close.{expectedOf, keptBriefly, judgedLog, announced, refusalCounted, closed}
 use Rattle.session.specs.Line.{Replay, lineDone, lineBegun, lineEnded, contentAnswered, lineAnswered}
-use Rattle.session.specs.Feed.{Fed, hasRoom, leftBehind, lineFed, fed, withLeft}
+use Rattle.session.specs.Feed.{Fed, hasRoom, leftBehind, lineFed, fed}
 
 -- Where the answers end, the lines that were read, the bad ones, those before this line, and the ticks that are left.
 abbrev counts : ℕ → ℕ → ℕ → ℕ → ℕ → List ℕ
@@ -55,22 +55,17 @@ module _ (model : Model) (flash : List ℕ) (differences : List ℤ) (probes : L
 
   -- A line without a word is counted, and answers nothing.
   no-word : lineAnswered (32 ∷ []) [] (kept (counts 0 4 0 0 0) []) ≡ kept (counts 0 5 0 0 0) []
-  unfolding lineAnswered lineReading wordsReading contentLength words wordsAfter ended isBlank lineExpected wordsExpected expectedOf contentAnswered lineBegun opened begun lineCounted headed added leftOf isFault comesWrong faultLog named isItem lineDone lineLeft callLine timedLine beside questionLine analysisLine lineEnded closed judgedLog announced refusalCounted
+  unfolding lineAnswered lineReading wordsReading contentLength words wordsAfter ended isBlank lineExpected wordsExpected expectedOf contentAnswered lineBegun opened begun lineCounted headed added leftOf isFault comesWrong faultLog named isItem lineDone lineLeft callLine timedLine beside questionLine analysisLine lineEnded keptBriefly closed judgedLog announced refusalCounted
   no-word = refl
 
   -- The same in bytes that were read: two lines, and the start of a third.
   two-lines : fed 3 record { replay = kept (counts 0 4 0 0 0) []; numbers = []; left = 10 ∷ 32 ∷ 10 ∷ 98 ∷ [] }
       ≡ record { replay = kept (counts 0 6 0 0 0) []; numbers = []; left = 98 ∷ [] }
-  unfolding fed lineFed hasLine lineOf behindLine hasRoom leftBehind lineAnswered lineReading wordsReading contentLength words wordsAfter ended isBlank lineExpected wordsExpected expectedOf contentAnswered lineBegun opened begun lineCounted headed added leftOf isFault comesWrong faultLog named isItem lineDone lineLeft callLine timedLine beside questionLine analysisLine lineEnded closed judgedLog announced refusalCounted
+  unfolding fed lineFed hasLine lineOf behindLine hasRoom leftBehind lineAnswered lineReading wordsReading contentLength words wordsAfter ended isBlank lineExpected wordsExpected expectedOf contentAnswered lineBegun opened begun lineCounted headed added leftOf isFault comesWrong faultLog named isItem lineDone lineLeft callLine timedLine beside questionLine analysisLine lineEnded keptBriefly closed judgedLog announced refusalCounted
   two-lines = refl
 
   -- `x`, the fifth line, where one byte stands in the answers: it is told as a bad one behind it, and counted.
   unknown-word : lineAnswered (ascii "x") [] (kept (counts 1 4 0 0 0) (ascii "_.........................."))
       ≡ kept (22 ∷ 0 ∷ 5 ∷ 0 ∷ 0 ∷ 0 ∷ 1 ∷ 0 ∷ 0 ∷ 0 ∷ 0 ∷ 0 ∷ 1 ∷ 0 ∷ 0 ∷ 0 ∷ 0 ∷ 0 ∷ 0 ∷ 0 ∷ 1 ∷ 0 ∷ []) (ascii "_line 5: unknown word\n.....")
-  unfolding ascii lineAnswered lineReading wordsReading contentLength words wordsAfter ended isBlank keywordOf sameBytes keywordReading laterReading takesMark beforeMark behindMark isMark lineExpected wordsExpected expectedOf contentAnswered lineBegun opened begun lineCounted headed added leftOf isFault comesWrong faultLog faultTold said fault why decimal decimalWidth widthFrom digits glyph putEach written nextPlace overwrite named isItem lineDone lineLeft callLine timedLine beside questionLine analysisLine lineEnded closed judgedLog announced refusalCounted
+  unfolding ascii lineAnswered lineReading wordsReading contentLength words wordsAfter ended isBlank keywordOf sameBytes keywordReading laterReading takesMark beforeMark behindMark isMark lineExpected wordsExpected expectedOf contentAnswered lineBegun opened begun lineCounted headed added leftOf isFault comesWrong faultLog faultTold said fault why decimal decimalWidth widthFrom digits glyph putEach written nextPlace overwrite named isItem lineDone lineLeft callLine timedLine beside questionLine analysisLine lineEnded keptBriefly closed judgedLog announced refusalCounted
   unknown-word = refl
-
-  -- How many bytes are left.
-  held : withLeft 3 (kept (counts 0 0 0 0 0) []) ≡ kept (0 ∷ 3 ∷ 0 ∷ 0 ∷ 0 ∷ 0 ∷ 0 ∷ 0 ∷ 0 ∷ 0 ∷ 0 ∷ 0 ∷ 0 ∷ 0 ∷ 0 ∷ 0 ∷ 0 ∷ 0 ∷ 0 ∷ 0 ∷ 0 ∷ 0 ∷ []) []
-  unfolding withLeft
-  held = refl

@@ -1,11 +1,13 @@
 -- The lines of what was read, one after the other. Assumes nothing.
 use Prim.Native.Nat.{ℕ, zero, suc, _+_, _-_, _≤_, _<_}
 use mathlib.Core.Bool.{Bool, true, false, cond, true≢false, false≢true}
-use mathlib.Core.List.{List}
-use mathlib.Core.Path.{_≡_, refl, sym, ap, _∙_}
+use mathlib.Core.List.{List, [], _∷_}
+use mathlib.Core.Path.{_≡_, refl, sym, ap, subst, _∙_}
+use native.Mathlib.Decide.{decLe}
 use native.Mathlib.Omega.{arith}
 use lib.Dec.{eqb, leb}
-use lib.ListN.{length, getD, take, drop, length-drop}
+use lib.ListN.{length, getD, take, drop, length-drop, drop-of-length-le}
+use lib.Seq.{length-take-le, drop-drop}
 use Rattle.line.specs.Line.{lineReading}
 use Rattle.line_buffer.specs.Lines.{hasLine, lineOf, behindLine, lineEnd}
 use Rattle.line_buffer.proofs.LineLaws.{line-not-there, behind-shorter, line-there, line-nowhere, line-part, line-behind-part}
@@ -159,3 +161,92 @@ module _ (part : List ℕ) (i end : ℕ) (low : i ≤ length part) (less : end <
       go true true a b = omega arith
       go true false a b = omega arith
       go false u a b = omega arith
+
+-- ---- what is left, in the buffer
+
+-- A list ends with another: the last places of it are the other.
+record EndsWith (bytes end : List ℕ) : Type 0 where
+  short : length end ≤ length bytes
+  last : drop (length bytes - length end) bytes ≡ end
+
+ends-all : (bytes : List ℕ) → EndsWith bytes bytes
+ends-all bytes =
+    let none : length bytes - length bytes ≡ 0 = omega arith in record { short = omega arith; last = rw none }
+
+ends-later : (c : ℕ) (cs end : List ℕ) → EndsWith cs end → EndsWith (c ∷ cs) end
+ends-later c cs end e =
+    let less = e .short in
+    let one : length (c ∷ cs) - length end ≡ suc (length cs - length end) = omega arith in
+    record { short = omega arith; last = rw one (e .last) }
+
+ends-through : (a b c : List ℕ) → EndsWith a b → EndsWith b c → EndsWith a c
+ends-through a b c p q =
+    let far = p .short in
+    let near = q .short in
+    let place : length a - length c ≡ (length a - length b) + (length b - length c) = omega arith in
+    record {
+      short = omega arith;
+      last = rw place
+          (sym (drop-drop (length b - length c) (length a - length b) a) ∙ ap (drop (length b - length c)) (p .last) ∙ q .last);
+    }
+
+ends-behind : (bytes : List ℕ) → EndsWith bytes (behindLine bytes)
+unfolding behindLine
+ends-behind [] = ends-all []
+ends-behind (c ∷ cs) = go (eqb c 10) (ends-behind cs)
+  where
+    go : (t : Bool) → EndsWith cs (behindLine cs) → EndsWith (c ∷ cs) (cond t cs (behindLine cs))
+    go true e = ends-later c cs cs (ends-all cs)
+    go false e = ends-later c cs (behindLine cs) e
+
+line-ends : (f : Fed) → EndsWith (f .left) (lineFed f .left)
+unfolding lineFed leftBehind
+line-ends f = go (eqb (getD (lineFed f .replay .state .log .counts) 21 0) 0)
+  where
+    go : (t : Bool) → EndsWith (f .left) (cond t (behindLine (f .left)) (f .left))
+    go true = ends-behind (f .left)
+    go false = ends-all (f .left)
+
+fed-ends : (turns : ℕ) (f : Fed) → EndsWith (f .left) (fed turns f .left)
+unfolding fed
+fed-ends zero f = ends-all (f .left)
+fed-ends (suc turns) f =
+    go (hasLine (f .left)) (hasRoom (lineFed f .replay .state .log .counts))
+    (ends-through (f .left) (lineFed f .left) (fed turns (lineFed f) .left) (line-ends f) (fed-ends turns (lineFed f)))
+  where
+    go : (t u : Bool) → EndsWith (f .left) (fed turns (lineFed f) .left)
+        → EndsWith (f .left) (cond t (cond u (fed turns (lineFed f)) (lineFed f)) f .left)
+    go true true e = e
+    go true false e = line-ends f
+    go false u e = ends-all (f .left)
+
+-- Bytes from one place of a buffer to before another: no more than those before the second are left of them, and what is left stands
+-- last before it. So `go_on` goes by what `feed` left.
+module _ (part : List ℕ) (from end : ℕ) (room : end ≤ length part) (turns : ℕ) (f : Fed) (bytes : f .left ≡ drop from (take end part)) where
+  taken : length (take end part) ≡ end
+  taken = length-take-le end part room
+
+  from-ends : EndsWith (take end part) (drop from (take end part))
+  from-ends = go (decLe from end)
+    where
+      long : length (drop from (take end part)) ≡ end - from
+      long = length-drop from (take end part) ∙ ap (λ (n : ℕ). n - from) taken
+
+      go : Dec (from ≤ end) → EndsWith (take end part) (drop from (take end part))
+      go (yes p) =
+          let place : length (take end part) - length (drop from (take end part)) ≡ from = omega (arith, long, taken) in
+          record { short = omega (arith, long, taken); last = rw place }
+      go (no p) =
+          let over : length (take end part) ≤ from = omega (arith, taken) in
+          let none : drop from (take end part) ≡ [] = drop-of-length-le (take end part) over in
+          rw none record { short = omega arith; last = drop-of-length-le (take end part) {i = length (take end part) - 0} (omega arith) }
+
+  left-ends : EndsWith (take end part) (fed turns f .left)
+  left-ends =
+      ends-through (take end part) (drop from (take end part)) (fed turns f .left) from-ends (subst (λ (l : List ℕ). EndsWith l (fed turns f .left)) bytes (fed-ends turns f))
+
+  pub left-short : {left : ℕ} → left ≡ length (fed turns f .left) → left ≤ end
+  left-short so = let less = left-ends .short in omega (arith, taken)
+
+  pub left-last : drop (end - length (fed turns f .left)) (take end part) ≡ fed turns f .left
+  left-last = rw taken at (left-ends .last)

@@ -3,11 +3,10 @@ use Prim.Native.Nat.{ℕ, zero, suc}
 use mathlib.Core.Bool.{Bool, false, cond}
 use mathlib.Core.List.{List}
 use lib.Dec.{eqb, leb}
-use lib.ListN.{length, getD, set}
+use lib.ListN.{getD}
 use Rattle.line.specs.Line.{lineReading}
 use Rattle.line_buffer.specs.Lines.{hasLine, lineOf, behindLine}
-use Rattle.item_state.specs.Log.{Log}
-use Rattle.session.specs.Line.{Replay, lineAnswered, withLog}
+use Rattle.session.specs.Line.{Replay, lineAnswered}
 
 -- What is kept, the numbers of the last line, and the bytes that are still to be answered.
 pub record Fed : Type 0 where
@@ -38,9 +37,3 @@ unfoldable pub fed : ℕ → Fed → Fed
 fed zero f = f
 fed (suc turns) f =
     cond (hasLine (f .left)) (cond (hasRoom (lineFed f .replay .state .log .counts)) (fed turns (lineFed f)) (lineFed f)) f
-
--- count 1 has how many bytes are left
-unfoldable pub withLeft : ℕ → Replay → Replay
-withLeft n r =
-    let l : Log = record { counts = set (r .state .log .counts) 1 n; answers = r .state .log .answers } in
-    record { state = withLog (r .state) l; names = r .names }

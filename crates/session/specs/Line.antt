@@ -12,7 +12,7 @@ use Rattle.item_state.specs.Log.{Log}
 use Rattle.item_calls.specs.Lines.{WithFlash, callLine}
 use Rattle.answer_text.specs.Line.{lineLeft}
 use Rattle.item_checks.specs.Open.{Opened, opened}
-use Rattle.item_checks.specs.Close.{expectedOf, closed}
+use Rattle.item_checks.specs.Close.{expectedOf, keptBriefly, closed}
 
 -- What a replay keeps from line to line: the model, the user flash, the record, the probe table, and the counts with the answers.
 pub record State : Type 0 where
@@ -42,9 +42,10 @@ unfoldable pub lineBegun : Content → List ℕ → List ℕ → Log → Opened
 lineBegun content text names l =
     cond (eqb (getD (l .counts) 21 0) 0) (opened content text names l) record { content = content; names = names; log = l }
 
--- and it is ended once, behind the last part.
+-- and it is ended once, behind the last part. Behind each part a check keeps no more of the answer than it shows.
 unfoldable pub lineEnded : List (List ℕ) → List ℕ → Log → Log
-lineEnded expected names l = cond (eqb (getD (l .counts) 21 0) 0) (closed expected names l) l
+lineEnded expected names l =
+    let k = keptBriefly l in cond (eqb (getD (k .counts) 21 0) 0) (closed expected names k) k
 
 -- What is kept from line to line with the names of the file and the item.
 pub record Replay : Type 0 where

@@ -5,8 +5,11 @@
 // record, the probe table, the names of the file and the item, and the answers that are not written
 // yet. Answers are written when what was read is answered, or when the buffer may not hold another
 // one. A function that branches takes few of the buffers, since each of them makes its proof longer.
+mod ends;
 mod feed;
+mod flush;
+mod input;
 mod lines;
 
-pub use feed::Outcome;
+pub use ends::Outcome;
 pub use feed::replay;

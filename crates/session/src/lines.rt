@@ -5,6 +5,7 @@ ghost use Rattle.session.specs.Line.{lineDone, lineBegun, lineEnded, con
 ghost use Rattle.item_checks.specs.Close.{expectedFrom};
 use device::Model;
 use item_checks::close::close;
+use item_checks::close::shorten;
 use item_checks::open::open;
 use item_state::counts::LEFT;
 use line::Content;
@@ -77,10 +78,11 @@ fn begin(
     open(content, text, counts, names, answers)
 }
 
-// Behind it, once the line is no longer under way.
+// Behind it: a check keeps it short, and it is closed once the line is no longer under way.
 fn end(text: &[u8], expected: usize, counts: &mut [usize; 22], names: &[u8], answers: &mut [u8])
     ensures { λ _. ⌜ record { counts = now (counts .exit); answers = now (answers .exit) } ≡ lineEnded (expectedFrom (now (text .entry)) expected) (now (names .entry)) record { counts = now (counts .entry); answers = now (answers .entry) } ⌝ }
 {
+    shorten(counts, answers);
     if counts[LEFT] != 0 {
         return;
     }

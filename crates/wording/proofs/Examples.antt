@@ -14,7 +14,7 @@ use Rattle.wording.specs.Text.{ascii}
 use Rattle.wording.specs.Wording.{refusalWords, refusalWord, refusal, started, busAnswer, outputBuffer, bus, set}
 use Rattle.wording.specs.Wording.{deliveryAnswer, delivery, reportedWhere, kindReports, quiet, ticked, single}
 use Rattle.wording.specs.Wording.{reportAt, tickReports, sooner, nextNamed, laterNamed, named, stretched, head, pair}
-use Rattle.wording.specs.Wording.{numbered, stretch, listingHead, place, expected as expectedTexts, itemName}
+use Rattle.wording.specs.Wording.{numbered, stretch, listingHead, place, expected as expectedTexts, leftOut, itemName}
 use Rattle.wording.specs.Wording.{counted, probe, degrees, refused, difference, quietest, why, fault, calls, faults}
 
 -- of one tick: failed, started
@@ -160,6 +160,11 @@ around : (joined (place (ascii "a.item") 12) ≡ ascii "a.item:12: ") × (joined
     × (joined (itemName (ascii "item one")) ≡ ascii " (item one)\n")
 unfolding joined place expectedTexts itemName counted decimal decimalWidth widthFrom digits glyph ascii
 around = (refl, refl, refl)
+
+-- ` ..`
+rest : joined leftOut ≡ 32 ∷ 46 ∷ 46 ∷ []
+unfolding joined leftOut ascii
+rest = refl
 
 -- The first words of `tick`, `at`, `stretch` and `listing`.
 heads : (joined (numbered (ascii "tick ") 70000) ≡ ascii "tick 70000") × (joined (stretch (Refused 12) 0) ≡ ascii "stretch no 12 span\n")

@@ -209,7 +209,7 @@ refused word number = word ∷ (refusal number ++ (lineFeed ∷ []))
 unfoldable pub difference : ℕ → Texts
 difference word = ascii " " ∷ signedDecimal word ∷ []
 
--- "`listing N`, then the lines": its first line
+-- "`listing K`, then the K lines": its first line
 unfoldable pub listingHead : ℕ → Texts
 listingHead n = ascii "listing " ∷ counted n lineFeed
 
@@ -261,7 +261,11 @@ place file number = file ∷ ascii ":" ∷ counted number (ascii ": ")
 unfoldable pub expected : List ℕ → Texts
 expected words = ascii " expected " ∷ words ∷ []
 
--- "` (NAME)`", the item's, at the end of a line that needs a look
+-- "` ..`", for the rest of an answer that is not shown
+unfoldable pub leftOut : Texts
+leftOut = ascii " .." ∷ []
+
+-- the item's name in parentheses, at the end of a line that needs a look
 unfoldable pub itemName : List ℕ → Texts
 itemName name = ascii " (" ∷ name ∷ ascii ")\n" ∷ []
 

@@ -1,7 +1,7 @@
 // The words with which answers begin, and answers that are few words.
 ghost use mathlib.Core.List.{[], _∷_};
 ghost use Rattle.wording.specs.Text.{ascii, PutEach};
-ghost use Rattle.wording.specs.Wording.{lineFeed, numbered, stretch, delivery, refused, listingHead, place, expected, itemName};
+ghost use Rattle.wording.specs.Wording.{lineFeed, numbered, stretch, delivery, refused, listingHead, place, expected, leftOut, itemName};
 use crate::delivery::put_delivery;
 use crate::end::put_count;
 use crate::kept::put_refused;
@@ -103,6 +103,13 @@ pub fn put_expected(out: &mut [u8], at: usize, words: &[u8]) -> usize
 {
     let a = numeral::put_text(out, at, b" expected ");
     numeral::put_text(out, a, words)
+}
+
+// ` ..`, for the rest of an answer
+pub fn put_left_out(out: &mut [u8], at: usize) -> usize
+    ensures { λ r. ⌜ PutEach (now (out .entry)) at leftOut r (now (out .exit)) ⌝ }
+{
+    numeral::put_text(out, at, b" ..")
 }
 
 // ` (NAME)`, the item's, at a line's end

@@ -1,9 +1,15 @@
--- `session::feed::replay` is safe and ends.
+-- `session::feed::replay` meets its contract.
 -- Assumes nothing.
 use borrow.Author.Needs.{needs}
-use mathlib.Core.Path.{_≡_, _∙_}
+use Prim.Native.Nat.{_-_, _≤_}
+use mathlib.Core.Logic.{⊎-elim, inl, inr}
+use mathlib.Core.Path.{_≡_, sym, ap, _∙_}
 use native.Mathlib.Omega.{arith}
-use lib.ListN.{length}
+use lib.ListN.{length, drop}
+use Rattle.session.specs.Input.{toAnswer}
+use Rattle.session.specs.Turns.{ReachedBy}
+use Rattle.session.proofs.FeedLaws.{left-short}
+use Rattle.session.proofs.LoopLaws.{loop-begun, loop-turned, loop-over}
 use Rattle.session.proofs.feed.replay.Statement.{statement}
 use Rattle.session.proofs.feed.replay.Tie as tie
 
@@ -16,6 +22,10 @@ Inv-loop fd path check numbers₀ counts₀ mem₀ kept₀ probes₀ names₀ an
     × (length names ≡ 5120)
     × (length answers ≡ 163840)
     × (length part ≡ 65536)
+    × (input .end ≤ length part)
+    × (turns ≤ 18446744073709551615)
+    × ReachedBy path check (18446744073709551615 - turns) (input .state)
+    record { replay = record { state = record { model = m; flash = mem; differences = kept; probes = probes; log = record { counts = counts; answers = answers } }; names = names }; numbers = numbers; left = toAnswer (input .from) (input .end) part }
 
 abbrev μ-loop : tie.MeasureT-loop
 μ-loop fd path check numbers₀ counts₀ mem₀ kept₀ probes₀ names₀ answers₀ part₀ m₀ input₀ turns₀ numbers counts mem kept probes names answers part m input turns = turns
@@ -33,7 +43,7 @@ begin-requires : tie.Need-begin-requires Inv-loop μ-loop
 begin-requires c κs = search needs
 
 loop-holds : tie.Need-loop-holds Inv-loop μ-loop
-loop-holds c = search needs
+loop-holds c = (search needs, search needs, search needs, search needs, search needs, search needs, search needs, search needs, omega arith, loop-begun _ _ (c .before .before .before .before .fresh .ensures) (c .before .begin .ensures .0) (c .before .begin .ensures .1))
 
 is-going-requires : tie.Need-is-going-requires Inv-loop μ-loop
 is-going-requires c κs = search needs
@@ -81,13 +91,16 @@ slice-aggregate-go-on : tie.Need-slice-aggregate-go-on Inv-loop μ-loop
 slice-aggregate-go-on c = search (needs, c .before .before .before .before .before .before .before .before .before .before .before .before .before .before .before .before .before .before .before .before .before .before .before .before .before .loop .inv .6)
 
 go-on-requires : tie.Need-go-on-requires Inv-loop μ-loop
-go-on-requires c κs = search needs
+go-on-requires c κs = let inv = c .before .before .before .before .before .before .before .before .before .before .before .before .before .before .before .before .before .before .before .before .before .before .before .before .before .loop .inv in (omega (arith, inv .6), inv .7, left-short (c .before .before .before .before .before .before .before .before .before .before .before .before .before .before .before .before .before .before .before .before .before .before .before .before .before .loop .part) (c .before .before .before .before .before .before .before .before .before .before .before .before .before .before .before .before .before .before .before .before .before .before .before .before .before .loop .input .from) (c .before .before .before .before .before .before .before .before .before .before .before .before .before .before .before .before .before .before .before .before .before .before .before .before .before .loop .input .end) (inv .7) _ _ (c .before .before .before .before .before .before .before .before .before .before .before .before .before .before .before .before .before .before .before .bytes-from .ensures ∙ ap (drop (c .before .before .before .before .before .before .before .before .before .before .before .before .before .before .before .before .before .before .before .before .before .before .before .before .before .loop .input .from)) (c .before .before .before .before .before .before .before .before .before .before .before .before .before .before .before .before .before .before .before .before .first-bytes .ensures)) (c .before .before .before .before .before .before .before .before .before .before .before .feed .ensures .2))
 
 loop-less : tie.Need-loop-less Inv-loop μ-loop
-loop-less c = omega (arith, c .before .before .before .before .before .before .before .before .before .before .before .before .before .before .before .before .before .before .before .before .before .before .before .before .before .before .before .loop-test .taken)
+loop-less c = omega (arith, c .before .before .before .before .before .before .before .before .before .before .before .before .before .before .before .before .before .before .before .before .before .before .before .before .before .before .loop-test .taken)
 
 loop-again : tie.Need-loop-again Inv-loop μ-loop
-loop-again c = let fed = c .before .before .before .before .before .before .before .before .before .before .before .before .before .before .feed .kept in let inv = c .before .before .before .before .before .before .before .before .before .before .before .before .before .before .before .before .before .before .before .before .before .before .before .before .before .before .before .before .loop .inv in (fed .1 .1 .0 ∙ inv .0, fed .1 .1 .1 .1 .0 ∙ inv .1, fed .1 .1 .1 .1 .1 .0 ∙ inv .2, fed .1 .1 .1 .1 .1 .1 .0 ∙ inv .3, fed .1 .1 .1 .1 .1 .1 .1 .0 ∙ inv .4, c .before .before .before .before .before .flush .kept .0 ∙ fed .1 .1 .1 .1 .1 .1 .1 .1 .0 ∙ inv .5, c .before .go-on .kept .1 .1 .0 ∙ inv .6)
+loop-again c = let fed = c .before .before .before .before .before .before .before .before .before .before .before .before .before .feed .kept in let inv = c .before .before .before .before .before .before .before .before .before .before .before .before .before .before .before .before .before .before .before .before .before .before .before .before .before .before .before .loop .inv in (fed .1 .1 .0 ∙ inv .0, fed .1 .1 .1 .1 .0 ∙ inv .1, fed .1 .1 .1 .1 .1 .0 ∙ inv .2, fed .1 .1 .1 .1 .1 .1 .0 ∙ inv .3, fed .1 .1 .1 .1 .1 .1 .1 .0 ∙ inv .4, fed .1 .1 .1 .1 .1 .1 .1 .1 .0 ∙ inv .5, c .before .go-on .kept .1 .1 .0 ∙ inv .6, c .before .go-on .ensures .1, omega (arith, inv .8), loop-turned (c .before .before .before .before .before .before .before .before .before .before .before .before .before .before .before .before .before .before .before .before .before .before .before .before .before .before .before .loop .part) (c .before .before .before .before .before .before .before .before .before .before .before .before .before .before .before .before .before .before .before .before .before .before .before .before .before .before .before .loop .input .from) (c .before .before .before .before .before .before .before .before .before .before .before .before .before .before .before .before .before .before .before .before .before .before .before .before .before .before .before .loop .input .end) (inv .7) _ _ _ (c .before .before .before .before .before .before .before .before .before .before .before .before .before .before .before .before .before .before .before .before .before .bytes-from .ensures ∙ ap (drop (c .before .before .before .before .before .before .before .before .before .before .before .before .before .before .before .before .before .before .before .before .before .before .before .before .before .before .before .loop .input .from)) (c .before .before .before .before .before .before .before .before .before .before .before .before .before .before .before .before .before .before .before .before .before .before .first-bytes .ensures)) _ _ (c .before .before .before .before .before .before .before .before .before .before .before .before .before .before .before .before .before .before .before .before .before .before .before .before .before .before .before .loop .turns) (c .before .before .before .before .before .before .before .before .before .before .before .before .before .before .before .before .before .before .before .before .before .before .before .before .before .before .loop-test .taken) (inv .8) (inv .9) (sym (c .before .before .before .before .before .before .before .before .before .before .before .before .before .before .before .before .before .before .before .before .before .before .before .before .before .is-going .ensures) ∙ c .before .before .before .before .before .before .before .before .before .before .before .before .before .before .before .before .before .before .before .before .before .before .before .before .if1 .taken) (c .before .before .before .before .before .before .before .before .before .before .before .before .before .feed .ensures .0) (c .before .before .before .before .before .before .before .before .before .before .before .before .before .feed .ensures .1) (c .before .before .before .before .before .before .before .before .before .before .before .before .before .feed .ensures .2) (c .before .before .before .flush .ensures) (c .before .go-on .ensures .0))
+
+is-whole-requires : tie.Need-is-whole-requires Inv-loop μ-loop
+is-whole-requires c κs = search needs
 
 slice-aggregate-end : tie.Need-slice-aggregate-end Inv-loop μ-loop
 slice-aggregate-end c = search needs
@@ -96,7 +109,7 @@ end-requires : tie.Need-end-requires Inv-loop μ-loop
 end-requires c κs = search needs
 
 returns : tie.Need-returns Inv-loop μ-loop
-returns c = search needs
+returns c = loop-over _ _ (c .before .before .before .before .before .before .loop .turns) (c .before .before .before .before .before .before .loop .input .state) _ (c .before .before .before .before .before .before .loop .inv .9) (⊎-elim (λ stopped. inl (sym (stopped .1 .ensures) ∙ stopped .2 .left)) (λ none. inr (none .left)) (c .before .before .before .before .before .loop-test .came)) (c .before .before .before .before .is-whole .ensures) (c .before .end .ensures)
 
 pub replay-spec : {M : Type 1} → statement M
 replay-spec =
@@ -127,6 +140,7 @@ replay-spec =
     go-on-requires
     loop-less
     loop-again
+    is-whole-requires
     slice-aggregate-end
     end-requires
     returns)

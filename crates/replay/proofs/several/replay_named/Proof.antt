@@ -1,0 +1,25 @@
+-- `replay::several::replay_named` meets its contract.
+-- Assumes nothing.
+use borrow.Author.Needs.{needs}
+use Rattle.replay.proofs.several.replay_named.Statement.{statement}
+use Rattle.replay.proofs.several.replay_named.Tie as tie
+
+not-read-requires : tie.Need-not-read-requires
+not-read-requires c κs = search needs
+
+returns : tie.Need-returns
+returns c = search needs
+
+first-bytes-requires : tie.Need-first-bytes-requires
+first-bytes-requires c κs = search needs
+
+replay-file-requires : tie.Need-replay-file-requires
+replay-file-requires c κs = search needs
+
+returns-2 : tie.Need-returns-2
+returns-2 c = λ broken. absurd (c .before .before .if1 .left broken)
+
+pub replay-named-spec : {M : Type 1} → statement M
+replay-named-spec =
+    tie.close
+    (tie.spec not-read-requires returns first-bytes-requires replay-file-requires returns-2)

@@ -42,8 +42,8 @@ const SET_UP: [&[u8]; 3] = [&[0x38, 0x10, 0x10], &[0x40, 0x00, 0x60], &[0x05]];
 
 /// Calls between two looks at the clock.
 const TIMES: u32 = 64;
-/// The same of a list: captures have thousands.
-const LISTED: u32 = 4096;
+/// The same of a list: captures have thousands, and the calls and answers of so many lie near the processor.
+const LISTED: u32 = 1024;
 
 fn ready() -> (Model, Second) {
     let (mut model, mut second) = (Model::fresh(), Second::fresh());

@@ -9,14 +9,14 @@ use Rattle.numeral.specs.Place.{joined}
 use Rattle.device.specs.declared.Model.{Model}
 use Rattle.wording.specs.Wording.{Texts}
 use Rattle.item_state.specs.Told.{readWord}
-use Rattle.show.specs.Row.{lines}
-use Rattle.show.specs.Clock.{clockRows}
-use Rattle.show.specs.Setup.{setupRows, moreSetupRows}
-use Rattle.show.specs.Results.{upRows, downRows, differenceRows, portRows, takesTwo, statusRows, lastRows}
-use Rattle.show.specs.Run.{runRows}
-use Rattle.show.specs.Commands.{commandRows}
-use Rattle.show.specs.Page.{page, pageTexts}
-use Rattle.show.proofs.Width.{page-narrow}
+use Rattle.page.specs.Row.{lines}
+use Rattle.page.specs.Clock.{clockRows}
+use Rattle.page.specs.Setup.{setupRows, moreSetupRows}
+use Rattle.page.specs.Results.{upRows, downRows, differenceRows, portRows, takesTwo, statusRows, lastRows}
+use Rattle.page.specs.Run.{runRows}
+use Rattle.page.specs.Commands.{commandRows}
+use Rattle.page.specs.Page.{page, pageTexts}
+use Rattle.page.proofs.Width.{page-narrow}
 use Rattle.answer_length.proofs.Sizes.{size, size-joined, size-append}
 
 -- rows of at most 80 characters, each with its line feed

@@ -22,7 +22,7 @@ use Rattle.difference.specs.Difference.{signedOf}
 use Rattle.difference.specs.Spread.{spreadOf}
 use Rattle.listing.specs.Listing.{captureDigits, lines, lastAbove}
 use Rattle.setup_frames.specs.Frames.{frames}
-use Rattle.show.specs.Page.{pageTexts}
+use Rattle.page.specs.Page.{pageTexts}
 use Rattle.line.specs.declared.Content.{Content}
 use Rattle.wording.specs.Text.{ascii}
 use Rattle.wording.specs.Wording.{Texts, lineFeed, bus, set as setTexts, delivery, numbered, single, stretch, counted, probe, degrees, refused, listingHead, quietest}

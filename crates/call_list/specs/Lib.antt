@@ -1,2 +1,1 @@
 pub mod CallList
-pub mod Room

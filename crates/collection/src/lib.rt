@@ -3,15 +3,8 @@
 // Five groups of files need a look. A group counts its files, and keeps their names in a buffer that
 // the caller lends, as the summary has them: in lines of their own. Where the buffer has no room for a
 // name, the file is counted and not named.
-mod count;
-mod kind;
-mod member;
-mod summary;
-
-pub use count::add;
-pub use count::empty;
-pub use summary::put_heading;
-pub use summary::put_summary;
+//
+// The definitions and their laws stand in specs/ and proofs/; `tally` has the code.
 
 // How a replay ended: whether all of the file was read, and what its last line counts.
 pub struct Outcome {

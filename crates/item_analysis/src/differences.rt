@@ -44,9 +44,9 @@ fn add_words(words: &[u32], kept: &mut [i32], counts: &mut [usize; 22], answers:
     ensures { λ _. ⌜ record { differences = now (kept .exit); log = record { counts = now (counts .exit); answers = now (answers .exit) } } ≡ recordLine (now (words .entry)) record { differences = now (kept .entry); log = record { counts = now (counts .entry); answers = now (answers .entry) } } ⌝ }
 {
     counts[RECORD] = store(words, kept, counts[RECORD]);
-    let start = wording::heads::put_record(answers, counts[USED]);
+    let start = phrase::heads::put_record(answers, counts[USED]);
     let end = put_each(answers, start, words);
-    counts[USED] = wording::heads::put_end(answers, end);
+    counts[USED] = phrase::heads::put_end(answers, end);
 }
 
 fn put_each(answers: &mut [u8], at: usize, words: &[u32]) -> usize
@@ -55,7 +55,7 @@ fn put_each(answers: &mut [u8], at: usize, words: &[u32]) -> usize
     let mut place = at;
     let mut i = 0;
     while i < words.len() {
-        place = wording::kept::put_difference(answers, place, words[i]);
+        place = phrase::kept::put_difference(answers, place, words[i]);
         i += 1;
     }
     place

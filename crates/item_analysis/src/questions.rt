@@ -23,7 +23,7 @@ pub fn listing(old: bool, first: u32, kept: &[i32], counts: &mut [usize; 22], an
     ensures { λ _. ⌜ record { counts = now (counts .exit); answers = now (answers .exit) } ≡ listingLine old first (now (kept .entry)) record { counts = now (counts .entry); answers = now (answers .entry) } ⌝ }
 {
     let n = counts[RECORD];
-    let at = wording::heads::put_listing(answers, counts[USED], n as u64);
+    let at = phrase::heads::put_listing(answers, counts[USED], n as u64);
     let listed = lines(old, first, first_of(kept, n), answers, at);
     tell_listed(listed, at, counts, answers);
 }
@@ -34,7 +34,7 @@ fn tell_listed(listed: Listed, at: usize, counts: &mut [usize; 22], answers: &mu
     match listed {
         Listed::Written(n) => count(counts, 0, more(at, n)),
         Listed::Refused(number) => {
-            let used = wording::heads::put_listing_refused(answers, counts[USED], number);
+            let used = phrase::heads::put_listing_refused(answers, counts[USED], number);
             count(counts, 1, used);
         }
     }
@@ -78,11 +78,11 @@ fn tell_quietest(
         Place::At(start) => {
             let mut number = 0u32;
             let spread = difference::spread(quietest::quietest(values, width, &mut number));
-            let used = wording::kept::put_quietest(answers, counts[USED], start as u64, spread);
+            let used = phrase::kept::put_quietest(answers, counts[USED], start as u64, spread);
             count(counts, 0, used);
         }
         Place::Refused(number) => {
-            let used = wording::heads::put_quietest_refused(answers, counts[USED], number);
+            let used = phrase::heads::put_quietest_refused(answers, counts[USED], number);
             count(counts, 1, used);
         }
     }

@@ -23,7 +23,7 @@ pub fn probe(
 {
     let end = add(first_words(numbers, n), probes, counts[PROBES]);
     counts[PROBES] = end;
-    counts[USED] = wording::kept::put_probe(answers, counts[USED], end as u64);
+    counts[USED] = phrase::kept::put_probe(answers, counts[USED], end as u64);
 }
 
 // Adds entries behind the first n, as far as there is room, and answers how many there are then.
@@ -77,11 +77,11 @@ fn put_reading(reading: InDegrees, counts: &mut [usize; 22], answers: &mut [u8])
 {
     match reading {
         InDegrees::Thousandths(n) => {
-            let used = wording::kept::put_degrees(answers, counts[USED], n);
+            let used = phrase::kept::put_degrees(answers, counts[USED], n);
             count(counts, 0, used);
         }
         InDegrees::Refused(number) => {
-            let used = wording::heads::put_degrees_refused(answers, counts[USED], number);
+            let used = phrase::heads::put_degrees_refused(answers, counts[USED], number);
             count(counts, 1, used);
         }
     }

@@ -23,7 +23,7 @@ pub fn flight(
     let downs = first_words(words_from(numbers, up), down);
     let reply = converter::flight_delivery(m, ups, downs);
     let answer = reply.answer;
-    let used = wording::heads::put_flight(answers, counts[USED], answer);
+    let used = phrase::heads::put_flight(answers, counts[USED], answer);
     count_call(counts, answer, used);
     reply.model
 }
@@ -39,7 +39,7 @@ pub fn temperature(
 {
     let reply = converter::temperature_delivery(m, first_words(numbers, n));
     let answer = reply.answer;
-    let used = wording::heads::put_temperature(answers, counts[USED], answer);
+    let used = phrase::heads::put_temperature(answers, counts[USED], answer);
     count_call(counts, answer, used);
     reply.model
 }

@@ -34,7 +34,7 @@ fn begin_ticks(n: u32, counts: &mut [usize; 22], answers: &mut [u8])
         return;
     }
     counts[MOMENT] = more(counts[MOMENT], n as usize);
-    let start = wording::heads::put_tick(answers, counts[USED], n);
+    let start = phrase::heads::put_tick(answers, counts[USED], n);
     count(counts, 0, start);
     counts[LEFT] = n as usize;
 }
@@ -45,7 +45,7 @@ fn single(m: Model, counts: &mut [usize; 22], answers: &mut [u8]) -> Model
     let reply = converter::tick(m);
     let answer = reply.answer;
     counts[MOMENT] = more(counts[MOMENT], 1);
-    let used = wording::ticks::put_single(answers, counts[USED], answer);
+    let used = phrase::ticks::put_single(answers, counts[USED], answer);
     count_call(counts, answer, used);
     reply.model
 }
@@ -66,7 +66,7 @@ fn begin_at(t: u32, counts: &mut [usize; 22], answers: &mut [u8])
     }
     let left = left_to(counts[MOMENT], t);
     counts[MOMENT] = t as usize;
-    let start = wording::heads::put_at(answers, counts[USED], t);
+    let start = phrase::heads::put_at(answers, counts[USED], t);
     count(counts, 0, start);
     counts[LEFT] = left;
 }
@@ -119,7 +119,7 @@ fn end_part(left: u32, counts: &mut [usize; 22], answers: &mut [u8])
     if left > 0 {
         return;
     }
-    counts[USED] = wording::heads::put_end(answers, counts[USED]);
+    counts[USED] = phrase::heads::put_end(answers, counts[USED]);
 }
 
 // Adds what a stretch reports, and answers the place behind it.
@@ -128,10 +128,10 @@ fn add_reports(answers: &mut [u8], answer: Answer, before: u32, place: usize) ->
 {
     match answer {
         Answer::Stretched(flight, temperature) => {
-            if wording::ticks::none_named(flight, temperature) {
+            if phrase::ticks::none_named(flight, temperature) {
                 return place;
             }
-            wording::ticks::put_named(answers, place, flight, temperature, before)
+            phrase::ticks::put_named(answers, place, flight, temperature, before)
         }
         _ => place,
     }
@@ -144,7 +144,7 @@ pub fn stretch(m: Model, n: u32, counts: &mut [usize; 22], answers: &mut [u8]) -
     let reply = converter::stretch(m, n);
     let answer = reply.answer;
     move_by(counts, answer, n);
-    let used = wording::heads::put_stretch(answers, counts[USED], answer, n);
+    let used = phrase::heads::put_stretch(answers, counts[USED], answer, n);
     count_call(counts, answer, used);
     reply.model
 }

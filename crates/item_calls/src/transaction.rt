@@ -49,7 +49,7 @@ pub fn bus_out(
     let out = &mut buffer[..size];
     let reply = converter::transaction(m, first_bytes(&frame, n), out, mem);
     let answer = reply.answer;
-    let used = wording::bus::put_bus(answers, counts[USED], answer, out);
+    let used = phrase::bus::put_bus(answers, counts[USED], answer, out);
     count_call(counts, answer, used);
     start_moment(counts, answer);
     reply.model
@@ -91,7 +91,7 @@ pub fn set(
     let mut none = [0u8; 0];
     let reply = converter::transaction(m, first_bytes(&frame, n), &mut none, mem);
     let answer = reply.answer;
-    let used = wording::bus::put_set(answers, counts[USED], answer);
+    let used = phrase::bus::put_set(answers, counts[USED], answer);
     count_call(counts, answer, used);
     start_moment(counts, answer);
     reply.model

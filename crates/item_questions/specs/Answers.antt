@@ -15,7 +15,7 @@ use Rattle.device.specs.Question.{interruptPending, awaitedTold}
 use Rattle.line.specs.declared.Content.{Content}
 use Rattle.wording.specs.Text.{ascii}
 use Rattle.setup_frames.specs.Frames.{frames}
-use Rattle.show.specs.Page.{pageTexts}
+use Rattle.page.specs.Page.{pageTexts}
 use Rattle.wording.specs.Wording.{Texts, lineFeed, head, pair, refused, counted as Wording·counted}
 use Rattle.item_state.specs.Log.{Log, added, said, called}
 use Rattle.item_state.specs.Told.{toldValue, readWord}

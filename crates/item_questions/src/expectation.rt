@@ -48,7 +48,7 @@ fn put_expectation(out: &mut [u8], at: usize, m: Model, a: u32, words: &[u32], n
     requires { ⌜ n ≡ Answers·differing m a (now words) ⌝ }
     ensures { λ r. ⌜ PutEach (now (out .entry)) at (expectation m a (now (words .entry))) r (now (out .exit)) ⌝ }
 {
-    let start = wording::expectation::put_head(out, at, a, n as u64);
+    let start = phrase::expectation::put_head(out, at, a, n as u64);
     let end = put_differing(out, start, m, a, words);
     numeral::put_text(out, end, b"\n")
 }
@@ -60,7 +60,7 @@ fn put_differing(out: &mut [u8], at: usize, m: Model, a: u32, words: &[u32]) -> 
     let mut address = a;
     let mut i = 0;
     while i < words.len() {
-        place = wording::expectation::put_pair(out, place, address, word(m, address), words[i]);
+        place = phrase::expectation::put_pair(out, place, address, word(m, address), words[i]);
         address = std::num::wrapping_add_u32(address, 1);
         i += 1;
     }

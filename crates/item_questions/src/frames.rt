@@ -22,7 +22,7 @@ pub fn frames(m: Model, counts: &mut [usize; 22], answers: &mut [u8])
     match framed {
         Framed::Frames(_, n) => tell(&bytes, first_words(&lengths, n), n, counts, answers),
         Framed::Refused(number) => {
-            let used = wording::kept::put_refused(answers, counts[USED], b"frames", number);
+            let used = phrase::kept::put_refused(answers, counts[USED], b"frames", number);
             count(counts, 1, used);
         }
     }
@@ -33,7 +33,7 @@ fn tell(bytes: &[u8], lengths: &[u32], n: usize, counts: &mut [usize; 22], answe
     ensures { λ _. ⌜ record { counts = now (counts .exit); answers = now (answers .exit) } ≡ framesTold n (cut (now (bytes .entry)) (now (lengths .entry))) record { counts = now (counts .entry); answers = now (answers .entry) } ⌝ }
 {
     let a = numeral::put_text(answers, counts[USED], b"frames ");
-    let b = wording::end::put_count(answers, a, n as u64, b"\n");
+    let b = phrase::end::put_count(answers, a, n as u64, b"\n");
     let used = put_frames(answers, b, bytes, lengths);
     count(counts, 0, used);
 }

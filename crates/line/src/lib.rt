@@ -1,21 +1,5 @@
-// A line of a replay's text, read into a call.
-//
-// No public function has a `requires`. The numbers of a line go into a buffer that the caller
-// lends: those that it has no place for are counted and dropped.
-mod calls;
-mod decimals;
-mod held;
-mod keywords;
-mod later;
-mod mark;
-mod numbers;
-mod text;
-mod words;
-
-pub use calls::read_line;
-pub use held::LONGEST;
-pub use held::hold_byte;
-pub use text::put_words;
+// A line of a replay's text, read into a call: what it holds, as types. The definitions and their laws stand in specs/ and proofs/;
+// `line_reader` has the code.
 
 // What a line holds: nothing, a fault, an item's name or a call. Counts are of the numbers that the
 // line left in the buffer, from its start on.

@@ -1,7 +1,7 @@
 // A list of calls for C, Rust and Python: a part of the static library, and an archive of its own. In it each call of the model is
 // called from one place, so that the compiler puts it into the list's loop, where no model is copied.
 ghost use Rattle.max35101_list.specs.ListRun.{Ran};
-use call_list::run;
+use list_run::run;
 use model::state::is_sound;
 use outcome::keep;
 use snapshot::load;

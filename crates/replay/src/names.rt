@@ -202,7 +202,7 @@ fn take_name(part: &[u8], at: usize, path: &mut [u8], length: usize) -> Taken {
                 whole: true,
             };
         }
-        n = line::hold_byte(path, n, part[i]);
+        n = line_reader::hold_byte(path, n, part[i]);
         i += 1;
     }
     Taken {

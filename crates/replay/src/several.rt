@@ -50,7 +50,7 @@ fn replay_each(
     ensures { λ r. ⌜ Summed o (collection none (now (differ .entry)) (now (unannounced .entry)) (now (bad .entry)) (now (unread .entry)) (now (plain .entry))) (take r (now (out .exit))) ⌝ }
 {
     let tally = gather(o, differ, unannounced, bad, unread, plain);
-    collection::put_summary(out, tally, differ, unannounced, bad, unread, plain)
+    tally::put_summary(out, tally, differ, unannounced, bad, unread, plain)
 }
 
 // Replays file after file, and hands on what each came to.
@@ -69,14 +69,14 @@ fn gather(
 {
     let mut part = io::large_buffer();
     let mut path = io::buffer();
-    let mut tally = collection::empty();
+    let mut tally = tally::empty();
     let mut shown = progress::begin(o.total);
     let mut source = names::first(o, &mut part, &mut path);
     let mut turns = u64::MAX;
     while turns > 0 && names::is_there(source) {
         turns -= 1;
         let outcome = replay_named(source, &path, o.check);
-        tally = collection::add(
+        tally = tally::add(
             tally,
             outcome,
             first_bytes(&path, source.length),

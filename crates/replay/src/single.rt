@@ -62,6 +62,6 @@ fn head(path: &[u8], heading: bool) {
         return;
     }
     let mut out = [0u8; 4112];
-    let end = collection::put_heading(&mut out, 0, path);
+    let end = tally::put_heading(&mut out, 0, path);
     io::write_all(STDOUT_FILENO, item_state::output::first_bytes(&out, end));
 }

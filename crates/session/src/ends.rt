@@ -57,14 +57,14 @@ fn put_last(counts: &mut [usize; 22], answers: &mut [u8])
     if counts[CHECK] != 0 {
         return;
     }
-    let a = wording::end::put_calls(
+    let a = phrase::end::put_calls(
         answers,
         counts[USED],
         counts[CALLS] as u64,
         counts[REFUSED] as u64,
         counts[UNANNOUNCED] as u64,
     );
-    counts[USED] = wording::end::put_faults(
+    counts[USED] = phrase::end::put_faults(
         answers,
         a,
         counts[BAD] as u64,

@@ -3,10 +3,10 @@ ghost use mathlib.Core.Path.{_≡_};
 ghost use Rattle.line.specs.Line.{Bounded, lineReading};
 ghost use Rattle.session.specs.Line.{lineDone, lineBegun, lineEnded, contentAnswered, lineAnswered};
 ghost use Rattle.item_checks.specs.Close.{expectedFrom};
+use checker::close::close;
+use checker::close::shorten;
+use checker::open::open;
 use device::Model;
-use item_checks::close::close;
-use item_checks::close::shorten;
-use item_checks::open::open;
 use item_state::counts::LEFT;
 use line::Content;
 
@@ -23,7 +23,7 @@ pub fn answer_line(
 ) -> Model
     ensures { λ r. ⌜ (now (numbers .exit) ≡ lineReading (now (numbers .entry)) (now (text .entry)) .numbers) × (record { state = record { model = r; flash = now (mem .exit); differences = now (kept .exit); probes = now (probes .exit); log = record { counts = now (counts .exit); answers = now (answers .exit) } }; names = now (names .exit) } ≡ lineAnswered (now (text .entry)) (now (numbers .entry)) record { state = record { model = m; flash = now (mem .entry); differences = now (kept .entry); probes = now (probes .entry); log = record { counts = now (counts .entry); answers = now (answers .entry) } }; names = now (names .entry) }) ⌝ }
 {
-    let said = line::read_line(text, numbers);
+    let said = line_reader::read_line(text, numbers);
     let content = said.content;
     answer_content(
         m,

@@ -1,7 +1,2 @@
-pub mod Lines
 pub mod Justified
-pub mod Width
-pub mod Meaning
-pub mod Values
-pub mod Examples
-pub mod Refusals
+pub mod Lines

@@ -5,7 +5,7 @@ use mathlib.Core.Path.{_≡_, refl, sym, ap, _∙_}
 use Rattle.wording.specs.Text.{PutEach}
 use Rattle.wording.specs.Wording.{Texts, lineFeed}
 use Rattle.wording.proofs.Each.{put-then}
-use Rattle.show.specs.Row.{ended, lines}
+use Rattle.page.specs.Row.{ended, lines}
 
 -- Rows, and those after them.
 pub lines-append : (xs ys : List Texts) → lines (xs ++ ys) ≡ lines xs ++ lines ys

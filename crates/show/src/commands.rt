@@ -4,8 +4,8 @@ ghost use mathlib.Core.List.{[], _∷_};
 ghost use Rattle.device.specs.Bus.{isEvent};
 ghost use Rattle.device.specs.Reply.{numberIn};
 ghost use Rattle.wording.specs.Text.{PutEach};
-ghost use Rattle.show.specs.Row.{ended, lines};
-ghost use Rattle.show.specs.Commands.{answerTo, flightFields, temperatureFields, clockFields, fields, refusedTexts, answerTexts, frameRow, commandRow, flashRow, writeRow, commandRows};
+ghost use Rattle.page.specs.Row.{ended, lines};
+ghost use Rattle.page.specs.Commands.{answerTo, flightFields, temperatureFields, clockFields, fields, refusedTexts, answerTexts, frameRow, commandRow, flashRow, writeRow, commandRows};
 use crate::row::put_binary;
 use crate::row::put_line;
 use crate::row::put_where;
@@ -95,7 +95,7 @@ fn put_answer(buf: &mut [u8], at: usize, m: Model, op: u32, answer: Answer) -> u
 fn put_refused(buf: &mut [u8], at: usize, m: Model, op: u32, number: u32) -> usize
     ensures { λ r. ⌜ PutEach (now (buf .entry)) at (refusedTexts m op number) r (now (buf .exit)) ⌝ }
 {
-    let a = wording::refusal::put_refusal(buf, at, number);
+    let a = phrase::refusal::put_refusal(buf, at, number);
     if number == SET_UP {
         let b = numeral::put_text(buf, a, b":");
         return put_fields(buf, b, m, op);

@@ -1,8 +1,8 @@
 // The clock and the alarm.
 ghost use mathlib.Core.Path.{_≡_};
 ghost use Rattle.wording.specs.Text.{PutEach};
-ghost use Rattle.show.specs.Row.{ended, lines};
-ghost use Rattle.show.specs.Clock.{seconds, hours as Clock·hours, timeOfDay, halfDay, secondsRow, timeRow, dayRow, monthRow, dateTexts, clockRow, alarmTexts, alarmRow, clockRows};
+ghost use Rattle.page.specs.Row.{ended, lines};
+ghost use Rattle.page.specs.Clock.{seconds, hours as Clock·hours, timeOfDay, halfDay, secondsRow, timeRow, dayRow, monthRow, dateTexts, clockRow, alarmTexts, alarmRow, clockRows};
 use crate::row::put_line;
 use crate::row::put_register;
 use crate::row::put_stored;

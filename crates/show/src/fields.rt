@@ -3,8 +3,8 @@ ghost use mathlib.Core.Path.{_≡_};
 ghost use Prim.Native.Nat.{min};
 ghost use Rattle.numeral.specs.Place.{Put};
 ghost use Rattle.wording.specs.Text.{PutEach};
-ghost use Rattle.show.specs.Row.{ended, lines};
-ghost use Rattle.show.specs.Setup.{pulses, divider, tof1Row, tof2Row, halfSeconds, timing1Row, timing2Row, controlRow, clockState, oscillatorRow, setupRows, moreSetupRows};
+ghost use Rattle.page.specs.Row.{ended, lines};
+ghost use Rattle.page.specs.Setup.{pulses, divider, tof1Row, tof2Row, halfSeconds, timing1Row, timing2Row, controlRow, clockState, oscillatorRow, setupRows, moreSetupRows};
 use crate::row::put_binary;
 use crate::row::put_line;
 use crate::row::put_plural;
@@ -13,7 +13,7 @@ use crate::row::put_stored;
 use crate::row::put_where;
 use crate::row::word;
 use device::Model;
-use wording::end::put_count;
+use phrase::end::put_count;
 
 pub fn put_setup(buf: &mut [u8], at: usize, m: Model) -> usize
     ensures { λ r. ⌜ PutEach (now (buf .entry)) at (lines (setupRows m)) r (now (buf .exit)) ⌝ }

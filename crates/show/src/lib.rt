@@ -16,7 +16,7 @@ mod state;
 mod times;
 
 ghost use Rattle.wording.specs.Text.{PutEach};
-ghost use Rattle.show.specs.Page.{pageTexts};
+ghost use Rattle.page.specs.Page.{pageTexts};
 use device::Model;
 
 pub fn put_page(buf: &mut [u8], at: usize, m: Model) -> usize

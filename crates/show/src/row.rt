@@ -4,7 +4,7 @@ ghost use mathlib.Core.List.{[], _∷_};
 ghost use Rattle.wording.specs.Text.{PutEach};
 ghost use Rattle.wording.specs.Wording.{reportedWhere};
 ghost use Rattle.item_state.specs.Told.{readWord};
-ghost use Rattle.show.specs.Row.{ended, registerRow, pairRow, storedRow, absentRow, absentPair, plural, binary};
+ghost use Rattle.page.specs.Row.{ended, registerRow, pairRow, storedRow, absentRow, absentPair, plural, binary};
 use device::Model;
 use item_state::told::value;
 

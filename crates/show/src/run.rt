@@ -1,16 +1,16 @@
 // The state of the run.
 ghost use mathlib.Core.List.{_∷_};
 ghost use Rattle.wording.specs.Text.{PutEach};
-ghost use Rattle.show.specs.Row.{ended, lines};
-ghost use Rattle.show.specs.Run.{initialisedRow, awaitedRow, placeTexts, eventTexts, waitTexts, nextTexts, runRows};
+ghost use Rattle.page.specs.Row.{ended, lines};
+ghost use Rattle.page.specs.Run.{initialisedRow, awaitedRow, placeTexts, eventTexts, waitTexts, nextTexts, runRows};
 use crate::row::put_line;
 use crate::row::put_plural;
 use crate::row::put_where;
 use device::Model;
 use item_state::told::value;
+use phrase::end::put_count;
 use run_state::Place;
 use run_state::Placed;
-use wording::end::put_count;
 
 pub fn put_run(buf: &mut [u8], at: usize, m: Model) -> usize
     ensures { λ r. ⌜ PutEach (now (buf .entry)) at (lines (runRows m)) r (now (buf .exit)) ⌝ }

@@ -1,8 +1,8 @@
 // The status, and the registers around it.
 ghost use mathlib.Core.Path.{_≡_};
 ghost use Rattle.wording.specs.Text.{PutEach};
-ghost use Rattle.show.specs.Row.{ended, lines};
-ghost use Rattle.show.specs.Results.{highNames, lowNames, takesTwo, statusRows, supplyRow, lastRows};
+ghost use Rattle.page.specs.Row.{ended, lines};
+ghost use Rattle.page.specs.Results.{highNames, lowNames, takesTwo, statusRows, supplyRow, lastRows};
 use crate::row::put_absent;
 use crate::row::put_absent_pair;
 use crate::row::put_line;

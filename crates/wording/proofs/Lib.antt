@@ -1,4 +1,3 @@
 pub mod Each
-pub mod Words
 pub mod Order
 pub mod Examples

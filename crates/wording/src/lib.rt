@@ -1,11 +1,1 @@
-// The words of the answers, put into a lent buffer from a place on, as numeral's functions do. No
-// public function has a `requires`.
-pub mod bus;
-pub mod delivery;
-pub mod end;
-pub mod expectation;
-pub mod fault;
-pub mod heads;
-pub mod kept;
-pub mod refusal;
-pub mod ticks;
+// The words of the answers. The definitions and their laws stand in specs/ and proofs/; `phrase` has the code.

@@ -2,7 +2,7 @@
 -- Assumes nothing.
 use borrow.Author.Needs.{needs}
 use mathlib.Core.Path.{_∙_}
-use Rattle.show.specs.Page.{page, pageTexts}
+use Rattle.page.specs.Page.{page, pageTexts}
 use Rattle.wording.proofs.Each.{put-then}
 use Rattle.show.proofs.Lines.{lines-append}
 use Rattle.show.proofs.put_page.Statement.{statement}

@@ -1,7 +1,7 @@
 -- `show::commands::answer_to` meets its contract.
 -- Assumes nothing.
 use borrow.Author.Needs.{needs}
-use Rattle.show.specs.Commands.{answerTo}
+use Rattle.page.specs.Commands.{answerTo}
 use Rattle.show.proofs.commands.answer_to.Statement.{statement}
 use Rattle.show.proofs.commands.answer_to.Tie as tie
 

@@ -3,7 +3,7 @@
 use borrow.Author.Needs.{needs}
 use Rattle.wording.proofs.Each.{put-none}
 use Rattle.wording.specs.Text.{ascii}
-use Rattle.show.specs.Commands.{clockFields}
+use Rattle.page.specs.Commands.{clockFields}
 use Rattle.show.proofs.commands.put_clock_fields.Statement.{statement}
 use Rattle.show.proofs.commands.put_clock_fields.Tie as tie
 

@@ -1,7 +1,7 @@
 -- `show::commands::put_command` meets its contract.
 -- Assumes nothing.
 use borrow.Author.Needs.{needs}
-use Rattle.show.specs.Commands.{commandRow}
+use Rattle.page.specs.Commands.{commandRow}
 use Rattle.show.proofs.commands.put_command.Statement.{statement}
 use Rattle.show.proofs.commands.put_command.Tie as tie
 

@@ -2,7 +2,7 @@
 -- Assumes nothing.
 use borrow.Author.Needs.{needs}
 use Rattle.wording.proofs.Each.{put-then}
-use Rattle.show.specs.Commands.{fields}
+use Rattle.page.specs.Commands.{fields}
 use Rattle.show.proofs.commands.put_fields.Statement.{statement}
 use Rattle.show.proofs.commands.put_fields.Tie as tie
 

@@ -2,7 +2,7 @@
 -- Assumes nothing.
 use borrow.Author.Needs.{needs}
 use Rattle.wording.specs.Text.{ascii}
-use Rattle.show.specs.Commands.{flashRow}
+use Rattle.page.specs.Commands.{flashRow}
 use Rattle.show.proofs.commands.put_flash.Statement.{statement}
 use Rattle.show.proofs.commands.put_flash.Tie as tie
 

@@ -2,7 +2,7 @@
 -- Assumes nothing.
 use borrow.Author.Needs.{needs}
 use Rattle.wording.proofs.Each.{put-one, put-first, put-then}
-use Rattle.show.specs.Commands.{frameRow}
+use Rattle.page.specs.Commands.{frameRow}
 use Rattle.show.proofs.commands.put_frame.Statement.{statement}
 use Rattle.show.proofs.commands.put_frame.Tie as tie
 

@@ -2,7 +2,7 @@
 -- Assumes nothing.
 use borrow.Author.Needs.{needs}
 use Rattle.wording.specs.Text.{ascii}
-use Rattle.show.specs.Commands.{writeRow}
+use Rattle.page.specs.Commands.{writeRow}
 use Rattle.show.proofs.commands.put_write.Statement.{statement}
 use Rattle.show.proofs.commands.put_write.Tie as tie
 

@@ -1,7 +1,7 @@
 -- `show::date::hours` meets its contract.
 -- Assumes nothing.
 use borrow.Author.Needs.{needs}
-use Rattle.show.specs.Clock.{hours}
+use Rattle.page.specs.Clock.{hours}
 use Rattle.show.proofs.date.hours.Statement.{statement}
 use Rattle.show.proofs.date.hours.Tie as tie
 

@@ -3,8 +3,8 @@
 use borrow.Author.Needs.{needs}
 use Rattle.wording.proofs.Each.{put-one, put-first, put-then}
 use Rattle.wording.specs.Text.{ascii}
-use Rattle.show.specs.Clock.{monthRow}
-use Rattle.show.specs.Row.{registerRow}
+use Rattle.page.specs.Clock.{monthRow}
+use Rattle.page.specs.Row.{registerRow}
 use Rattle.show.proofs.date.put_month_row.Statement.{statement}
 use Rattle.show.proofs.date.put_month_row.Tie as tie
 

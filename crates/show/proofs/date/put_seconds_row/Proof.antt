@@ -3,8 +3,8 @@
 use borrow.Author.Needs.{needs}
 use Rattle.wording.proofs.Each.{put-first, put-then}
 use Rattle.wording.specs.Text.{ascii}
-use Rattle.show.specs.Clock.{secondsRow}
-use Rattle.show.specs.Row.{registerRow}
+use Rattle.page.specs.Clock.{secondsRow}
+use Rattle.page.specs.Row.{registerRow}
 use Rattle.show.proofs.Lines.{put-ended}
 use Rattle.show.proofs.date.put_seconds_row.Statement.{statement}
 use Rattle.show.proofs.date.put_seconds_row.Tie as tie

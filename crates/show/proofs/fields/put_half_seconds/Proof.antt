@@ -3,7 +3,7 @@
 use borrow.Author.Needs.{needs}
 use Rattle.wording.proofs.Each.{put-one, put-first}
 use Rattle.wording.specs.Text.{ascii}
-use Rattle.show.specs.Setup.{halfSeconds}
+use Rattle.page.specs.Setup.{halfSeconds}
 use Rattle.show.proofs.fields.put_half_seconds.Statement.{statement}
 use Rattle.show.proofs.fields.put_half_seconds.Tie as tie
 

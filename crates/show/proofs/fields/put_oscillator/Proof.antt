@@ -3,8 +3,8 @@
 use borrow.Author.Needs.{needs}
 use Rattle.wording.proofs.Each.{put-one, put-first, put-then}
 use Rattle.wording.specs.Text.{ascii}
-use Rattle.show.specs.Row.{registerRow}
-use Rattle.show.specs.Setup.{oscillatorRow}
+use Rattle.page.specs.Row.{registerRow}
+use Rattle.page.specs.Setup.{oscillatorRow}
 use Rattle.show.proofs.fields.put_oscillator.Statement.{statement}
 use Rattle.show.proofs.fields.put_oscillator.Tie as tie
 

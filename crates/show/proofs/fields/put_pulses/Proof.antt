@@ -4,7 +4,7 @@ use borrow.Author.Needs.{needs}
 use borrow.Author.Tests.{eq-eqb, ne-eqb}
 use Rattle.wording.proofs.Each.{put-one, put-first}
 use Rattle.wording.specs.Text.{ascii}
-use Rattle.show.specs.Setup.{pulses}
+use Rattle.page.specs.Setup.{pulses}
 use Rattle.show.proofs.fields.put_pulses.Statement.{statement}
 use Rattle.show.proofs.fields.put_pulses.Tie as tie
 

@@ -4,8 +4,8 @@ use borrow.Author.Needs.{needs}
 use mathlib.Core.Path.{_∙_}
 use Rattle.wording.proofs.Each.{put-one, put-first, put-then}
 use Rattle.wording.specs.Text.{ascii}
-use Rattle.show.specs.Row.{registerRow}
-use Rattle.show.specs.Setup.{timing2Row}
+use Rattle.page.specs.Row.{registerRow}
+use Rattle.page.specs.Setup.{timing2Row}
 use Rattle.show.proofs.fields.put_timing2.Statement.{statement}
 use Rattle.show.proofs.fields.put_timing2.Tie as tie
 

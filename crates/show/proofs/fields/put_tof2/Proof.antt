@@ -3,8 +3,8 @@
 use borrow.Author.Needs.{needs}
 use Rattle.wording.proofs.Each.{put-one, put-first, put-then}
 use Rattle.wording.specs.Text.{ascii}
-use Rattle.show.specs.Row.{registerRow}
-use Rattle.show.specs.Setup.{tof2Row}
+use Rattle.page.specs.Row.{registerRow}
+use Rattle.page.specs.Setup.{tof2Row}
 use Rattle.show.proofs.fields.put_tof2.Statement.{statement}
 use Rattle.show.proofs.fields.put_tof2.Tie as tie
 

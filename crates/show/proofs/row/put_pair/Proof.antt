@@ -3,7 +3,7 @@
 use borrow.Author.Needs.{needs}
 use Rattle.wording.proofs.Each.{put-one, put-first}
 use Rattle.wording.specs.Text.{ascii}
-use Rattle.show.specs.Row.{pairRow}
+use Rattle.page.specs.Row.{pairRow}
 use Rattle.show.proofs.row.put_pair.Statement.{statement}
 use Rattle.show.proofs.row.put_pair.Tie as tie
 

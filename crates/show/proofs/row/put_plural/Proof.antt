@@ -4,7 +4,7 @@ use borrow.Author.Needs.{needs}
 use borrow.Author.Tests.{lt-ltb, le-ltb}
 use Rattle.wording.proofs.Each.{put-one, put-first}
 use Rattle.wording.specs.Text.{ascii}
-use Rattle.show.specs.Row.{plural}
+use Rattle.page.specs.Row.{plural}
 use Rattle.show.proofs.row.put_plural.Statement.{statement}
 use Rattle.show.proofs.row.put_plural.Tie as tie
 

@@ -3,7 +3,7 @@
 use borrow.Author.Needs.{needs}
 use Rattle.wording.proofs.Each.{put-one, put-first}
 use Rattle.wording.specs.Text.{ascii}
-use Rattle.show.specs.Row.{registerRow}
+use Rattle.page.specs.Row.{registerRow}
 use Rattle.show.proofs.row.put_register.Statement.{statement}
 use Rattle.show.proofs.row.put_register.Tie as tie
 

@@ -12,7 +12,7 @@ use Rattle.run_state.specs.declared.Placed.{Placed}
 use Rattle.wording.proofs.Each.{put-one}
 use Rattle.wording.specs.Text.{PutEach}
 use Rattle.wording.specs.Text.{ascii}
-use Rattle.show.specs.Run.{eventTexts}
+use Rattle.page.specs.Run.{eventTexts}
 use Rattle.show.proofs.run.put_event_texts.Statement.{statement}
 use Rattle.show.proofs.run.put_event_texts.Tie as tie
 

@@ -4,8 +4,8 @@ use borrow.Author.Needs.{needs}
 use mathlib.Core.Path.{_∙_}
 use Rattle.wording.proofs.Each.{put-none, put-then}
 use Rattle.wording.specs.Text.{ascii}
-use Rattle.show.specs.Results.{lastRows}
-use Rattle.show.specs.Row.{lines}
+use Rattle.page.specs.Results.{lastRows}
+use Rattle.page.specs.Row.{lines}
 use Rattle.show.proofs.Lines.{lines-append}
 use Rattle.show.proofs.state.put_last.Statement.{statement}
 use Rattle.show.proofs.state.put_last.Tie as tie

@@ -3,8 +3,8 @@
 use borrow.Author.Needs.{needs}
 use Rattle.wording.proofs.Each.{put-none, put-one, put-first, put-then}
 use Rattle.wording.specs.Text.{ascii}
-use Rattle.show.specs.Results.{statusRows}
-use Rattle.show.specs.Row.{lines, registerRow}
+use Rattle.page.specs.Results.{statusRows}
+use Rattle.page.specs.Row.{lines, registerRow}
 use Rattle.show.proofs.state.put_status.Statement.{statement}
 use Rattle.show.proofs.state.put_status.Tie as tie
 

@@ -1,7 +1,7 @@
 -- `show::state::takes_two` meets its contract.
 -- Assumes nothing.
 use borrow.Author.Tests.{eq-eqb, ne-eqb}
-use Rattle.show.specs.Results.{takesTwo}
+use Rattle.page.specs.Results.{takesTwo}
 use Rattle.show.proofs.state.takes_two.Statement.{statement}
 use Rattle.show.proofs.state.takes_two.Tie as tie
 

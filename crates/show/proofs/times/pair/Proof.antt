@@ -1,7 +1,7 @@
 -- `show::times::pair` meets its contract.
 -- Assumes nothing.
 use borrow.Author.Needs.{needs}
-use Rattle.show.specs.Results.{pairWord}
+use Rattle.page.specs.Results.{pairWord}
 use Rattle.show.proofs.times.pair.Statement.{statement}
 use Rattle.show.proofs.times.pair.Tie as tie
 

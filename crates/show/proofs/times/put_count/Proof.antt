@@ -3,8 +3,8 @@
 use borrow.Author.Needs.{needs}
 use Rattle.wording.proofs.Each.{put-one, put-first, put-then}
 use Rattle.wording.specs.Text.{ascii}
-use Rattle.show.specs.Results.{countRow}
-use Rattle.show.specs.Row.{registerRow}
+use Rattle.page.specs.Results.{countRow}
+use Rattle.page.specs.Row.{registerRow}
 use Rattle.show.proofs.times.put_count.Statement.{statement}
 use Rattle.show.proofs.times.put_count.Tie as tie
 

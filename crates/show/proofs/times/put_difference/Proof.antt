@@ -3,8 +3,8 @@
 use borrow.Author.Needs.{needs}
 use Rattle.wording.proofs.Each.{put-one, put-then}
 use Rattle.wording.specs.Text.{ascii}
-use Rattle.show.specs.Results.{differenceRow}
-use Rattle.show.specs.Row.{pairRow}
+use Rattle.page.specs.Results.{differenceRow}
+use Rattle.page.specs.Row.{pairRow}
 use Rattle.show.proofs.times.put_difference.Statement.{statement}
 use Rattle.show.proofs.times.put_difference.Tie as tie
 

@@ -3,7 +3,7 @@
 use borrow.Author.Needs.{needs}
 use Rattle.wording.specs.Text.{ascii}
 use Rattle.wording.proofs.Each.{put-one}
-use Rattle.show.specs.Results.{differenceTexts}
+use Rattle.page.specs.Results.{differenceTexts}
 use Rattle.show.proofs.times.put_difference_time.Statement.{statement}
 use Rattle.show.proofs.times.put_difference_time.Tie as tie
 

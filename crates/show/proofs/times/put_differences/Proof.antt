@@ -3,8 +3,8 @@
 use borrow.Author.Needs.{needs}
 use Rattle.wording.proofs.Each.{put-none, put-then}
 use Rattle.wording.specs.Text.{ascii}
-use Rattle.show.specs.Results.{differenceRows}
-use Rattle.show.specs.Row.{lines}
+use Rattle.page.specs.Results.{differenceRows}
+use Rattle.page.specs.Row.{lines}
 use Rattle.show.proofs.times.put_differences.Statement.{statement}
 use Rattle.show.proofs.times.put_differences.Tie as tie
 

@@ -4,7 +4,7 @@ use borrow.Author.Needs.{needs}
 use native.Mathlib.Omega.{arith}
 use Rattle.wording.proofs.Each.{put-one, put-first}
 use Rattle.wording.specs.Text.{ascii}
-use Rattle.show.specs.Results.{time}
+use Rattle.page.specs.Results.{time}
 use Rattle.show.proofs.Justified.{unsigned-end, unsigned-part}
 use Rattle.show.proofs.times.put_time.Statement.{statement}
 use Rattle.show.proofs.times.put_time.Tie as tie

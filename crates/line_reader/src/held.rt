@@ -1,0 +1,19 @@
+// The start of a line that comes in byte by byte.
+ghost use mathlib.Core.Path.{_≡_};
+ghost use Rattle.line.specs.Held.{heldBytes, heldCount};
+
+// A buffer of this length holds as much of a line as read_line looks at.
+pub const LONGEST: usize = 1002;
+
+// Stores a line's next byte behind the `count` that the buffer holds, where it has room, and answers
+// how many it holds then.
+pub fn hold_byte(held: &mut [u8], count: usize, b: u8) -> usize
+    ensures { λ r. ⌜ (r ≡ heldCount (now (held .entry)) count) × (now (held .exit) ≡ heldBytes (now (held .entry)) count b) ⌝ }
+{
+    if count < held.len() {
+        held[count] = b;
+        count + 1
+    } else {
+        count
+    }
+}

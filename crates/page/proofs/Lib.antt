@@ -1,0 +1,5 @@
+pub mod Width
+pub mod Meaning
+pub mod Values
+pub mod Examples
+pub mod Refusals

@@ -19,7 +19,7 @@ use Rattle.quietest.specs.Quietest.{quietestPlace}
 use Rattle.difference.specs.Spread.{spreadOf}
 use Rattle.listing.specs.Listing.{captureDigits, lineLength, lines, lastAbove}
 use Rattle.listing.proofs.Meaning.{Fit, lines-length}
-use Rattle.wording.specs.Text.{ascii}
+use Rattle.numeral.specs.Ascii.{ascii}
 use Rattle.wording.specs.Wording.{lineFeed, probe, degrees, refusalWords, refusalWord, refusal, refused, difference, listingHead, quietest}
 use Rattle.item_analysis.specs.Lines.{differenceTexts, recordTexts, recordWords, widthOf}
 use Rattle.answer_text.specs.Texts.{toldOfProbe, toldInDegrees, toldOfDegrees, toldOfRecord, toldOfListing, toldOfPlace, toldOfQuietest}

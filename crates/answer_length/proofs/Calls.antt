@@ -19,7 +19,7 @@ use Rattle.device.specs.Call.{Call, opcode, words, Verdict, accepted, refused, 
 use Rattle.device.specs.FlashFrame.{flashOutput}
 use Rattle.device.specs.Reply.{reply, acceptedOutput, bufferOf, outputBy, output}
 use Rattle.device.proofs.RegisterMeaning.{fill-length}
-use Rattle.wording.specs.Text.{ascii}
+use Rattle.numeral.specs.Ascii.{ascii}
 use Rattle.wording.specs.Wording.{started, busAnswer, outputBuffer, bus, set as setTexts, deliveryAnswer, delivery, reportedWhere, kindReports, quiet, ticked, single, reportAt, tickReports, nextNamed, laterNamed, named, stretched, stretch}
 use Rattle.item_calls.specs.Lines.{WithFlash}
 use Rattle.item_calls.specs.Buffer.{bufferSize}

@@ -13,7 +13,7 @@ use Rattle.device.specs.Event.{noSchedule}
 use Rattle.device.specs.Model.{noFlight, noTemperature, freshWith, freshModel}
 use Rattle.listing.specs.Listing.{sign, rightJustified, line, lines, lastAbove}
 use Rattle.line.specs.declared.Content.{Content}
-use Rattle.wording.specs.Text.{ascii}
+use Rattle.numeral.specs.Ascii.{ascii}
 use Rattle.wording.specs.Wording.{counted, listingHead, tickReports, reportAt}
 use Rattle.item_state.specs.Log.{Log}
 use Rattle.item_calls.specs.Lines.{WithFlash}

@@ -12,7 +12,7 @@ use Rattle.device.specs.declared.Model.{Model}
 use Rattle.device.specs.Call.{Call}
 use Rattle.line.specs.declared.Content.{Content}
 use Rattle.line.specs.Line.{Bounded}
-use Rattle.wording.specs.Text.{ascii}
+use Rattle.numeral.specs.Ascii.{ascii}
 use Rattle.item_calls.specs.Lines.{WithFlash, callLine, timedLine, beside}
 use Rattle.item_calls.specs.Buffer.{bufferSize}
 use Rattle.answer_text.specs.Texts.{Told, onPage, HasRoom, isListing, callTold, questionTold, analysisTold}

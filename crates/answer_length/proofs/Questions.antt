@@ -11,7 +11,7 @@ use Rattle.device.specs.declared.Model.{Model}
 use Rattle.device.specs.Model.{isSound}
 use Rattle.device.specs.Question.{interruptPending, awaitedTold}
 use Rattle.setup_frames.specs.Frames.{differs, starts, runLength, bytesOf, frameAt, framesFrom, frames}
-use Rattle.wording.specs.Text.{ascii}
+use Rattle.numeral.specs.Ascii.{ascii}
 use Rattle.wording.specs.Wording.{lineFeed, head, pair}
 use Rattle.item_state.specs.Told.{toldValue, readWord}
 use Rattle.item_questions.specs.Answers.{interrupt, awaited, next, blankWord, rowWords, row, rows, registers, differing, pairs, expectation, byteTexts, frameTexts, frameLines}

@@ -12,7 +12,7 @@ use Rattle.numeral.specs.Place.{joined}
 use Rattle.numeral.specs.Print.{widthFrom, decimalWidth, decimal, signedDecimal, thousandths}
 use Rattle.numeral.proofs.DigitLaws.{length-digits}
 use Rattle.numeral.proofs.PrintLaws.{width-most, length-decimal}
-use Rattle.wording.specs.Text.{ascii}
+use Rattle.numeral.specs.Ascii.{ascii}
 use Rattle.wording.specs.Wording.{Texts, counted, numbered, refusalWords, refusalWord, refusal, refused}
 
 unfoldable pub size : Texts → ℕ

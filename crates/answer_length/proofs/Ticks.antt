@@ -10,7 +10,7 @@ use Rattle.device.specs.declared.Answer.{Answer}
 use Rattle.device.specs.declared.Answer.the-variants.{Refused, Accepted, Ticked, Stretched, Good, Failed}
 use Rattle.device.specs.Call.{Call}
 use Rattle.device.specs.Reply.{reply}
-use Rattle.wording.specs.Text.{ascii}
+use Rattle.numeral.specs.Ascii.{ascii}
 use Rattle.wording.specs.Wording.{Texts, lineFeed, numbered, nextNamed, noTick}
 use Rattle.item_calls.specs.Lines.{moved, stretchReports, onward, ticked}
 use Rattle.answer_text.specs.Texts.{toldOfHead, endTexts, toldOfPart, toldOfTicks, toldOfTick, toldOfAt}

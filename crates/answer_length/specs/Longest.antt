@@ -15,7 +15,7 @@ unfoldable pub longest : Content → ℕ
 longest content = cond (isListing content) 94240 28700
 
 -- What the types and the places of the program's buffers give: the lengths are those of the invariant of `replay` in session. Every
--- other number, as how many entries or ticks there are, is of no matter here: no decimal has more than 20 digits.
+-- other number, as how many entries or ticks there are, does not count here: no decimal has more than 20 digits.
 pub record Small (numbers : List ℕ) (s : WithFlash) (differences : List ℤ) : Type 0 where
   -- a line's numbers stand in a [u32; 512]
   pub numbersFew : length numbers ≤ 512

@@ -18,7 +18,7 @@ use Rattle.difference.specs.Difference.{signedOf}
 use Rattle.listing.specs.Listing.{captureDigits, lines, lastAbove}
 use Rattle.listing.proofs.Meaning.{Fit}
 use Rattle.line.specs.declared.Content.{Content}
-use Rattle.wording.specs.Text.{ascii}
+use Rattle.numeral.specs.Ascii.{ascii}
 use Rattle.wording.specs.Wording.{Texts, refused, listingHead}
 use Rattle.item_state.specs.Log.{Log, said}
 use Rattle.item_analysis.specs.Kept.{Kept, keptOne, keptEach}

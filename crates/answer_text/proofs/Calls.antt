@@ -14,7 +14,7 @@ use Rattle.device.specs.declared.Answer.the-variants.{Refused, Accepted, Ticked
 use Rattle.device.specs.Call.{Call}
 use Rattle.device.specs.Reply.{reply}
 use Rattle.line.specs.declared.Content.{Content}
-use Rattle.wording.specs.Text.{ascii}
+use Rattle.numeral.specs.Ascii.{ascii}
 use Rattle.wording.specs.Wording.{Texts, lineFeed, numbered, delivery, single, stretch}
 use Rattle.item_state.specs.Log.{Log, added, said, counted, called, refusals}
 use Rattle.item_calls.specs.Lines.{WithFlash, told, itemCounts, startMoment, transacted, busLine, setLine, moved, singleLine, ticked, partEnded, ticksPart, ticksAhead, unlessUnderWay, ticksBegun, tickLine, atBegun, atLine, movedBy, stretchLine, flightLine, temperatureLine, beside, itemLine, timedLine, callLine}

@@ -11,7 +11,7 @@ use Rattle.device.specs.declared.Model.{Model}
 use Rattle.difference.specs.Difference.{signedOf}
 use Rattle.listing.specs.Listing.{sign, rightJustified, line, lines, lastAbove}
 use Rattle.line.specs.declared.Content.{Content}
-use Rattle.wording.specs.Text.{ascii}
+use Rattle.numeral.specs.Ascii.{ascii}
 use Rattle.wording.specs.Wording.{counted, numbered, difference, refusalWords, refusalWord, refusal, refused, listingHead}
 use Rattle.item_state.specs.Log.{Log, added}
 use Rattle.item_calls.specs.Lines.{moved}

@@ -18,7 +18,7 @@ use Rattle.numeral.proofs.PlaceLaws.{put-each, length-overwrite, overwrite-appe
 use Rattle.numeral.proofs.PrintLaws.{length-decimal}
 use Rattle.listing.specs.Listing.{captureDigits, lineLength, lines, lastAbove, listing}
 use Rattle.listing.proofs.Meaning.{Fit, lines-length}
-use Rattle.wording.specs.Text.{ascii}
+use Rattle.numeral.specs.Ascii.{ascii}
 use Rattle.wording.specs.Wording.{Texts, counted as numberOf, refusalWords, refusalWord, refusal, refused, listingHead}
 use Rattle.item_state.specs.Log.{Log, put, counted, called}
 use Rattle.item_analysis.specs.Lines.{widthOf, listedAt, listingTold, listingLine}

@@ -8,7 +8,7 @@ use Rattle.device.specs.declared.Model.{Model}
 use Rattle.device.specs.Model.{isSound}
 use Rattle.setup_frames.specs.Frames.{frames}
 use Rattle.line.specs.declared.Content.{Content}
-use Rattle.wording.specs.Text.{ascii}
+use Rattle.numeral.specs.Ascii.{ascii}
 use Rattle.wording.specs.Wording.{Texts, lineFeed, refused, counted}
 use Rattle.item_state.specs.Log.{Log, added, said, called}
 use Rattle.item_questions.specs.Answers.{frameLines, framesTold, framesLine, expectLine, questionLine}

@@ -15,13 +15,13 @@ abbrev pub beside : List ℤ → List ℕ → Log → ItemKept
 beside differences probes l = record { differences = differences; probes = probes; log = l }
 
 -- What a line leaves: one that moves the model, then one that asks, or one on the record and the probe table, on the model after it.
--- Each line is of one of these sorts, and passes over the others.
+-- Each line is of one of these sorts, and the others leave all as it was.
 unfoldable pub lineLeft : Content → List ℕ → WithFlash → List ℤ → List ℕ → ItemKept
 lineLeft content numbers s differences probes =
     let c = callLine content numbers s in
     analysisLine content numbers (c .model) (beside differences probes (questionLine content numbers (c .model) (c .log)))
 
--- What it tells so, one sort behind the other. The answers before it are none of its matter.
+-- What it tells, one sort behind the other. It does not depend on the answers before it.
 abbrev pub toldOfKept : Content → List ℕ → Model → List ℤ → List ℕ → List ℕ → Told
 toldOfKept content numbers m differences probes counts =
     analysisTold content numbers m (beside differences probes record { counts = counts; answers = [] })

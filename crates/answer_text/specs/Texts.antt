@@ -1,4 +1,4 @@
--- The texts of each line's answer, apart from the buffer that they are put into. What stands in quotation marks is the format's.
+-- The texts of each line's answer, apart from the buffer that they are put into. What stands in quotation marks is that of docs/ITEMS.md.
 -- Assumes nothing.
 use Prim.Native.Nat.{ℕ, _+_, _-_, _≤_, min}
 use mathlib.Core.Bool.{Bool, true, false, cond}
@@ -24,7 +24,7 @@ use Rattle.listing.specs.Listing.{captureDigits, lines, lastAbove}
 use Rattle.setup_frames.specs.Frames.{frames}
 use Rattle.page.specs.Page.{pageTexts}
 use Rattle.line.specs.declared.Content.{Content}
-use Rattle.wording.specs.Text.{ascii}
+use Rattle.numeral.specs.Ascii.{ascii}
 use Rattle.wording.specs.Wording.{Texts, lineFeed, bus, set as setTexts, delivery, numbered, single, stretch, counted, probe, degrees, refused, listingHead, quietest}
 use Rattle.item_state.specs.Log.{Log, added, put, refusals}
 use Rattle.item_calls.specs.Lines.{WithFlash, itemCounts, startMoment, writeBytes, moved, movedBy, ticked}
@@ -168,7 +168,7 @@ callTold (Content.Quietest n) numbers s = silent (s .log .counts)
 abbrev pub asked : Texts → List ℕ → Told
 asked texts counts = record { texts = texts; counts = counts }
 
--- `expect`: "E the words of `expect` lines .., X those of E that differ"
+-- `expect`: "E the words of `expect` lines and the `=>`, X those of E that differ"
 unfoldable pub toldOfExpect : Model → ℕ → List ℕ → List ℕ → Told
 toldOfExpect m a ws counts = record {
   texts = expectation m a ws;
@@ -218,12 +218,12 @@ toldOfProbe entries probes counts =
     let table = keptEach (map (λ (entry : ℕ). entry) entries) record { values = probes; used = getD counts 11 0 } in
     asked (probe (table .used)) (set counts 11 (table .used))
 
--- "`degrees D.DDD`, or `degrees no 13 off the table`, `degrees no 14 bad table`"
+-- "`degrees D.DDD`, `degrees no 13 off the table` or `degrees no 14 bad table`"
 unfoldable pub toldInDegrees : InDegrees → List ℕ → Told
 toldInDegrees (Thousandths n) counts = answered 0 (degrees n) counts
 toldInDegrees (Refused number) counts = answered 1 (refused (ascii "degrees") number) counts
 
--- "a probe's word and its reference's", the line's two numbers
+-- "the temperature of a probe's word A and its 1,000 Ω reference's word B", the line's two numbers
 unfoldable pub toldOfDegrees : List ℕ → List ℕ → List ℕ → Told
 toldOfDegrees numbers probes counts =
     cond (ltb (length numbers) 2) (silent counts)
@@ -242,12 +242,12 @@ toldOfListing d first values used counts =
     cond (lastAbove d first (length values)) (answered 1 (refused (ascii "listing") 20) counts)
     (answered 0 (listingHead used ++ (lines d first values ∷ [])) counts)
 
--- "`quietest START SPREAD`, START from 0, or `quietest no 18 width`"
+-- "`quietest START SPREAD`, START from 0, SPREAD the largest less the smallest; or `quietest no 18 width`"
 unfoldable pub toldOfPlace : Place → List ℤ → ℕ → List ℕ → Told
 toldOfPlace (Place.At start) values width counts = answered 0 (quietest start (spreadOf (take width (drop start values)))) counts
 toldOfPlace (Place.Refused number) values width counts = answered 1 (refused (ascii "quietest") number) counts
 
--- "the quietest run of W neighbours in the record"
+-- "the run of W neighbours in the record that differ least, the earliest of equals"
 unfoldable pub toldOfQuietest : ℕ → List ℤ → List ℕ → Told
 toldOfQuietest width values counts = toldOfPlace (quietestPlace values width) values width counts
 

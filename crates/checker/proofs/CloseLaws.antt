@@ -17,7 +17,8 @@ use Rattle.numeral.proofs.PlaceLaws.{length-overwrite, put-each}
 use Rattle.line.specs.Words.{isBlank, ended, wordsAfter, words}
 use Rattle.line.specs.Line.{contentLength}
 use Rattle.line.specs.Spaced.{blanked, spaced}
-use Rattle.wording.specs.Text.{ascii, PutEach}
+use Rattle.numeral.specs.Ascii.{ascii}
+use Rattle.wording.specs.Text.{PutEach}
 use Rattle.wording.specs.Wording.{expected}
 use Rattle.item_state.specs.Log.{Log, said}
 use Rattle.item_checks.specs.Close.{lineWords, placeOf, firstEnd, startsWith, wantedIn, within, inserted}

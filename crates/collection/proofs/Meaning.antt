@@ -44,7 +44,7 @@ numbers o true e = rw e (λ h.
     })
 numbers o false e = rw e (λ h. let z : _≡_ {A = ℕ} 0 1 = cc in absurd (omega arith))
 
--- "A file without any expectation is told as such, and never as agreeing."
+-- "A file without any expectation is told as such, and not as one that agrees"
 pub agrees : (o : Outcome) → agreeing (kinds o) ≡ true → Agrees o
 agrees o h = numbers o (o .whole) refl h
 
@@ -123,7 +123,7 @@ unfolding numberOf
 all-of [] = refl
 all-of (f ∷ fs) = let rest = all-of fs in omega arith
 
--- "The run's very last line counts all of these": each of its counts is how many files of the run are of that kind.
+-- "The run's last line counts all of them": each of its counts is how many files of the run are of that kind.
 pub record Counts (fs : List File) (c : Collection) : Type 0 where
   pub files : c .files ≡ length fs
   pub agree : c .agree ≡ numberOf agreeing fs

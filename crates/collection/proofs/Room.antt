@@ -12,7 +12,8 @@ use Rattle.numeral.specs.Place.{overwrite, joined}
 use Rattle.numeral.specs.Print.{widthFrom, decimalWidth, decimal}
 use Rattle.numeral.proofs.PlaceLaws.{put-each}
 use Rattle.numeral.proofs.PrintLaws.{length-decimal}
-use Rattle.wording.specs.Text.{ascii, PutEach}
+use Rattle.numeral.specs.Ascii.{ascii}
+use Rattle.wording.specs.Text.{PutEach}
 use Rattle.collection.specs.declared.Group.{Group}
 use Rattle.collection.specs.declared.Tally.{Tally}
 use Rattle.collection.specs.Group.{Members}

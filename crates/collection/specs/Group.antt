@@ -5,7 +5,7 @@ use mathlib.Core.List.{List, [], _∷_}
 use lib.Dec.{eqb}
 use Rattle.numeral.specs.Place.{noRoom, Placed, putEach}
 use Rattle.collection.specs.declared.Group.{Group}
-use Rattle.wording.specs.Text.{ascii}
+use Rattle.numeral.specs.Ascii.{ascii}
 
 -- one more, or the largest number that fits
 abbrev pub oneMore : ℕ → ℕ
@@ -20,8 +20,8 @@ pub record Members : Type 0 where
   pub group : Group
   pub names : List ℕ
 
--- A file that belongs to the group is counted. "A fixed place a file keeps its outcome; past those places the summary counts without
--- names": its name is kept where the buffer has room for its line.
+-- A file that belongs to the group is counted. "Each of the five has room for 65,536 bytes of names with two blanks and a line feed
+-- each": its name is kept where the buffer has room for its line.
 abbrev pub counted : Group → Placed → Members
 counted g p = record {
   group = record {

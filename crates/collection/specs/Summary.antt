@@ -9,7 +9,7 @@ use Rattle.collection.specs.declared.Group.{Group}
 use Rattle.collection.specs.declared.Tally.{Tally}
 use Rattle.collection.specs.Group.{Members}
 use Rattle.collection.specs.Tally.{Collection, tallyOf}
-use Rattle.wording.specs.Text.{ascii}
+use Rattle.numeral.specs.Ascii.{ascii}
 
 -- `== NAME ==`
 unfoldable pub headingTexts : List ℕ → List (List ℕ)
@@ -60,7 +60,7 @@ groupsTexts c =
     ++ (groupTexts cannotBeRead (c .unread)
     ++ groupTexts noExpectation (c .plain))))
 
--- "The run's very last line counts all of these": `end N files, N agree, N differ, N unannounced, ` and
+-- "The run's last line counts all of them": `end N files, N agree, N differ, N unannounced, ` and
 unfoldable pub firstCounts : Tally → List (List ℕ)
 firstCounts t =
     ascii "end "

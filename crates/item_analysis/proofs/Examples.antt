@@ -6,7 +6,7 @@ use Rattle.numeral.specs.Digit.{digits, glyph}
 use Rattle.numeral.specs.Place.{joined}
 use Rattle.numeral.specs.Print.{widthFrom, decimalWidth, decimal, signedDecimal}
 use Rattle.thermometer.specs.Degrees.{degrees, degreesBy}
-use Rattle.wording.specs.Text.{ascii}
+use Rattle.numeral.specs.Ascii.{ascii}
 use Rattle.wording.specs.Wording.{difference}
 use Rattle.item_analysis.specs.Kept.{Kept, keptOne, keptEach}
 use Rattle.item_analysis.specs.Lines.{degreesOf, differenceTexts, recordTexts}

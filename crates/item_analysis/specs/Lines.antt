@@ -1,5 +1,5 @@
--- The lines on what an item keeps beside its model, in the order of the format's table. What stands in quotation marks is the
--- format's. Assumes nothing.
+-- The lines on what an item keeps beside its model, in the order of the format's table. What stands in quotation marks is that
+-- of docs/ITEMS.md. Assumes nothing.
 use Prim.Native.Nat.{ℕ, _+_, min}
 use mathlib.Core.Bool.{Bool, cond}
 use mathlib.Core.List.{List, [], _∷_, _++_}
@@ -19,7 +19,7 @@ use Rattle.listing.specs.Listing.{captureDigits, Outcome, listing}
 use Rattle.quietest.specs.declared.Place.{Place}
 use Rattle.quietest.specs.Quietest.{quietestPlace}
 use Rattle.line.specs.declared.Content.{Content}
-use Rattle.wording.specs.Text.{ascii}
+use Rattle.numeral.specs.Ascii.{ascii}
 use Rattle.wording.specs.Wording.{Texts, lineFeed, probe, degrees, refused, difference, listingHead, quietest}
 use Rattle.item_state.specs.Log.{Log, put, said, counted, called}
 use Rattle.item_state.specs.Told.{readWord}
@@ -42,16 +42,16 @@ probeLine entries s =
 
 -- ---- `degrees`
 
--- "the item's own probe table, which `degrees` then takes in place of PT1000's"
+-- "by the item's table or, where it has none, by PT1000's for 0 to 180 degrees"
 unfoldable pub degreesOf : List ℕ → ℕ → ℕ → InDegrees
 degreesOf table a b = cond (eqb (length table) 0) (degreesPt1000 a b) (degreesBy table a b)
 
--- "`degrees D.DDD`, or `degrees no 13 off the table`, `degrees no 14 bad table`"
+-- "`degrees D.DDD`, `degrees no 13 off the table` or `degrees no 14 bad table`"
 unfoldable pub degreesTold : InDegrees → Log → Log
 degreesTold (Thousandths n) l = called 0 (degrees n) l
 degreesTold (Refused number) l = called 1 (refused (ascii "degrees") number) l
 
--- "a probe's word and its reference's", the line's two numbers
+-- "the temperature of a probe's word A and its 1,000 Ω reference's word B", the line's two numbers
 unfoldable pub degreesLine : List ℕ → List ℕ → Log → Log
 degreesLine numbers probes l =
     cond (ltb (length numbers) 2) l
@@ -89,7 +89,7 @@ recordWords m numbers n = cond (eqb n 0) (tofDiff m ∷ []) (take n numbers)
 
 -- ---- `listing`
 
--- "`old` names the two-digit form"
+-- "printed in eight digits, or with `old` in two"
 unfoldable pub widthOf : Bool → Width
 widthOf old = cond old Width.Two Width.Eight
 
@@ -114,12 +114,12 @@ listingLine old first kept l =
 
 -- ---- `quietest`
 
--- "`quietest START SPREAD`, START from 0, or `quietest no 18 width`"
+-- "`quietest START SPREAD`, START from 0, SPREAD the largest less the smallest; or `quietest no 18 width`"
 unfoldable pub quietestTold : Place → List ℤ → ℕ → Log → Log
 quietestTold (Place.At start) values width l = called 0 (quietest start (spreadOf (take width (drop start values)))) l
 quietestTold (Place.Refused number) values width l = called 1 (refused (ascii "quietest") number) l
 
--- "the quietest run of W neighbours in the record"
+-- "the run of W neighbours in the record that differ least, the earliest of equals"
 unfoldable pub quietestLine : ℕ → List ℤ → Log → Log
 quietestLine width kept l = let values = take (getD (l .counts) 10 0) kept in quietestTold (quietestPlace values width) values width l
 

@@ -8,7 +8,7 @@ use Rattle.numeral.specs.Place.{joined}
 use Rattle.numeral.specs.Print.{lowBytes, widthFrom, decimalWidth, decimal}
 use Rattle.device.specs.declared.StretchReport.{StretchReport}
 use Rattle.device.specs.declared.Answer.the-variants.{Refused, Accepted, Stretched}
-use Rattle.wording.specs.Text.{ascii}
+use Rattle.numeral.specs.Ascii.{ascii}
 use Rattle.wording.specs.Wording.{tickReports, nextNamed, sooner, named, laterNamed, reportAt}
 use Rattle.device.specs.Reply.{numberIn}
 use Rattle.item_state.specs.Log.{added, refusals}

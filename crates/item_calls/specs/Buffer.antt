@@ -5,7 +5,8 @@ use lib.ListN.{length, getD}
 use lib.Dec.{eqb, ltb}
 use Rattle.unit.specs.Choice.{pick}
 
--- none without a byte; two bytes for 90h; for B0h to FFh as many as the bytes after it, made even; else none
+-- "a frame whose first byte is B0h to FFh gets an output buffer of 2 × (further bytes ÷ 2, rounded down) bytes, whatever its answer. A
+-- frame whose first byte is 90h gets one of two bytes. Any other frame gets none."
 unfoldable pub bufferSize : List ℕ → ℕ
 bufferSize bs =
-    pick (eqb (length bs) 0) 0 (pick (eqb (getD bs 0 0) 144) 2 (pick (ltb (getD bs 0 0) 176) 0 ((length bs - 1) / 2 * 2)))
+    pick (eqb (length bs) 0) 0 (pick (eqb (getD bs 0 0) 0x90) 2 (pick (ltb (getD bs 0 0) 0xB0) 0 ((length bs - 1) / 2 * 2)))

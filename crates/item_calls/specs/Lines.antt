@@ -1,5 +1,5 @@
--- The lines that move the model, in the order of the format's table: what each leaves. What stands in quotation marks is the
--- format's. Assumes nothing.
+-- The lines that move the model, in the order of the format's table: what each leaves. What stands in quotation marks is that
+-- of docs/ITEMS.md. Assumes nothing.
 use Prim.Native.Nat.{ℕ, zero, suc, _+_, _-_, _/_, min}
 use mathlib.Core.Bool.{Bool, true, false, cond}
 use mathlib.Core.List.{List, [], _∷_, _++_}
@@ -15,7 +15,7 @@ use Rattle.device.specs.Model.{freshModel}
 use Rattle.device.specs.Call.{Call}
 use Rattle.device.specs.Reply.{reply, output, memory}
 use Rattle.line.specs.declared.Content.{Content}
-use Rattle.wording.specs.Text.{ascii}
+use Rattle.numeral.specs.Ascii.{ascii}
 use Rattle.wording.specs.Wording.{Texts, lineFeed, bus, set as setTexts, delivery, numbered, single, nextNamed, noTick, named, stretch}
 use Rattle.item_state.specs.Log.{Log, added, said, called, refusals}
 use Rattle.item_calls.specs.Buffer.{bufferSize}
@@ -37,14 +37,14 @@ told r texts l = record { model = r .model; log = called (refusals (r .answer)) 
 
 -- ---- `item`
 
--- "a fresh model"; "An item has a flash memory of 8,192 bytes of its own, all FFh at its `item` line .., a record .. and a probe
--- table .., both empty there." The moment is 0 again.
+-- "a fresh model"; "An item has a user flash of 8,192 bytes of its own, all FFh at its start, a record of at most 4,096 differences and a
+-- probe table of at most 1,024 entries, both empty there." The moment is 0 again.
 unfoldable pub itemCounts : List ℕ → List ℕ
 itemCounts counts = set (set (set counts 9 0) 10 0) 11 0
 
 -- ---- `bus` and `set`
 
--- "since the last transaction that started a measurement ..: this count is 0 there"
+-- "since the last transaction that started a measurement, or since the item's start: that count is 0 there"
 unfoldable pub startMoment : Answer → List ℕ → List ℕ
 startMoment (Refused number) counts = counts
 startMoment (Accepted true temperature) counts = set counts 9 0
@@ -72,7 +72,7 @@ transacted call texts m l = record {
 unfoldable pub busLine : List ℕ → ℕ → WithFlash → WithFlash
 busLine bytes size s = transacted (Call.transaction bytes (replicate size 0xEE) (s .flash)) bus (s .model) (s .log)
 
--- "the transaction of A .. and .. words .., high byte first": its bytes, in parts
+-- "the transaction of A .. and .. words of 1 to 4 hexadecimal digits, high byte first": its bytes, in parts
 unfoldable pub wordBytes : List ℕ → List (List ℕ)
 wordBytes [] = []
 wordBytes (w ∷ ws) = lowBytes (w / 256 ∷ w ∷ []) ∷ wordBytes ws
@@ -86,7 +86,7 @@ setLine a ws s =
 
 -- ---- `tick`, `at` and `stretch`
 
--- "this count .. goes on with every tick and stretch"
+-- "goes on with every tick and stretch"
 unfoldable pub moved : ℕ → List ℕ → List ℕ
 moved n counts = added counts 9 n
 
@@ -152,7 +152,7 @@ ticksBegun n l =
 unfoldable pub tickLine : ℕ → Model → Log → Replayed
 tickLine n m l = cond (eqb n 1) (singleLine m l) (ticksPart n m (ticksBegun n l))
 
--- "single ticks until T ticks have passed": "`at T`"
+-- "single ticks until T ticks .. have passed": "`at T`"
 unfoldable pub atBegun : ℕ → Log → Log
 atBegun t l =
     unlessUnderWay
@@ -174,7 +174,7 @@ stretchLine n m l =
 
 -- ---- `flight` and `temperature`
 
--- "a flight delivery: the up words .., the down words"
+-- "a flight delivery: the up words, one `/`, the down words"
 unfoldable pub flightLine : List ℕ → List ℕ → Model → Log → Replayed
 flightLine up down m l =
     told (reply m (Call.flight up down)) (delivery (ascii "flight") (reply m (Call.flight up down) .answer)) l

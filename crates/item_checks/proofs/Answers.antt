@@ -139,7 +139,7 @@ begin-words (w ∷ ws) (v ∷ vs) rest e =
     let more : take (length ws) vs ≡ ws = cc in
     both-left w v ws vs rest ∙ rw same (same-first w (joined (blanked ws)) (later vs rest)) ∙ begin-words ws vs rest more
 
--- "`=>`: any answer will do"
+-- of a `=>` without words "any answer will do"
 pub any-answer : (bytes : List ℕ) → beginsWith (joined (spaced [])) bytes ≡ true
 unfolding beginsWith spaced joined
 any-answer bytes = refl

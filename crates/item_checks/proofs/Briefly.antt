@@ -9,7 +9,7 @@ use lib.Seq.{take-at, take-append-le, length-take-le}
 use borrow.Author.Tests.{le-leb, lt-leb}
 use Rattle.numeral.specs.Place.{overwrite, joined}
 use Rattle.numeral.proofs.PlaceLaws.{put-each}
-use Rattle.wording.specs.Text.{ascii}
+use Rattle.numeral.specs.Ascii.{ascii}
 use Rattle.wording.specs.Wording.{leftOut}
 use Rattle.item_state.specs.Log.{Log}
 use Rattle.item_checks.specs.Close.{briefly, cutOff, keptBriefly}

@@ -11,7 +11,7 @@ use Rattle.line.specs.declared.Content.{Content}
 use Rattle.line.specs.Line.{contentLength}
 use Rattle.line.specs.Words.{isBlank, ended, wordsAfter, words}
 use Rattle.line.specs.Spaced.{blanked, spaced}
-use Rattle.wording.specs.Text.{ascii}
+use Rattle.numeral.specs.Ascii.{ascii}
 use Rattle.wording.specs.Wording.{counted, why, fault, place, expected}
 use Rattle.item_state.specs.Log.{Log, added, said}
 use Rattle.item_checks.specs.Fault.{atLeastOne, comesWrong, isFault, leftOf, faultTold, faultLog}

@@ -1,5 +1,5 @@
 -- What is done when a line is answered: what the line expects of its answer, and what of it a check writes. What stands in
--- quotation marks is the format's. Assumes nothing.
+-- quotation marks is that of docs/ITEMS.md. Assumes nothing.
 --
 -- The counts by their places: 0 where the answers end, 4 the refusals, 5 those that are not announced, 6 the bad lines, 7 the
 -- expectations, 8 those that differ, 12 where what is written of the line starts, 14 not 0 in a check, 15 the end of the item's name,

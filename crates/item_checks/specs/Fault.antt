@@ -1,4 +1,4 @@
--- Lines that are no calls. What stands in quotation marks is the format's. Assumes nothing.
+-- Lines that are no calls. What stands in quotation marks is that of docs/ITEMS.md. Assumes nothing.
 use Prim.Native.Nat.{ℕ, _+_, min}
 use mathlib.Core.Bool.{Bool, true, false, cond}
 use mathlib.Core.List.{List}

@@ -1,5 +1,5 @@
 -- What is done before a line is answered on the model: it is counted, it gets its head in a check, and bad lines and the names of
--- items are answered. What stands in quotation marks is the format's. Assumes nothing.
+-- items are answered. What stands in quotation marks is that of docs/ITEMS.md. Assumes nothing.
 use Prim.Native.Nat.{ℕ}
 use mathlib.Core.Bool.{Bool, true, false, cond}
 use mathlib.Core.List.{List, [], _∷_, _++_}

@@ -17,7 +17,8 @@ use Rattle.device.specs.Call.{Verdict, accepted, firstOf}
 use Rattle.setup_frames.specs.declared.Framed.{Framed}
 use Rattle.setup_frames.specs.declared.Framed.the-variants.{Refused, Frames}
 use Rattle.setup_frames.specs.Frames.{frames, allBytes, lengthsOf, over, framesVerdict, answerBy, bytesBy, lengthsBy, Written}
-use Rattle.wording.specs.Text.{ascii, PutEach}
+use Rattle.numeral.specs.Ascii.{ascii}
+use Rattle.wording.specs.Text.{PutEach}
 use Rattle.wording.specs.Wording.{refused}
 use Rattle.wording.proofs.Each.{each-then, each-end, put-one}
 use Rattle.item_state.specs.Log.{Log, called}

@@ -18,7 +18,7 @@ use Rattle.device.specs.declared.Model.{Model}
 use Rattle.device.specs.Model.{isSound}
 use Rattle.device.specs.Question.{peek}
 use Rattle.device.specs.Registers.{registerWord}
-use Rattle.wording.specs.Text.{ascii}
+use Rattle.numeral.specs.Ascii.{ascii}
 use Rattle.wording.specs.Wording.{Texts, lineFeed, head, pair}
 use Rattle.item_state.specs.Told.{toldValue, readWord}
 use Rattle.item_questions.specs.Answers.{next, blankWord, rowWords, row, rows, registers}

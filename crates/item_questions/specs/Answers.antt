@@ -1,4 +1,4 @@
--- The answers of the lines that ask, in the order of the format's table. What stands in quotation marks is the format's. Assumes
+-- The answers of the lines that ask, in the order of the format's table. What stands in quotation marks is that of docs/ITEMS.md. Assumes
 -- nothing.
 use Prim.Native.Nat.{ℕ, zero, suc, _+_, _%_}
 use mathlib.Core.Bool.{cond}
@@ -13,7 +13,7 @@ use Rattle.device.specs.declared.Model.{Model}
 use Rattle.device.specs.Model.{isSound}
 use Rattle.device.specs.Question.{interruptPending, awaitedTold}
 use Rattle.line.specs.declared.Content.{Content}
-use Rattle.wording.specs.Text.{ascii}
+use Rattle.numeral.specs.Ascii.{ascii}
 use Rattle.setup_frames.specs.Frames.{frames}
 use Rattle.page.specs.Page.{pageTexts}
 use Rattle.wording.specs.Wording.{Texts, lineFeed, head, pair, refused, counted as Wording·counted}
@@ -75,14 +75,14 @@ expectation m a ws = head a (differing m a ws) ++ (pairs m a ws ++ (lineFeed ∷
 abbrev pub told : Model → ℕ → List ℕ → List ℕ → List ℕ → Placed
 told m a ws counts answers = putEach answers (getD counts 0 0) (expectation m a ws)
 
--- What `expect` leaves: the answer, and in the counts its end, "E the words of `expect` lines .., X those of E that differ".
+-- What `expect` leaves: the answer, and in the counts its end, "E the words of `expect` lines and the `=>`, X those of E that differ".
 pub record Expects (m : Model) (a : ℕ) (ws counts answers counts′ answers′ : List ℕ) : Type 0 where
   pub counted : counts′ ≡ added (added (set counts 0 (told m a ws counts answers .next)) 7 (length ws)) 8 (differing m a ws)
   pub said : answers′ ≡ told m a ws counts answers .bytes
 
 -- ---- `frames`
 
--- "`frame B ..`, the bytes of each": a blank and two digits a byte
+-- "lines `frame B ..`": a blank and two digits a byte
 unfoldable pub byteTexts : List ℕ → Texts
 byteTexts [] = []
 byteTexts (b ∷ bs) = ascii " " ∷ digits 16 2 b ∷ byteTexts bs
@@ -98,7 +98,7 @@ frameLines (f ∷ fs) = frameTexts f ++ frameLines fs
 unfoldable pub framesTold : ℕ → List (List ℕ) → Log → Log
 framesTold k fs l = called 0 (ascii "frames " ∷ (Wording·counted k lineFeed ++ frameLines fs)) l
 
--- "the model's set-up as bus frames"; an unsound model, which no item has, gets number 0
+-- "the set-up, 34h to 43h, as the fewest bytes of bus frames that bring a fresh chip to it"; an unsound model, which no item has, gets number 0
 unfoldable pub framesLine : Model → Log → Log
 framesLine m l = cond (isSound m) (framesTold (length (frames (m .setup))) (frames (m .setup)) l) (called 1 (refused (ascii "frames") 0) l)
 

@@ -9,7 +9,7 @@ use lib.ListN.{length, getD, take, drop, length-append, length-drop}
 use lib.Dec.{ltb, eqb}
 use lib.Seq.{drop-at, drop-drop, take-add, take-all}
 use mir.Val.{boolByte}
-use borrow.Author.Tests.{ltb-true, eq-eqb}
+use borrow.Author.Tests.{ltb-true, eq-eqb, ne-eqb}
 use Rattle.unit.specs.Choice.{both}
 use Rattle.unit.proofs.Cases.{by-test, by-eqb}
 use Rattle.calendar.specs.Calendar.{clockValid, dateFits}
@@ -267,3 +267,16 @@ loads-exactly bs m bytes f s = (
   λ e. stored-load bs bytes (ap isSound e ∙ s) ∙ ap stored e,
   λ e. ap loaded e ∙ load-store m f,
 )
+
+-- Bytes of another length, of another version, or with a flag that is neither 0 nor 1 hold no sound model.
+pub misformed-unsound : (bs : List ℕ) → formed bs ≡ false → isSound (loaded bs) ≡ false
+unfolding loaded
+misformed-unsound bs e = rw (e, nothing-unsound)
+
+pub other-length : (bs : List ℕ) → (length bs ≡ 233 → ⊥) → isSound (loaded bs) ≡ false
+unfolding formed
+other-length bs h = misformed-unsound bs (rw (ne-eqb (length bs) 233 h))
+
+pub other-version : (bs : List ℕ) → (getD bs 0 0 ≡ 1 → ⊥) → isSound (loaded bs) ≡ false
+unfolding formed
+other-version bs h = misformed-unsound bs (by-test (eqb (length bs) 233) (λ t. rw (t, ne-eqb (getD bs 0 0) 1 h)) (λ t. rw t))

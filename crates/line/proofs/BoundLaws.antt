@@ -6,6 +6,7 @@ use mathlib.Core.List.{List, [], _∷_}
 use lib.Dec.{ltb, eqb}
 use lib.ListN.{getD, take, drop}
 use borrow.Author.Tests.{ltb-false}
+use Rattle.numeral.specs.Ascii.{ascii}
 use Rattle.numeral.specs.declared.Number.{Number}
 use Rattle.numeral.specs.declared.Number.the-variants.{Value, Bad}
 use Rattle.numeral.specs.Read.{readHex, readDecimal}
@@ -152,7 +153,7 @@ listing-bounded : (ws : List (List ℕ)) → Bounded (listingCall ws)
 unfolding listingCall
 listing-bounded [] = tt
 listing-bounded (w ∷ ws) =
-    cond-cases Bounded (sameBytes w (111 ∷ 108 ∷ 100 ∷ [])) (λ _. hex-bounded true ws) (λ _. hex-bounded false (w ∷ ws))
+    cond-cases Bounded (sameBytes w (ascii "old")) (λ _. hex-bounded true ws) (λ _. hex-bounded false (w ∷ ws))
 
 later-bounded : (k : Keyword) (l : List ℕ) (ws : List (List ℕ)) → Within (laterReading k l ws)
 unfolding laterReading probeReading degreesReading recordReading

@@ -3,6 +3,7 @@ use Prim.Native.Nat.{ℕ}
 use mathlib.Core.Path.{_≡_, refl}
 use mathlib.Core.Bool.{true}
 use mathlib.Core.List.{List, [], _∷_}
+use Rattle.numeral.specs.Ascii.{ascii}
 use Rattle.numeral.specs.Digit.{digitOf, areDigits, valueOf}
 use Rattle.numeral.specs.Read.{valueIn, readHex, readDecimal, readSigned, negated}
 use Rattle.line.specs.declared.Content.{Content}
@@ -19,136 +20,136 @@ unfolding lineReading contentLength wordsReading words wordsAfter ended isBlank 
 said cs = lineReading [] cs .content
 
 -- `int x`
-word-past : said (105 ∷ 110 ∷ 116 ∷ 32 ∷ 120 ∷ []) ≡ WrongCount
-unfolding said
+word-past : said (ascii "int x") ≡ WrongCount
+unfolding said ascii
 word-past = refl
 
 -- `tick 5 x`
-number-and-word-past : said (116 ∷ 105 ∷ 99 ∷ 107 ∷ 32 ∷ 53 ∷ 32 ∷ 120 ∷ []) ≡ WrongCount
-unfolding said
+number-and-word-past : said (ascii "tick 5 x") ≡ WrongCount
+unfolding said ascii
 number-and-word-past = refl
 
 -- `tick -1`
-no-decimal : said (116 ∷ 105 ∷ 99 ∷ 107 ∷ 32 ∷ 45 ∷ 49 ∷ []) ≡ BadNumber
-unfolding said
+no-decimal : said (ascii "tick -1") ≡ BadNumber
+unfolding said ascii
 no-decimal = refl
 
 -- `BUS 05`
-capitals : said (66 ∷ 85 ∷ 83 ∷ 32 ∷ 48 ∷ 53 ∷ []) ≡ UnknownWord
-unfolding said
+capitals : said (ascii "BUS 05") ≡ UnknownWord
+unfolding said ascii
 capitals = refl
 
 -- `flight 1 / 2`
-flight : said (102 ∷ 108 ∷ 105 ∷ 103 ∷ 104 ∷ 116 ∷ 32 ∷ 49 ∷ 32 ∷ 47 ∷ 32 ∷ 50 ∷ []) ≡ Flight 1 1
-unfolding said
+flight : said (ascii "flight 1 / 2") ≡ Flight 1 1
+unfolding said ascii
 flight = refl
 
 -- `flight 1 2`
-no-slash : said (102 ∷ 108 ∷ 105 ∷ 103 ∷ 104 ∷ 116 ∷ 32 ∷ 49 ∷ 32 ∷ 50 ∷ []) ≡ WrongCount
-unfolding said
+no-slash : said (ascii "flight 1 2") ≡ WrongCount
+unfolding said ascii
 no-slash = refl
 
 -- `flight 1 / 2 / 3`
-second-slash : said (102 ∷ 108 ∷ 105 ∷ 103 ∷ 104 ∷ 116 ∷ 32 ∷ 49 ∷ 32 ∷ 47 ∷ 32 ∷ 50 ∷ 32 ∷ 47 ∷ 32 ∷ 51 ∷ []) ≡ WrongCount
-unfolding said
+second-slash : said (ascii "flight 1 / 2 / 3") ≡ WrongCount
+unfolding said ascii
 second-slash = refl
 
 -- `expect AF 0`
-low-address : said (101 ∷ 120 ∷ 112 ∷ 101 ∷ 99 ∷ 116 ∷ 32 ∷ 65 ∷ 70 ∷ 32 ∷ 48 ∷ []) ≡ BadNumber
-unfolding said
+low-address : said (ascii "expect AF 0") ≡ BadNumber
+unfolding said ascii
 low-address = refl
 
 -- `expect FF 0 x`
-one-word-past : said (101 ∷ 120 ∷ 112 ∷ 101 ∷ 99 ∷ 116 ∷ 32 ∷ 70 ∷ 70 ∷ 32 ∷ 48 ∷ 32 ∷ 120 ∷ []) ≡ WrongCount
-unfolding said
+one-word-past : said (ascii "expect FF 0 x") ≡ WrongCount
+unfolding said ascii
 one-word-past = refl
 
 -- `bus out=07 B0`
-bus-out : said (98 ∷ 117 ∷ 115 ∷ 32 ∷ 111 ∷ 117 ∷ 116 ∷ 61 ∷ 48 ∷ 55 ∷ 32 ∷ 66 ∷ 48 ∷ []) ≡ BusOut 7 1
-unfolding said
+bus-out : said (ascii "bus out=07 B0") ≡ BusOut 7 1
+unfolding said ascii
 bus-out = refl
 
 -- `bus 5`
-one-digit : said (98 ∷ 117 ∷ 115 ∷ 32 ∷ 53 ∷ []) ≡ BadNumber
-unfolding said
+one-digit : said (ascii "bus 5") ≡ BadNumber
+unfolding said ascii
 one-digit = refl
 
 -- ` # tick x`
-passed-over : said (32 ∷ 35 ∷ 32 ∷ 116 ∷ 105 ∷ 99 ∷ 107 ∷ 32 ∷ 120 ∷ []) ≡ Nothing
-unfolding said
+passed-over : said (ascii " # tick x") ≡ Nothing
+unfolding said ascii
 passed-over = refl
 
 -- `tick 2`, and a carriage return
 return-dropped : said (116 ∷ 105 ∷ 99 ∷ 107 ∷ 32 ∷ 50 ∷ 13 ∷ []) ≡ Tick 2
-unfolding said
+unfolding said ascii
 return-dropped = refl
 
 -- `tick 5 => x 6`
-tick-marked : said (116 ∷ 105 ∷ 99 ∷ 107 ∷ 32 ∷ 53 ∷ 32 ∷ 61 ∷ 62 ∷ 32 ∷ 120 ∷ 32 ∷ 54 ∷ []) ≡ Tick 5
-unfolding said
+tick-marked : said (ascii "tick 5 => x 6") ≡ Tick 5
+unfolding said ascii
 tick-marked = refl
 
 -- `=> 5`
-mark-first : said (61 ∷ 62 ∷ 32 ∷ 53 ∷ []) ≡ UnknownWord
-unfolding said
+mark-first : said (ascii "=> 5") ≡ UnknownWord
+unfolding said ascii
 mark-first = refl
 
 -- `show =>`
-show-unmarked : said (115 ∷ 104 ∷ 111 ∷ 119 ∷ 32 ∷ 61 ∷ 62 ∷ []) ≡ WrongCount
-unfolding said
+show-unmarked : said (ascii "show =>") ≡ WrongCount
+unfolding said ascii
 show-unmarked = refl
 
 -- `set 38 1 FFFF`
-set-of-two : said (115 ∷ 101 ∷ 116 ∷ 32 ∷ 51 ∷ 56 ∷ 32 ∷ 49 ∷ 32 ∷ 70 ∷ 70 ∷ 70 ∷ 70 ∷ []) ≡ Set 56 2
-unfolding said
+set-of-two : said (ascii "set 38 1 FFFF") ≡ Set 56 2
+unfolding said ascii
 set-of-two = refl
 
 -- `set 2F 0`
-set-below : said (115 ∷ 101 ∷ 116 ∷ 32 ∷ 50 ∷ 70 ∷ 32 ∷ 48 ∷ []) ≡ BadNumber
-unfolding said
+set-below : said (ascii "set 2F 0") ≡ BadNumber
+unfolding said ascii
 set-below = refl
 
 -- `at 100`
-at-moment : said (97 ∷ 116 ∷ 32 ∷ 49 ∷ 48 ∷ 48 ∷ []) ≡ At 100
-unfolding said
+at-moment : said (ascii "at 100") ≡ At 100
+unfolding said ascii
 at-moment = refl
 
 -- `degrees 1 2 x`
-three-for-degrees : said (100 ∷ 101 ∷ 103 ∷ 114 ∷ 101 ∷ 101 ∷ 115 ∷ 32 ∷ 49 ∷ 32 ∷ 50 ∷ 32 ∷ 120 ∷ []) ≡ WrongCount
-unfolding said
+three-for-degrees : said (ascii "degrees 1 2 x") ≡ WrongCount
+unfolding said ascii
 three-for-degrees = refl
 
 -- `degrees 1 F`
-two-for-degrees : said (100 ∷ 101 ∷ 103 ∷ 114 ∷ 101 ∷ 101 ∷ 115 ∷ 32 ∷ 49 ∷ 32 ∷ 70 ∷ []) ≡ Degrees
-unfolding said
+two-for-degrees : said (ascii "degrees 1 F") ≡ Degrees
+unfolding said ascii
 two-for-degrees = refl
 
 -- `record`
-record-none : said (114 ∷ 101 ∷ 99 ∷ 111 ∷ 114 ∷ 100 ∷ []) ≡ Record 0
-unfolding said
+record-none : said (ascii "record") ≡ Record 0
+unfolding said ascii
 record-none = refl
 
 -- `record -1 2`
-record-two : said (114 ∷ 101 ∷ 99 ∷ 111 ∷ 114 ∷ 100 ∷ 32 ∷ 45 ∷ 49 ∷ 32 ∷ 50 ∷ []) ≡ Record 2
-unfolding said
+record-two : said (ascii "record -1 2") ≡ Record 2
+unfolding said ascii
 record-two = refl
 
 -- `record +1`
-record-plus : said (114 ∷ 101 ∷ 99 ∷ 111 ∷ 114 ∷ 100 ∷ 32 ∷ 43 ∷ 49 ∷ []) ≡ BadNumber
-unfolding said
+record-plus : said (ascii "record +1") ≡ BadNumber
+unfolding said ascii
 record-plus = refl
 
 -- `listing old F4`
-listing-old : said (108 ∷ 105 ∷ 115 ∷ 116 ∷ 105 ∷ 110 ∷ 103 ∷ 32 ∷ 111 ∷ 108 ∷ 100 ∷ 32 ∷ 70 ∷ 52 ∷ []) ≡ Listing true 244
-unfolding said
+listing-old : said (ascii "listing old F4") ≡ Listing true 244
+unfolding said ascii
 listing-old = refl
 
 -- `listing old`
-listing-old-alone : said (108 ∷ 105 ∷ 115 ∷ 116 ∷ 105 ∷ 110 ∷ 103 ∷ 32 ∷ 111 ∷ 108 ∷ 100 ∷ []) ≡ WrongCount
-unfolding said
+listing-old-alone : said (ascii "listing old") ≡ WrongCount
+unfolding said ascii
 listing-old-alone = refl
 
 -- `quietest 3`
-quietest-three : said (113 ∷ 117 ∷ 105 ∷ 101 ∷ 116 ∷ 101 ∷ 115 ∷ 116 ∷ 32 ∷ 51 ∷ []) ≡ Quietest 3
-unfolding said
+quietest-three : said (ascii "quietest 3") ≡ Quietest 3
+unfolding said ascii
 quietest-three = refl

@@ -4,6 +4,7 @@ use mathlib.Core.Bool.{Bool, true, false, cond}
 use mathlib.Core.List.{List, [], _∷_}
 use lib.Dec.{ltb, eqb}
 use lib.ListN.{length, getD, take, drop}
+use Rattle.numeral.specs.Ascii.{ascii}
 use Rattle.numeral.specs.declared.Number.{Number}
 use Rattle.numeral.specs.declared.Number.the-variants.{Value, Bad}
 use Rattle.numeral.specs.Read.{readHex, readDecimal}
@@ -53,7 +54,7 @@ bytesReading content l ws = readBy (bytesCall content) (tallied byteForm 0 0 0 l
 
 -- `bus out=N B ..`: the same with an output buffer of N bytes, N decimal, 0 to 200.
 unfoldable pub isOut : List ℕ → Bool
-isOut w = cond (ltb (length w) 4) false (sameBytes (take 4 w) (111 ∷ 117 ∷ 116 ∷ 61 ∷ []))
+isOut w = cond (ltb (length w) 4) false (sameBytes (take 4 w) (ascii "out="))
 
 unfoldable pub outReading : Number → List ℕ → List (List ℕ) → Reading
 outReading Bad l ws = reading BadNumber l
@@ -183,40 +184,41 @@ hexCall old (w ∷ ws) = hexWith old (readHex 1 8 w) ws
 
 unfoldable pub listingCall : List (List ℕ) → Content
 listingCall [] = WrongCount
-listingCall (w ∷ ws) = cond (sameBytes w (111 ∷ 108 ∷ 100 ∷ [])) (hexCall true ws) (hexCall false (w ∷ ws))
+listingCall (w ∷ ws) = cond (sameBytes w (ascii "old")) (hexCall true ws) (hexCall false (w ∷ ws))
 
 -- The first word, in small letters.
 abbrev pub lastKeyword : List ℕ → Keyword
 lastKeyword w =
-    cond (sameBytes w (100 ∷ 101 ∷ 103 ∷ 114 ∷ 101 ∷ 101 ∷ 115 ∷ [])) Keyword.Degrees
-    (cond (sameBytes w (114 ∷ 101 ∷ 99 ∷ 111 ∷ 114 ∷ 100 ∷ [])) Keyword.Record
-    (cond (sameBytes w (108 ∷ 105 ∷ 115 ∷ 116 ∷ 105 ∷ 110 ∷ 103 ∷ [])) Keyword.Listing
-    (cond (sameBytes w (113 ∷ 117 ∷ 105 ∷ 101 ∷ 116 ∷ 101 ∷ 115 ∷ 116 ∷ [])) Keyword.Quietest Keyword.Unknown)))
+    cond (sameBytes w (ascii "degrees")) Keyword.Degrees
+    (cond (sameBytes w (ascii "record")) Keyword.Record
+    (cond (sameBytes w (ascii "listing")) Keyword.Listing
+    (cond (sameBytes w (ascii "quietest")) Keyword.Quietest Keyword.Unknown)))
 
 abbrev pub laterKeyword : List ℕ → Keyword
 laterKeyword w =
-    cond (sameBytes w (115 ∷ 101 ∷ 116 ∷ [])) Keyword.Set
-    (cond (sameBytes w (97 ∷ 116 ∷ [])) Keyword.At
-    (cond (sameBytes w (115 ∷ 116 ∷ 114 ∷ 101 ∷ 116 ∷ 99 ∷ 104 ∷ [])) Keyword.Stretch
-    (cond (sameBytes w (102 ∷ 114 ∷ 97 ∷ 109 ∷ 101 ∷ 115 ∷ [])) Keyword.Frames
-    (cond (sameBytes w (112 ∷ 114 ∷ 111 ∷ 98 ∷ 101 ∷ [])) Keyword.Probe (lastKeyword w)))))
+    cond (sameBytes w (ascii "set")) Keyword.Set
+    (cond (sameBytes w (ascii "at")) Keyword.At
+    (cond (sameBytes w (ascii "stretch")) Keyword.Stretch
+    (cond (sameBytes w (ascii "frames")) Keyword.Frames
+    (cond (sameBytes w (ascii "probe")) Keyword.Probe (lastKeyword w)))))
 
 abbrev pub otherKeyword : List ℕ → Keyword
 otherKeyword w =
-    cond (sameBytes w (105 ∷ 110 ∷ 116 ∷ [])) Keyword.Int
-    (cond (sameBytes w (97 ∷ 119 ∷ 97 ∷ 105 ∷ 116 ∷ 101 ∷ 100 ∷ [])) Keyword.Awaited
-    (cond (sameBytes w (114 ∷ 101 ∷ 103 ∷ 115 ∷ [])) Keyword.Regs
-    (cond (sameBytes w (101 ∷ 120 ∷ 112 ∷ 101 ∷ 99 ∷ 116 ∷ [])) Keyword.Expect
-    (cond (sameBytes w (115 ∷ 104 ∷ 111 ∷ 119 ∷ [])) Keyword.Show (laterKeyword w)))))
+    cond (sameBytes w (ascii "int")) Keyword.Int
+    (cond (sameBytes w (ascii "awaited")) Keyword.Awaited
+    (cond (sameBytes w (ascii "regs")) Keyword.Regs
+    (cond (sameBytes w (ascii "expect")) Keyword.Expect
+    (cond (sameBytes w (ascii "show")) Keyword.Show (laterKeyword w)))))
 
 unfoldable pub keywordOf : List ℕ → Keyword
 keywordOf w =
-    cond (sameBytes w (105 ∷ 116 ∷ 101 ∷ 109 ∷ [])) Keyword.Item
-    (cond (sameBytes w (98 ∷ 117 ∷ 115 ∷ [])) Keyword.Bus
-    (cond (sameBytes w (116 ∷ 105 ∷ 99 ∷ 107 ∷ [])) Keyword.Tick
-    (cond (sameBytes w (102 ∷ 108 ∷ 105 ∷ 103 ∷ 104 ∷ 116 ∷ [])) Keyword.Flight
-    (cond (sameBytes w (116 ∷ 101 ∷ 109 ∷ 112 ∷ 101 ∷ 114 ∷ 97 ∷ 116 ∷ 117 ∷ 114 ∷ 101 ∷ [])) Keyword.Temperature (otherKeyword w)))))
+    cond (sameBytes w (ascii "item")) Keyword.Item
+    (cond (sameBytes w (ascii "bus")) Keyword.Bus
+    (cond (sameBytes w (ascii "tick")) Keyword.Tick
+    (cond (sameBytes w (ascii "flight")) Keyword.Flight
+    (cond (sameBytes w (ascii "temperature")) Keyword.Temperature (otherKeyword w)))))
 
+-- the lines of 02's calls; those of the other words are read by `keywordReading`, and do not come here
 unfoldable pub laterReading : Keyword → List ℕ → List (List ℕ) → Reading
 laterReading Keyword.Set l ws = setReading l ws
 laterReading Keyword.At l ws = reading (decimalCall Counted.At ws) l

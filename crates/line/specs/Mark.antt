@@ -5,6 +5,7 @@ use mathlib.Core.Bool.{Bool, true, false, cond}
 use mathlib.Core.List.{List, [], _∷_}
 use lib.Dec.{ltb}
 use lib.ListN.{length, take, drop}
+use Rattle.numeral.specs.Ascii.{ascii}
 use Rattle.line.specs.declared.Keyword.{Keyword}
 use Rattle.line.specs.Words.{words, sameBytes}
 
@@ -32,7 +33,7 @@ takesMark Keyword.Quietest = true
 takesMark Keyword.Unknown = true
 
 unfoldable pub isMark : List ℕ → Bool
-isMark w = sameBytes w (61 ∷ 62 ∷ [])
+isMark w = sameBytes w (ascii "=>")
 
 -- The words before the first mark: all of them where there is none.
 unfoldable pub beforeMark : List (List ℕ) → List (List ℕ)

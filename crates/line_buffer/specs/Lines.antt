@@ -1,4 +1,4 @@
--- The lines of what is read. What stands in quotation marks is the format's. Assumes nothing.
+-- The lines of what is read. What stands in quotation marks is that of docs/ITEMS.md. Assumes nothing.
 use Prim.Native.Nat.{ℕ, _+_}
 use mathlib.Core.Bool.{Bool, true, false, cond}
 use mathlib.Core.List.{List, [], _∷_, _++_}

@@ -13,7 +13,7 @@ use Rattle.listing.specs.declared.Listed.{Listed}
 use Rattle.listing.specs.Listing.{captureDigits, lineLength, lastAbove, listing}
 use Rattle.listing.proofs.Meaning.{Fit, lines-length}
 use Rattle.line.specs.declared.Content.{Content}
-use Rattle.wording.specs.Text.{ascii}
+use Rattle.numeral.specs.Ascii.{ascii}
 use Rattle.wording.specs.Wording.{Texts, lineFeed, place, expected as expectedTexts, leftOut, refused, listingHead}
 use Rattle.item_state.specs.Log.{Log, added, put, said, counted, called}
 use Rattle.item_calls.specs.Lines.{callLine, timedLine, beside}

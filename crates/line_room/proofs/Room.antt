@@ -14,7 +14,7 @@ use Rattle.line.specs.Mark.{isMark, behindMark, takesMark}
 use Rattle.line.specs.Spaced.{blanked, spaced}
 use Rattle.line.specs.Line.{Bounded, keywordOf, wordsExpected, contentLength, lineReading, lineExpected}
 use Rattle.line.proofs.BoundLaws.{line-bounded}
-use Rattle.wording.specs.Text.{ascii}
+use Rattle.numeral.specs.Ascii.{ascii}
 use Rattle.wording.specs.Wording.{Texts, lineFeed, place, why, fault, expected as expectedTexts, itemName}
 use Rattle.item_state.specs.Log.{Log, added}
 use Rattle.item_checks.specs.Fault.{isFault, leftOf}

@@ -218,7 +218,7 @@ module _ {base head own counts : List ℕ} {l : Log} (w : Written base head own 
       go true = w
       go false = written-more 5 (λ e. omega arith) (λ e. omega arith) (λ e. omega arith)
 
--- ---- "of an answer of more than 2,051 bytes the first 2,048 and ` ..`"
+-- ---- "of an answer of more than 2,051 bytes, its line feeds among them, the first 2,048 and ` ..`"
 
 -- The other counts stay as they are.
 cut-count : (l : Log) (p : ℕ) → (p ≡ 0 → ⊥) → getD (cutOff l .counts) p 0 ≡ getD (l .counts) p 0

@@ -13,7 +13,7 @@ use Rattle.line.specs.declared.Content.{Content}
 use Rattle.line.specs.Words.{isBlank, ended, wordsAfter, words}
 use Rattle.line.specs.Line.{contentLength}
 use Rattle.line.specs.Spaced.{blanked, spaced}
-use Rattle.wording.specs.Text.{ascii}
+use Rattle.numeral.specs.Ascii.{ascii}
 use Rattle.wording.specs.Wording.{why, fault, place, counted, expected}
 use Rattle.item_state.specs.Log.{added}
 use Rattle.device.specs.declared.Model.{Model}

@@ -21,7 +21,7 @@ use Rattle.quietest.specs.declared.Place.{Place}
 use Rattle.listing.specs.Listing.{captureDigits, lines, lastAbove}
 use Rattle.setup_frames.specs.Frames.{frames}
 use Rattle.line.specs.declared.Content.{Content}
-use Rattle.wording.specs.Text.{ascii}
+use Rattle.numeral.specs.Ascii.{ascii}
 use Rattle.wording.specs.Wording.{Texts, lineFeed, numbered, counted as countedTexts, refused, listingHead}
 use Rattle.item_state.specs.Log.{Log, added, counted, called, refusals}
 use Rattle.item_calls.specs.Lines.{WithFlash, told, itemCounts, startMoment, transacted, busLine, setLine, moved, singleLine, ticksPart, ticksAhead, unlessUnderWay, ticksBegun, tickLine, atBegun, atLine, movedBy, stretchLine, flightLine, temperatureLine, beside, itemLine, timedLine, callLine}

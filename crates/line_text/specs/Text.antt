@@ -1,5 +1,5 @@
 -- The text that a line adds to what is written, apart from the buffer that it is put into. It is of a line that is answered whole: no
--- line is under way before it or after it. What stands in quotation marks is the format's. Assumes nothing.
+-- line is under way before it or after it. What stands in quotation marks is that of docs/ITEMS.md. Assumes nothing.
 use Prim.Native.Nat.{ℕ, _+_}
 use mathlib.Core.Bool.{Bool, false, cond}
 use mathlib.Core.List.{List, [], _∷_, _++_}
@@ -60,7 +60,8 @@ ownTold content text numbers names s counts =
 
 -- ---- behind it
 
--- The answer that is judged and shown: in a check, "of an answer of more than 2,051 bytes the first 2,048 and ` ..`"
+-- The answer that is judged and shown: in a check, "of an answer of more than 2,051 bytes, its line feeds among them, the first 2,048
+-- and ` ..` are taken for it"
 unfoldable pub shownAnswer : List ℕ → List ℕ → List ℕ
 shownAnswer counts answer = cond (eqb (getD counts 14 0) 0) answer (briefly answer)
 

@@ -11,7 +11,7 @@ use Rattle.listing.specs.Listing.{rightJustified}
 use Rattle.device.specs.Event.{ticks}
 use Rattle.run_state.specs.declared.Placed.the-variants.{Event}
 use Rattle.run_state.specs.Event.{placeBy}
-use Rattle.wording.specs.Text.{ascii}
+use Rattle.numeral.specs.Ascii.{ascii}
 use Rattle.wording.specs.Wording.{counted, reportedWhere}
 use Rattle.page.specs.Row.{registerRow, pairRow, plural, binary}
 use Rattle.page.specs.Clock.{seconds, hours, timeOfDay, halfDay, dateTexts, clockRow, alarmTexts, alarmRow}

@@ -29,7 +29,7 @@ use Rattle.device.specs.Model.{isSound}
 use Rattle.device.specs.Registers.{calendarWord, registerWord}
 use Rattle.device.specs.Question.{peek}
 use Rattle.device.proofs.Sound.{bounds-of}
-use Rattle.wording.specs.Text.{ascii}
+use Rattle.numeral.specs.Ascii.{ascii}
 use Rattle.wording.specs.Wording.{Texts}
 use Rattle.item_state.specs.Told.{toldValue, readWord}
 use Rattle.page.specs.Row.{registerRow, pairRow, storedRow, absentRow, absentPair, plural}

@@ -18,7 +18,7 @@ use Rattle.device.specs.Question.{peek}
 use Rattle.device.specs.Bus.{mustBeIdle, startsFlight, startsTemperature, isEvent, commandBusy, beforeInitialize, flightSideUnset, temperatureSideUnset, eventSideUnset, commandUnset, initialisedModel}
 use Rattle.device.specs.Call.{verdict, firstOf, table, noFrame, notCarried, wrongLength, pastRegisters, shortOutput, whileBusy, supplyOff, unreachable, unerased, badCalendar, notInitialised, badSetup, notAwaited, miscounted, tooLong}
 use Rattle.device.specs.Reply.{reply, replyBy, acceptedAnswer, numberIn}
-use Rattle.wording.specs.Text.{ascii}
+use Rattle.numeral.specs.Ascii.{ascii}
 use Rattle.wording.specs.Wording.{refusalWords, refusalWord, refusal, reportedWhere}
 use Rattle.item_state.specs.Told.{toldValue, readWord}
 use Rattle.page.specs.Row.{binary}

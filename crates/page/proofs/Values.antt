@@ -18,7 +18,7 @@ use Rattle.device.specs.Claim.{Holds}
 use Rattle.device.specs.Terms.{bit}
 use Rattle.device.proofs.RegisterMeaning.{reads-setup, reads-status, reads-counts, reads-ups}
 use Rattle.device.proofs.StatusMeaning.{status-means}
-use Rattle.wording.specs.Text.{ascii}
+use Rattle.numeral.specs.Ascii.{ascii}
 use Rattle.wording.specs.Wording.{Texts, reportedWhere}
 use Rattle.item_state.specs.Told.{readWord}
 use Rattle.page.specs.Row.{binary}

@@ -34,7 +34,7 @@ use Rattle.device.proofs.Sound.{ScheduleBounds, bounds-of}
 use Rattle.device.proofs.Table.{refused-means, number-refused, number-accepted}
 use Rattle.run_state.specs.State.{initialisedTold, leftTold}
 use Rattle.run_state.specs.Event.{nextStart, placeOf, placeTold}
-use Rattle.wording.specs.Text.{ascii}
+use Rattle.numeral.specs.Ascii.{ascii}
 use Rattle.wording.specs.Wording.{Texts, counted, reportedWhere, refusalWords, refusalWord, refusal}
 use Rattle.item_state.specs.Told.{toldValue, readWord}
 use Rattle.page.specs.Row.{registerRow, pairRow, storedRow, absentRow, absentPair, plural, binary}
@@ -692,7 +692,7 @@ joined-narrow : (rows : List Texts) → All (λ (row : Texts). width row ≤ 80)
 joined-narrow [] a = tt
 joined-narrow (row ∷ rows) a = (rw (width-joined row) (a .0), joined-narrow rows (a .1))
 
--- "its width at most 80", for every model, sound or not, whose waits are numbers of 32 bits, as those of the code are
+-- No row has more than 80 characters, for every model, sound or not, whose waits are numbers of 32 bits, as those of the code are
 pub page-narrow : (m : Model) → m .flight .schedule .wait .0 < 2 ^ 32 → m .temperature .schedule .wait .0 < 2 ^ 32
     → All (λ (row : Texts). length (joined row) ≤ 80) (page m)
 unfolding page

@@ -8,7 +8,7 @@ use Rattle.calendar.specs.Words.{twelveIn}
 use Rattle.numeral.specs.Digit.{digits}
 use Rattle.numeral.specs.Print.{decimal}
 use Rattle.device.specs.declared.Model.{Model}
-use Rattle.wording.specs.Text.{ascii}
+use Rattle.numeral.specs.Ascii.{ascii}
 use Rattle.wording.specs.Wording.{Texts}
 use Rattle.item_state.specs.Told.{readWord}
 use Rattle.page.specs.Row.{registerRow, storedRow}

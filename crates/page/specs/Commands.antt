@@ -10,7 +10,7 @@ use Rattle.device.specs.declared.Answer.{Answer}
 use Rattle.device.specs.Bus.{startsFlight, startsTemperature, isEvent}
 use Rattle.device.specs.Call.{Call}
 use Rattle.device.specs.Reply.{reply, numberIn}
-use Rattle.wording.specs.Text.{ascii}
+use Rattle.numeral.specs.Ascii.{ascii}
 use Rattle.wording.specs.Wording.{Texts, refusal, reportedWhere}
 use Rattle.item_state.specs.Told.{readWord}
 use Rattle.page.specs.Row.{binary}

@@ -9,7 +9,7 @@ use Rattle.numeral.specs.Print.{decimal, nanoseconds, signedNanoseconds}
 use Rattle.listing.specs.Listing.{rightJustified}
 use Rattle.device.specs.declared.Model.{Model}
 use Rattle.device.specs.Question.{regulatorOn}
-use Rattle.wording.specs.Text.{ascii}
+use Rattle.numeral.specs.Ascii.{ascii}
 use Rattle.wording.specs.Wording.{Texts, reportedWhere}
 use Rattle.item_state.specs.Told.{toldValue, readWord}
 use Rattle.page.specs.Row.{registerRow, pairRow, absentRow, absentPair}

@@ -9,7 +9,7 @@ use Rattle.run_state.specs.declared.Placed.{Placed}
 use Rattle.run_state.specs.declared.Placed.the-variants.{Refused, NoEvent, Event}
 use Rattle.run_state.specs.State.{initialisedTold, leftTold}
 use Rattle.run_state.specs.Event.{placeTold}
-use Rattle.wording.specs.Text.{ascii}
+use Rattle.numeral.specs.Ascii.{ascii}
 use Rattle.wording.specs.Wording.{Texts, counted, reportedWhere}
 use Rattle.item_state.specs.Told.{toldValue}
 use Rattle.page.specs.Row.{plural}

@@ -7,7 +7,7 @@ use Rattle.unit.specs.Bits.{bits, isSet}
 use Rattle.setup.specs.Table11.{stopRow, timeoutRow}
 use Rattle.numeral.specs.Print.{decimal}
 use Rattle.device.specs.declared.Model.{Model}
-use Rattle.wording.specs.Text.{ascii}
+use Rattle.numeral.specs.Ascii.{ascii}
 use Rattle.wording.specs.Wording.{Texts, counted, reportedWhere}
 use Rattle.item_state.specs.Told.{readWord}
 use Rattle.page.specs.Row.{registerRow, storedRow, plural, binary}

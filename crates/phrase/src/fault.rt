@@ -1,6 +1,7 @@
 // Lines that are no calls.
 ghost use Rattle.numeral.specs.Place.{Put};
-ghost use Rattle.wording.specs.Text.{ascii, PutEach};
+ghost use Rattle.numeral.specs.Ascii.{ascii};
+ghost use Rattle.wording.specs.Text.{PutEach};
 ghost use Rattle.wording.specs.Wording.{why, fault};
 use line::Content;
 

@@ -1,6 +1,7 @@
 // The words with which answers begin, and answers that are few words.
 ghost use mathlib.Core.List.{[], _∷_};
-ghost use Rattle.wording.specs.Text.{ascii, PutEach};
+ghost use Rattle.numeral.specs.Ascii.{ascii};
+ghost use Rattle.wording.specs.Text.{PutEach};
 ghost use Rattle.wording.specs.Wording.{lineFeed, numbered, stretch, delivery, refused, listingHead, place, expected, leftOut, itemName};
 use crate::delivery::put_delivery;
 use crate::end::put_count;

@@ -3,7 +3,8 @@ ghost use mathlib.Core.Path.{_≡_};
 ghost use Prim.Native.Nat.{_≤_, min};
 ghost use lib.ListN.{length};
 ghost use Rattle.numeral.specs.Place.{Put};
-ghost use Rattle.wording.specs.Text.{ascii, PutEach};
+ghost use Rattle.numeral.specs.Ascii.{ascii};
+ghost use Rattle.wording.specs.Text.{PutEach};
 ghost use Rattle.wording.specs.Wording.{refusalWord, refusal};
 
 // ` no NUMBER WORD`

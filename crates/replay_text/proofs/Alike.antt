@@ -21,7 +21,7 @@ use Rattle.listing.specs.Listing.{lines, lastAbove}
 use Rattle.setup_frames.specs.Frames.{frames}
 use Rattle.numeral.specs.Place.{putEach}
 use Rattle.line.specs.declared.Content.{Content}
-use Rattle.wording.specs.Text.{ascii}
+use Rattle.numeral.specs.Ascii.{ascii}
 use Rattle.wording.specs.Wording.{Texts, lineFeed, counted, refused, listingHead}
 use Rattle.item_state.specs.Log.{Log, added, refusals}
 use Rattle.item_calls.specs.Lines.{WithFlash, itemCounts, startMoment, moved, movedBy, callLine, timedLine, beside, itemLine, busLine, setLine, transacted, singleLine, tickLine, stretchLine, flightLine, temperatureLine, told}

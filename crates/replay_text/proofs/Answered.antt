@@ -30,7 +30,7 @@ use Rattle.setup_frames.specs.Frames.{frames}
 use Rattle.line.specs.declared.Content.{Content}
 use Rattle.line.specs.Line.{lineReading}
 use Rattle.line_buffer.specs.Lines.{textLines}
-use Rattle.wording.specs.Text.{ascii}
+use Rattle.numeral.specs.Ascii.{ascii}
 use Rattle.wording.specs.Wording.{Texts, lineFeed, refusal, started, busAnswer, outputBuffer, bus, set as setTexts, deliveryAnswer, delivery, numbered, quiet, ticked as tickTexts, single, stretched, stretch, counted, degrees, refused, listingHead, quietest}
 use Rattle.item_state.specs.Log.{refusals}
 use Rattle.item_calls.specs.Lines.{callLine, timedLine, beside}

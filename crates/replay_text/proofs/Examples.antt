@@ -22,7 +22,7 @@ use Rattle.line.specs.Words.{isBlank, ended, wordsAfter, words, sameBytes}
 use Rattle.line.specs.Mark.{takesMark, beforeMark, behindMark, isMark}
 use Rattle.line.specs.Line.{alone, numbered as numberedLine, decimalWith, decimalCall, keywordOf, keywordReading, laterReading, wordsReading, wordsExpected, contentLength, lineReading, lineExpected}
 use Rattle.line_buffer.specs.Lines.{hasLine, withFirst, linesIn, restIn, lastLine, textLines, eachLine}
-use Rattle.wording.specs.Text.{ascii}
+use Rattle.numeral.specs.Ascii.{ascii}
 use Rattle.wording.specs.Wording.{lineFeed, numbered, counted, calls, faults, nextNamed, sooner, why, fault}
 use Rattle.item_state.specs.Log.{added}
 use Rattle.item_state.specs.Told.{toldValue}

@@ -9,6 +9,7 @@ use lib.Dec.{ltb, leb, eqb}
 use lib.ListN.{length, getD, set, take, drop, length-set, List·getD-eq-default}
 use lib.Seq.{getD-set-same, getD-set-other}
 use borrow.Author.Tests.{ltb-false, leb-true, eqb-true}
+use Rattle.numeral.specs.Ascii.{ascii}
 use Rattle.unit.proofs.Cases.{by-eqb}
 use Rattle.numeral.specs.declared.Number.{Number}
 use Rattle.numeral.specs.declared.Number.the-variants.{Value, Bad}
@@ -275,7 +276,7 @@ hex-none old (w ∷ ws) = hex-with-none old (readHex 1 8 w) ws
 listing-none : (ws : List (List ℕ)) → usedOf (listingCall ws) ≡ 0
 unfolding listingCall usedOf
 listing-none [] = refl
-listing-none (w ∷ ws) = go (sameBytes w (111 ∷ 108 ∷ 100 ∷ []))
+listing-none (w ∷ ws) = go (sameBytes w (ascii "old"))
   where
     go : (t : Bool) → usedOf (cond t (hexCall true ws) (hexCall false (w ∷ ws))) ≡ 0
     go true = hex-none true ws

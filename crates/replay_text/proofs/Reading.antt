@@ -5,6 +5,7 @@ use mathlib.Core.Bool.{Bool, true, false, cond, true≢false, false≢true}
 use mathlib.Core.List.{List, [], _∷_}
 use lib.Dec.{ltb, eqb}
 use lib.ListN.{getD, take, drop}
+use Rattle.numeral.specs.Ascii.{ascii}
 use Rattle.numeral.specs.declared.Number.{Number}
 use Rattle.numeral.specs.declared.Number.the-variants.{Value, Bad}
 use Rattle.numeral.specs.Read.{readHex, readDecimal}
@@ -314,7 +315,7 @@ listing-bounded : (ws : List (List ℕ)) → TicksBounded (listingCall ws)
 unfolding listingCall
 listing-bounded [] = tt
 listing-bounded (w ∷ ws) =
-    cond-cases TicksBounded (sameBytes w (111 ∷ 108 ∷ 100 ∷ [])) (λ _. hex-bounded true ws) (λ _. hex-bounded false (w ∷ ws))
+    cond-cases TicksBounded (sameBytes w (ascii "old")) (λ _. hex-bounded true ws) (λ _. hex-bounded false (w ∷ ws))
 
 later-bounded : (k : Keyword) (l : List ℕ) (ws : List (List ℕ)) → Within (laterReading k l ws)
 unfolding laterReading probeReading degreesReading recordReading

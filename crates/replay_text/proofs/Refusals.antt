@@ -1,4 +1,4 @@
--- The refusals of a text. What stands in quotation marks is the format's. Assumes nothing.
+-- The refusals of a text. What stands in quotation marks is that of docs/ITEMS.md. Assumes nothing.
 use Prim.Native.Nat.{ℕ, _+_, _≤_, min}
 use mathlib.Core.Path.{_≡_, refl, sym, _∙_}
 use mathlib.Core.Bool.{Bool, true, false, cond}
@@ -26,7 +26,7 @@ use Rattle.setup_frames.specs.Frames.{frames}
 use Rattle.line.specs.declared.Content.{Content}
 use Rattle.line.specs.Line.{lineReading}
 use Rattle.line_buffer.specs.Lines.{textLines, eachLine}
-use Rattle.wording.specs.Text.{ascii}
+use Rattle.numeral.specs.Ascii.{ascii}
 use Rattle.wording.specs.Wording.{Texts, lineFeed, counted, refused, listingHead}
 use Rattle.item_state.specs.Log.{added, refusals}
 use Rattle.item_calls.specs.Buffer.{bufferSize}

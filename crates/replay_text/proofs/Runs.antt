@@ -13,7 +13,7 @@ use Rattle.numeral.specs.Place.{joined}
 use Rattle.line.specs.declared.Content.{Content}
 use Rattle.line.specs.Line.{Bounded}
 use Rattle.line_buffer.specs.Lines.{hasLine}
-use Rattle.wording.specs.Text.{ascii}
+use Rattle.numeral.specs.Ascii.{ascii}
 use Rattle.wording.specs.Wording.{Texts, lineFeed, numbered}
 use Rattle.item_state.specs.Log.{Log, added, said, counted, called}
 use Rattle.item_calls.specs.Lines.{moved, ticked, partEnded, ticksPart, ticksAhead, unlessUnderWay, ticksBegun, tickLine, atBegun, atLine, callLine, timedLine, beside}

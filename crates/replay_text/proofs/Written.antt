@@ -11,7 +11,7 @@ use lib.Seq.{getD-set-other}
 use borrow.Author.Tests.{eq-eqb}
 use Rattle.unit.proofs.Cases.{by-test, by-leb}
 use Rattle.numeral.specs.Place.{nextPlace, written, putEach, joined}
-use Rattle.wording.specs.Text.{ascii}
+use Rattle.numeral.specs.Ascii.{ascii}
 use Rattle.wording.specs.Wording.{calls, faults, counted}
 use Rattle.line.specs.Line.{lineReading}
 use Rattle.line_buffer.specs.Lines.{hasLine, wholeText, eachLine, textLines, piecesRead}

@@ -1,11 +1,13 @@
 -- A replay: from the text that is read to the text that is written, by the rules of docs/ITEMS.md. No buffer of answers and no piece of
--- the input is in it. A path has at most 4,096 bytes: behind them stands the item's name. What stands in quotation marks is the format's.
--- Assumes nothing.
+-- the input is in it. What stands in quotation marks is that of docs/ITEMS.md. Assumes nothing.
+--
+-- The names are a list of 5,120 places: the file's path from the first on, the item's name from the place 4,096 on. The program hands
+-- over no path of more than 4,096 bytes; the item's name would stand on the rest of a longer one.
 --
 -- The counts by their places: 2 lines, 3 calls, 4 refusals, 5 those that are not announced, 6 bad lines, 7 expectations, 8 those that
 -- differ, 9 ticks since the last start, 10 differences in the record, 11 entries of the probe table, 14 not 0 in a check, 15 and 16 where
--- the item's and the file's name end, 17 to 19 what 4, 6 and all that needs a look were before the line. The others are those of a buffer
--- of answers, and 0 between two lines.
+-- the item's and the file's name end, 17 to 19 what 4, 6 and all that needs a look were before the line. 0, 12, 13 and 20 are places in a
+-- buffer of answers, and 21 the ticks that are left of a line under way: all of them are 0 between two lines here. 1 has no use.
 use Prim.Native.Nat.{ℕ, _-_}
 use mathlib.Core.Bool.{Bool, cond}
 use mathlib.Core.List.{List, [], _∷_, _++_}
@@ -18,7 +20,7 @@ use Rattle.device.specs.Model.{freshModel}
 use Rattle.line.specs.declared.Content.{Content}
 use Rattle.line.specs.Line.{lineReading}
 use Rattle.line_buffer.specs.Lines.{textLines, eachLine}
-use Rattle.wording.specs.Text.{ascii}
+use Rattle.numeral.specs.Ascii.{ascii}
 use Rattle.wording.specs.Wording.{Texts, lineFeed, numbered}
 use Rattle.item_calls.specs.Lines.{moved, ticked}
 use Rattle.item_checks.specs.Fault.{leftOf}
@@ -90,12 +92,13 @@ ticksDone t s = record {
 
 -- ---- any line
 
--- What a line tells: its ticks, or what any other one does.
+-- What a line tells: its ticks as a whole, or what any other line tells. (A line that is answered in parts, as the code does, is in
+-- `lineTold`; such a line does not come there from here.)
 unfoldable pub toldBy : List TickLine → Content → List ℕ → State → List ℕ → Told
 toldBy [] content numbers s counts = lineTold content numbers (bare s counts) (s .differences) (s .probes)
 toldBy (t ∷ ts) content numbers s counts = ticksTold t (s .model)
 
--- What it leaves of the model, the user flash, the record and the probe table. Its log is of no matter: `contentPage` has the counts.
+-- What it leaves of the model, the user flash, the record and the probe table. The counts after it are those of `contentPage`.
 unfoldable pub doneBy : List TickLine → Content → List ℕ → State → State
 doneBy [] content numbers s = lineDone content numbers s
 doneBy (t ∷ ts) content numbers s = ticksDone t s
@@ -104,11 +107,13 @@ doneBy (t ∷ ts) content numbers s = ticksDone t s
 unfoldable pub opening : Content → List ℕ → List ℕ → List ℕ → Told
 opening content text names counts = behind (faultTold content counts) (itemTold (leftOf content counts) text names)
 
+-- All that a line tells: a bad line's text or an item's name, and behind it what the line tells of the model
 unfoldable pub ownWhole : Content → List ℕ → List ℕ → List ℕ → State → List ℕ → Told
 ownWhole content text numbers names s counts =
     let left = leftOf content counts in
     behind (opening content text names counts) (λ after. toldBy (tickLines left after) left numbers s after)
 
+-- and what it leaves
 unfoldable pub doneWhole : Content → List ℕ → List ℕ → List ℕ → State → List ℕ → State
 doneWhole content text numbers names s counts =
     let left = leftOf content counts in
@@ -124,7 +129,7 @@ pub record Page : Type 0 where
   pub numbers : List ℕ
   pub replay : Replay
 
--- "writes one answer for each call as it goes": a line that was read, and the words that it expects
+-- A line that was read, and the words that it expects: its text stands behind the texts of the lines before it.
 unfoldable pub contentPage : Content → List (List ℕ) → List ℕ → List ℕ → Page → Page
 contentPage content expected line numbers p =
     let r = p .replay in

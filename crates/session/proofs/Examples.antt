@@ -11,7 +11,7 @@ use Rattle.line.specs.Words.{isBlank, ended, wordsAfter, words, sameBytes}
 use Rattle.line.specs.Mark.{takesMark, beforeMark, behindMark, isMark}
 use Rattle.line.specs.Line.{keywordOf, keywordReading, laterReading, wordsReading, wordsExpected, contentLength, lineReading, lineExpected}
 use Rattle.line_buffer.specs.Lines.{hasLine, lineOf, behindLine}
-use Rattle.wording.specs.Text.{ascii}
+use Rattle.numeral.specs.Ascii.{ascii}
 use Rattle.wording.specs.Wording.{why, fault}
 use Rattle.item_state.specs.Log.{added, said}
 use Rattle.device.specs.declared.Model.{Model}

@@ -9,7 +9,7 @@ use Rattle.numeral.specs.Digit.{digits, glyph}
 use Rattle.numeral.specs.Place.{overwrite, nextPlace, written, putEach, joined}
 use Rattle.numeral.specs.Print.{widthFrom, decimalWidth, decimal}
 use Rattle.line_buffer.specs.Lines.{hasLine}
-use Rattle.wording.specs.Text.{ascii}
+use Rattle.numeral.specs.Ascii.{ascii}
 use Rattle.wording.specs.Wording.{counted, calls, faults}
 use Rattle.item_state.specs.Log.{Log, said}
 use Rattle.session.specs.Flush.{isLong, writtenTo, writtenNow, keptTo, afterWriting, lineEnding}

@@ -1,4 +1,4 @@
--- How a replay begins and ends. What stands in quotation marks is the format's. Assumes nothing.
+-- How a replay begins and ends. What stands in quotation marks is that of docs/ITEMS.md. Assumes nothing.
 --
 -- The counts by their places: 3 the calls, 4 the refusals, 5 those that are not announced, 6 the bad lines, 7 the expectations, 8 those
 -- that differ, 14 not 0 in a check, 16 where the file's name ends among the names.

@@ -24,7 +24,7 @@ pub record State : Type 0 where
 
 -- ---- the line's own answer
 
--- Each line moves the model, or asks it, or goes by the record and the probe table, and passes over the others (`lineLeft`).
+-- Each line is a call on the model, or a question, or one on the record and the probe table (`lineLeft`).
 abbrev pub withFlash : State → WithFlash
 withFlash s = record { model = s .model; flash = s .flash; log = s .log }
 

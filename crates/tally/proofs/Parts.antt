@@ -12,7 +12,8 @@ use Rattle.collection.specs.declared.Outcome.{Outcome}
 use Rattle.collection.specs.declared.Kinds.{Kinds}
 use Rattle.collection.specs.declared.Group.{Group}
 use Rattle.collection.specs.declared.Tally.{Tally}
-use Rattle.wording.specs.Text.{ascii, PutEach}
+use Rattle.numeral.specs.Ascii.{ascii}
+use Rattle.wording.specs.Text.{PutEach}
 use Rattle.wording.proofs.Each.{put-none, put-first, put-then}
 use Rattle.collection.specs.Kind.{kinds}
 use Rattle.collection.specs.Group.{oneMore, nameTexts, Members, joined}

@@ -9,7 +9,7 @@ use lib.ListN.{length, take, drop}
 use lib.Seq.{take-all, take-length, take-append-add, drop-append-add}
 use Rattle.numeral.specs.Place.{joined}
 use Rattle.line_buffer.specs.Lines.{hasLine}
-use Rattle.wording.specs.Text.{ascii}
+use Rattle.numeral.specs.Ascii.{ascii}
 use Rattle.wording.specs.Wording.{numbered, expected as expectedTexts}
 use Rattle.item_checks.specs.Close.{placeOf, beginsWith}
 use Rattle.line_text.specs.Text.{differingText, isCall, judgedText, judgedCounts, isAnnounced, closedCounts}

@@ -18,7 +18,7 @@ use Rattle.device.specs.Tick.{flightTicked, flightAfter, temperatureAfter, tick
 use Rattle.device.proofs.Replies.{reply-tick}
 use Rattle.device.proofs.Sound.{Bounds, flight-of, bounds-of, sound-of, ticked-bounds, fresh-sound}
 use Rattle.device.specs.Stretch.{modelTicked}
-use Rattle.wording.specs.Text.{ascii}
+use Rattle.numeral.specs.Ascii.{ascii}
 use Rattle.wording.specs.Wording.{numbered, expected, reportAt}
 use Rattle.item_calls.specs.Lines.{ticked}
 use Rattle.item_checks.specs.Close.{placeOf, startsWith, beginsWith}

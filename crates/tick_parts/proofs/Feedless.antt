@@ -20,7 +20,7 @@ use Rattle.device.specs.declared.Answer.{Answer}
 use Rattle.device.specs.declared.Answer.the-variants.{Refused, Accepted, Ticked, Stretched, Good, Failed}
 use Rattle.device.specs.Call.{Call}
 use Rattle.device.specs.Reply.{reply}
-use Rattle.wording.specs.Text.{ascii}
+use Rattle.numeral.specs.Ascii.{ascii}
 use Rattle.wording.specs.Wording.{Texts, numbered, reportAt, tickReports, nextNamed, noTick, laterNamed, named}
 use Rattle.item_calls.specs.Lines.{stretchReports, onward, ticked}
 use Rattle.answer_text.proofs.Page.{joined-append}

@@ -30,7 +30,7 @@ use Rattle.device.proofs.Sound.{bounds-of, sound-of, ticked-bounds, keeps-sound
 use Rattle.device.proofs.Stretch.{ticked-later}
 use Rattle.device.proofs.StretchMeaning.{named-happens}
 use Rattle.device.proofs.SoundMeaning.{start-exactly, failure-exactly}
-use Rattle.wording.specs.Text.{ascii}
+use Rattle.numeral.specs.Ascii.{ascii}
 use Rattle.wording.specs.Wording.{Texts, lineFeed, numbered, reportedWhere, kindReports, quiet, single, reportAt, tickReports, stretched, stretch}
 use Rattle.wording.specs.Wording.{ticked as tickedAlone}
 use Rattle.item_calls.specs.Lines.{Ticks, stretchReports, onward, ticked}

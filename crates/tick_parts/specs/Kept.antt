@@ -1,4 +1,4 @@
--- Answers of which only the start is kept. What stands in quotation marks is the format's. Assumes nothing.
+-- Answers of which only the start is kept. What stands in quotation marks is that of docs/ITEMS.md. Assumes nothing.
 use Prim.Native.Nat.{ℕ, _≤_, _<_}
 use mathlib.Core.Path.{_≡_}
 use mathlib.Core.Bool.{false, cond}

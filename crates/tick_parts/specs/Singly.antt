@@ -1,4 +1,4 @@
--- Ticks one by one, and what each of them reported. What stands in quotation marks is the format's. Assumes nothing.
+-- Ticks one by one, and what each of them reported. What stands in quotation marks is that of docs/ITEMS.md. Assumes nothing.
 use Prim.Native.Nat.{ℕ, zero, suc, _+_}
 use mathlib.Core.List.{[], _++_}
 use Rattle.device.specs.declared.Model.{Model}
@@ -6,7 +6,7 @@ use Rattle.device.specs.declared.Answer.{Answer}
 use Rattle.device.specs.declared.Answer.the-variants.{Refused, Accepted, Ticked, Stretched, Good, Failed}
 use Rattle.device.specs.Call.{Call}
 use Rattle.device.specs.Reply.{reply}
-use Rattle.wording.specs.Text.{ascii}
+use Rattle.numeral.specs.Ascii.{ascii}
 use Rattle.wording.specs.Wording.{Texts, reportAt}
 use Rattle.item_calls.specs.Lines.{Ticks}
 

@@ -10,7 +10,7 @@ use Rattle.device.specs.declared.Report.{Report}
 use Rattle.device.specs.declared.StretchReport.{StretchReport}
 use Rattle.device.specs.declared.Answer.the-variants.{Refused, Accepted, Ticked, Stretched, Good, Failed}
 use Rattle.line.specs.declared.Content.{Content}
-use Rattle.wording.specs.Text.{ascii}
+use Rattle.numeral.specs.Ascii.{ascii}
 use Rattle.wording.specs.Wording.{refusalWords, refusalWord, refusal, started, busAnswer, outputBuffer, bus, set}
 use Rattle.wording.specs.Wording.{deliveryAnswer, delivery, reportedWhere, kindReports, quiet, ticked, single}
 use Rattle.wording.specs.Wording.{reportAt, tickReports, sooner, nextNamed, laterNamed, named, stretched, head, pair}

@@ -1,15 +1,8 @@
--- Texts as bytes, and texts put one after the other. Assumes nothing.
+-- Texts put one after the other. Assumes nothing.
 use Prim.Native.Nat.{ℕ}
-use Prim.Native.Char.{code}
-use Prim.Native.String.{String, [] as nothing, _∷_ as _before_}
 use mathlib.Core.List.{List, [], _∷_}
 use mathlib.Core.Path.{_≡_}
 use Rattle.numeral.specs.Place.{putEach}
-
--- The code of each character.
-unfoldable pub ascii : String → List ℕ
-ascii nothing = []
-ascii (c before s) = code c ∷ ascii s
 
 -- To put texts into l one after the other, from a place on, leaves l′ and answers the place r. Where they have room together,
 -- they are put as one (`put-each` of numeral's `PlaceLaws`); what has none, and what follows it, is left out, and r is noRoom.

@@ -1,5 +1,5 @@
 -- The words of the answers, in the order of the format's tables. An answer is a list of texts that are put one after the other.
--- What stands in quotation marks is the format's. Assumes nothing.
+-- What stands in quotation marks is that of docs/ITEMS.md. Assumes nothing.
 use Prim.Native.Nat.{ℕ, _+_, _%_}
 use Prim.Native.String.{String}
 use mathlib.Core.Bool.{Bool, true, false, cond}
@@ -13,7 +13,7 @@ use Rattle.device.specs.declared.StretchReport.{StretchReport}
 use Rattle.device.specs.declared.Answer.{Answer}
 use Rattle.device.specs.declared.Answer.the-variants.{Refused, Accepted, Ticked, Stretched, Good, Failed}
 use Rattle.line.specs.declared.Content.{Content}
-use Rattle.wording.specs.Text.{ascii}
+use Rattle.numeral.specs.Ascii.{ascii}
 
 -- The texts of an answer.
 abbrev pub Texts : Type 0
@@ -24,7 +24,7 @@ lineFeed = 10 ∷ []
 
 -- ---- refusals
 
--- "WORD is the trade's word of 01's table or of 02, as `not awaited`; `capture number` for 20": the words of 0 to 21
+-- WORD, the words of 0 to 21: those of 01's table, of 02, and `capture number` for 20
 unfoldable pub refusalWords : List String
 refusalWords =
     "record" ∷ "no frame" ∷ "opcode" ∷ "frame length" ∷ "address" ∷ "short output" ∷ "busy" ∷ "calendar"
@@ -148,7 +148,7 @@ nextNamed flight temperature tick =
     sooner (temperature .started) tick
     (sooner (temperature .failed) tick (sooner (flight .started) tick (sooner (flight .failed) tick noTick)))
 
--- "by tick, and within one tick in the order" of WHAT: the ticks named, the first, the second, and two more at most
+-- by tick, and "in this order within one tick": the ticks named, the first, the second, and two more at most
 unfoldable pub laterNamed : StretchReport → StretchReport → ℕ → ℕ → Texts
 laterNamed flight temperature tick done =
     let third = nextNamed flight temperature tick in
@@ -219,7 +219,8 @@ quietest start spread = ascii "quietest " ∷ (counted start (ascii " ") ++ coun
 
 -- ---- bad lines
 
--- "one of six texts"; `past` is that of `at`, and `no room` that of `probe` and `record`, where such a line could be read
+-- "one of six texts": a line that can be read is bad where it is an `at` that is `past`, or a `probe` or a `record` that has `no room`. No
+-- other one is bad, so that the text given for it here is never told.
 unfoldable pub why : Content → String
 why Content.Nothing = ": wrong count\n"
 why Content.TooLong = ": too long\n"
@@ -253,7 +254,7 @@ fault number content = ascii "line " ∷ decimal number ∷ ascii (why content) 
 
 -- ---- what stands around an answer
 
--- "`FILE:LINE: `", before an answer that needs a look
+-- "`FILE:LINE: ANSWER`": what stands before an answer that needs a look
 unfoldable pub place : List ℕ → ℕ → Texts
 place file number = file ∷ ascii ":" ∷ counted number (ascii ": ")
 

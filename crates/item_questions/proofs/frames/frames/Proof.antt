@@ -2,7 +2,7 @@
 -- Assumes nothing.
 use borrow.Author.Needs.{needs}
 use mathlib.Core.Path.{refl, sym, ap, _∙_}
-use Rattle.wording.specs.Text.{ascii}
+use Rattle.numeral.specs.Ascii.{ascii}
 use Rattle.item_state.specs.Log.{called}
 use Rattle.item_questions.proofs.FrameSteps.{frames-told, refusal-told}
 use Rattle.item_questions.proofs.frames.frames.Statement.{statement}

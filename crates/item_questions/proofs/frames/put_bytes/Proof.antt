@@ -5,7 +5,7 @@ use Prim.Native.Nat.{_-_}
 use mathlib.Core.Path.{_≡_, refl}
 use lib.ListN.{length, drop}
 use Rattle.numeral.specs.Place.{putEach}
-use Rattle.wording.specs.Text.{ascii}
+use Rattle.numeral.specs.Ascii.{ascii}
 use Rattle.item_questions.specs.Answers.{byteTexts}
 use Rattle.item_questions.proofs.FrameSteps.{bytes-on, bytes-end}
 use borrow.Author.Needs.{needs}

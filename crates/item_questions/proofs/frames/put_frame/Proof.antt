@@ -1,7 +1,7 @@
 -- `item_questions::frames::put_frame` meets its contract.
 -- Assumes nothing.
 use borrow.Author.Needs.{needs}
-use Rattle.wording.specs.Text.{ascii}
+use Rattle.numeral.specs.Ascii.{ascii}
 use Rattle.wording.proofs.Each.{put-one, put-first, put-then}
 use Rattle.item_questions.specs.Answers.{frameTexts}
 use Rattle.item_questions.proofs.frames.put_frame.Statement.{statement}

@@ -1,7 +1,7 @@
 -- `item_questions::frames::tell` meets its contract.
 -- Assumes nothing.
 use borrow.Author.Needs.{needs}
-use Rattle.wording.specs.Text.{ascii}
+use Rattle.numeral.specs.Ascii.{ascii}
 use Rattle.wording.proofs.Each.{put-first, put-then}
 use Rattle.item_questions.specs.Answers.{framesTold}
 use Rattle.item_state.specs.Log.{called}

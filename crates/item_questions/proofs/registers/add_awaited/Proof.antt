@@ -1,7 +1,7 @@
 -- `item_questions::registers::add_awaited` meets its contract.
 -- Assumes nothing.
 use borrow.Author.Needs.{needs}
-use Rattle.wording.specs.Text.{ascii}
+use Rattle.numeral.specs.Ascii.{ascii}
 use Rattle.item_questions.specs.Answers.{awaited}
 use Rattle.wording.proofs.Each.{put-one, put-first}
 use Rattle.item_questions.proofs.registers.add_awaited.Statement.{statement}

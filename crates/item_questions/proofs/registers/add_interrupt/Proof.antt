@@ -2,7 +2,7 @@
 -- Assumes nothing.
 use borrow.Author.Needs.{needs}
 use borrow.Author.Tests.{eq-eqb, ne-eqb}
-use Rattle.wording.specs.Text.{ascii}
+use Rattle.numeral.specs.Ascii.{ascii}
 use Rattle.item_questions.specs.Answers.{interrupt}
 use Rattle.wording.proofs.Each.{put-one}
 use Rattle.item_questions.proofs.registers.add_interrupt.Statement.{statement}

@@ -4,12 +4,13 @@ use mathlib.Core.Path.{sym}
 use lib.Seq.{length-take-le}
 use borrow.Author.Tests.{lt-ltb, le-ltb}
 use borrow.Author.Needs.{needs}
+use Rattle.numeral.specs.Ascii.{ascii}
 use Rattle.line.specs.Line.{isOut}
 use Rattle.line_reader.proofs.calls.is_out.Statement.{statement}
 use Rattle.line_reader.proofs.calls.is_out.Tie as tie
 
 returns : tie.Need-returns
-unfolding isOut
+unfolding isOut ascii
 returns c = rw (lt-ltb _ _ (c .if1 .taken))
 
 slice-aggregate-same : tie.Need-slice-aggregate-same
@@ -22,7 +23,7 @@ same-requires : tie.Need-same-requires
 same-requires c κs = search needs
 
 returns-2 : tie.Need-returns-2
-unfolding isOut
+unfolding isOut ascii
 returns-2 c = rw (le-ltb _ _ (c .before .before .before .if1 .left)) (c .same .ensures)
 
 pub is-out-spec : {M : Type 1} → statement M

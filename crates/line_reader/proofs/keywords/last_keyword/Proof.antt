@@ -2,6 +2,7 @@
 -- Assumes nothing.
 use mathlib.Core.Path.{refl}
 use borrow.Author.Needs.{needs}
+use Rattle.numeral.specs.Ascii.{ascii}
 use Rattle.line.proofs.LineLaws.{here, below}
 use Rattle.line_reader.proofs.keywords.last_keyword.Statement.{statement}
 use Rattle.line_reader.proofs.keywords.last_keyword.Tie as tie
@@ -13,6 +14,7 @@ same-requires : tie.Need-same-requires
 same-requires c κs = search needs
 
 returns : tie.Need-returns
+unfolding ascii
 returns c =
     here _ (c .before .same .ensures) (c .if1 .taken)
 
@@ -23,6 +25,7 @@ same-requires-2 : tie.Need-same-requires-2
 same-requires-2 c κs = search needs
 
 returns-2 : tie.Need-returns-2
+unfolding ascii
 returns-2 c =
     below _ (c .before .before .before .before .same .ensures) (c .before .before .before .if1 .left)
     (here _ (c .before .same2 .ensures) (c .if2 .taken))
@@ -34,6 +37,7 @@ same-requires-3 : tie.Need-same-requires-3
 same-requires-3 c κs = search needs
 
 returns-3 : tie.Need-returns-3
+unfolding ascii
 returns-3 c =
     below _ (c .before .before .before .before .before .before .before .same .ensures) (c .before .before .before .before .before .before .if1 .left)
     (below _ (c .before .before .before .before .same2 .ensures) (c .before .before .before .if2 .left)
@@ -46,6 +50,7 @@ same-requires-4 : tie.Need-same-requires-4
 same-requires-4 c κs = search needs
 
 returns-4 : tie.Need-returns-4
+unfolding ascii
 returns-4 c =
     below _ (c .before .before .before .before .before .before .before .before .before .before .same .ensures) (c .before .before .before .before .before .before .before .before .before .if1 .left)
     (below _ (c .before .before .before .before .before .before .before .same2 .ensures) (c .before .before .before .before .before .before .if2 .left)
@@ -53,6 +58,7 @@ returns-4 c =
     (here _ (c .before .same4 .ensures) (c .if4 .taken))))
 
 returns-5 : tie.Need-returns-5
+unfolding ascii
 returns-5 c =
     below _ (c .before .before .before .before .before .before .before .before .before .before .same .ensures) (c .before .before .before .before .before .before .before .before .before .if1 .left)
     (below _ (c .before .before .before .before .before .before .before .same2 .ensures) (c .before .before .before .before .before .before .if2 .left)

@@ -4,6 +4,7 @@ use Prim.Native.Nat.{_-_}
 use mathlib.Core.Path.{sym, _∙_}
 use native.Mathlib.Omega.{arith}
 use lib.ListN.{length}
+use Rattle.numeral.specs.Ascii.{ascii}
 use Rattle.line.specs.Mark.{isMark}
 use Rattle.line.proofs.WordLaws.{words-end}
 use Rattle.line.proofs.MarkLaws.{Looked, looked-first, looked-next, looked-mark, looked-all}
@@ -42,7 +43,7 @@ same-requires : tie.Need-same-requires Inv-loop μ-loop
 same-requires c κs = search needs
 
 returns-2 : tie.Need-returns-2 Inv-loop μ-loop
-unfolding isMark
+unfolding isMark ascii
 returns-2 c =
     looked-mark _ _ _ _ _ (c .before .before .before .before .before .before .before .loop .inv) (c .before .before .before .before .before .next-word .ensures) (c .before .before .before .before .if1 .left) (sym (c .before .same .ensures) ∙ c .if2 .taken)
 
@@ -50,7 +51,7 @@ loop-less : tie.Need-loop-less Inv-loop μ-loop
 loop-less c = omega (arith, c .before .before .before .before .before .next-word .ensures .low, c .before .before .before .before .before .next-word .ensures .high, c .before .before .before .before .if1 .left)
 
 loop-again : tie.Need-loop-again Inv-loop μ-loop
-unfolding isMark
+unfolding isMark ascii
 loop-again c =
     looked-next _ _ _ _ _ (c .before .before .before .before .before .before .before .loop .inv) (c .before .before .before .before .before .next-word .ensures) (c .before .before .before .before .if1 .left) (sym (c .before .same .ensures) ∙ c .if2 .left)
 

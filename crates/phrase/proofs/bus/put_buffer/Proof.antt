@@ -7,7 +7,7 @@ use mathlib.Core.Path.{_≡_, refl}
 use native.Mathlib.Omega.{arith}
 use lib.ListN.{length}
 use Rattle.numeral.specs.Print.{hexBytes}
-use Rattle.wording.specs.Text.{ascii}
+use Rattle.numeral.specs.Ascii.{ascii}
 use Rattle.wording.specs.Wording.{outputBuffer}
 use Rattle.wording.proofs.Each.{put-none, put-one, put-first}
 use Rattle.phrase.proofs.bus.put_buffer.Statement.{statement}

@@ -1,7 +1,7 @@
 -- `phrase::bus::put_started` meets its contract.
 -- Assumes nothing.
 use borrow.Author.Needs.{needs}
-use Rattle.wording.specs.Text.{ascii}
+use Rattle.numeral.specs.Ascii.{ascii}
 use Rattle.wording.specs.Wording.{started}
 use Rattle.wording.proofs.Each.{put-one}
 use Rattle.phrase.proofs.bus.put_started.Statement.{statement}

@@ -1,7 +1,7 @@
 -- `phrase::end::put_calls` meets its contract.
 -- Assumes nothing.
 use borrow.Author.Needs.{needs}
-use Rattle.wording.specs.Text.{ascii}
+use Rattle.numeral.specs.Ascii.{ascii}
 use Rattle.wording.specs.Wording.{calls}
 use Rattle.wording.proofs.Each.{put-first, put-then}
 use Rattle.phrase.proofs.end.put_calls.Statement.{statement}

@@ -1,7 +1,7 @@
 -- `phrase::end::put_faults` meets its contract.
 -- Assumes nothing.
 use borrow.Author.Needs.{needs}
-use Rattle.wording.specs.Text.{ascii}
+use Rattle.numeral.specs.Ascii.{ascii}
 use Rattle.wording.specs.Wording.{faults}
 use Rattle.wording.proofs.Each.{put-then}
 use Rattle.phrase.proofs.end.put_faults.Statement.{statement}

@@ -2,7 +2,7 @@
 -- Assumes nothing.
 use borrow.Author.Needs.{needs}
 use borrow.Author.Tests.{eq-eqb, ne-eqb}
-use Rattle.wording.specs.Text.{ascii}
+use Rattle.numeral.specs.Ascii.{ascii}
 use Rattle.wording.specs.Wording.{head}
 use Rattle.wording.proofs.Each.{put-one, put-first}
 use Rattle.phrase.proofs.expectation.put_head.Statement.{statement}

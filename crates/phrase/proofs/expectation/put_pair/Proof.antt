@@ -2,7 +2,7 @@
 -- Assumes nothing.
 use borrow.Author.Needs.{needs}
 use borrow.Author.Tests.{eq-eqb, ne-eqb}
-use Rattle.wording.specs.Text.{ascii}
+use Rattle.numeral.specs.Ascii.{ascii}
 use Rattle.wording.specs.Wording.{pair}
 use Rattle.wording.proofs.Each.{put-none, put-one, put-first}
 use Rattle.phrase.proofs.expectation.put_pair.Statement.{statement}

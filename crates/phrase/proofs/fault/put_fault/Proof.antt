@@ -1,7 +1,7 @@
 -- `phrase::fault::put_fault` meets its contract.
 -- Assumes nothing.
 use borrow.Author.Needs.{needs}
-use Rattle.wording.specs.Text.{ascii}
+use Rattle.numeral.specs.Ascii.{ascii}
 use Rattle.wording.specs.Wording.{fault}
 use Rattle.wording.proofs.Each.{put-one, put-first}
 use Rattle.phrase.proofs.fault.put_fault.Statement.{statement}

@@ -7,7 +7,7 @@ use types.Run.{OneOf, miss}
 use denote.Enum.Declared.{tagOf}
 use Rattle.line.proofs.Content.{the-type}
 use Rattle.line.specs.declared.Content.{Content}
-use Rattle.wording.specs.Text.{ascii}
+use Rattle.numeral.specs.Ascii.{ascii}
 use Rattle.wording.specs.Wording.{why}
 use Rattle.phrase.proofs.fault.put_why.Statement.{statement}
 use Rattle.phrase.proofs.fault.put_why.Tie as tie

@@ -1,7 +1,7 @@
 -- `phrase::heads::put_at` meets its contract.
 -- Assumes nothing.
 use borrow.Author.Needs.{needs}
-use Rattle.wording.specs.Text.{ascii}
+use Rattle.numeral.specs.Ascii.{ascii}
 use Rattle.phrase.proofs.heads.put_at.Statement.{statement}
 use Rattle.phrase.proofs.heads.put_at.Tie as tie
 

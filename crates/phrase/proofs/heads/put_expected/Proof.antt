@@ -1,7 +1,7 @@
 -- `phrase::heads::put_expected` meets its contract.
 -- Assumes nothing.
 use borrow.Author.Needs.{needs}
-use Rattle.wording.specs.Text.{ascii}
+use Rattle.numeral.specs.Ascii.{ascii}
 use Rattle.wording.specs.Wording.{expected}
 use Rattle.wording.proofs.Each.{put-one, put-first}
 use Rattle.phrase.proofs.heads.put_expected.Statement.{statement}

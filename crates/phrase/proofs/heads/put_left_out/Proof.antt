@@ -1,7 +1,7 @@
 -- `phrase::heads::put_left_out` meets its contract.
 -- Assumes nothing.
 use borrow.Author.Needs.{needs}
-use Rattle.wording.specs.Text.{ascii}
+use Rattle.numeral.specs.Ascii.{ascii}
 use Rattle.wording.specs.Wording.{leftOut}
 use Rattle.wording.proofs.Each.{put-one}
 use Rattle.phrase.proofs.heads.put_left_out.Statement.{statement}

@@ -1,7 +1,7 @@
 -- `phrase::kept::put_degrees` meets its contract.
 -- Assumes nothing.
 use borrow.Author.Needs.{needs}
-use Rattle.wording.specs.Text.{ascii}
+use Rattle.numeral.specs.Ascii.{ascii}
 use Rattle.wording.specs.Wording.{degrees}
 use Rattle.wording.proofs.Each.{put-one, put-first}
 use Rattle.phrase.proofs.kept.put_degrees.Statement.{statement}

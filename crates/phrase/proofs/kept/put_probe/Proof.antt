@@ -1,7 +1,7 @@
 -- `phrase::kept::put_probe` meets its contract.
 -- Assumes nothing.
 use borrow.Author.Needs.{needs}
-use Rattle.wording.specs.Text.{ascii}
+use Rattle.numeral.specs.Ascii.{ascii}
 use Rattle.wording.specs.Wording.{probe}
 use Rattle.wording.proofs.Each.{put-first}
 use Rattle.phrase.proofs.kept.put_probe.Statement.{statement}

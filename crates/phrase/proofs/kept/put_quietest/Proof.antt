@@ -1,7 +1,7 @@
 -- `phrase::kept::put_quietest` meets its contract.
 -- Assumes nothing.
 use borrow.Author.Needs.{needs}
-use Rattle.wording.specs.Text.{ascii}
+use Rattle.numeral.specs.Ascii.{ascii}
 use Rattle.wording.specs.Wording.{quietest}
 use Rattle.wording.proofs.Each.{put-first, put-then}
 use Rattle.phrase.proofs.kept.put_quietest.Statement.{statement}

@@ -2,7 +2,7 @@
 -- Assumes nothing.
 use borrow.Author.Needs.{needs}
 use Rattle.phrase.proofs.Words.{lengthsOf, lengths, row-length}
-use Rattle.wording.specs.Text.{ascii}
+use Rattle.numeral.specs.Ascii.{ascii}
 use Rattle.wording.specs.Wording.{refusalWords}
 use Rattle.phrase.proofs.refusal.length_in.Statement.{statement}
 use Rattle.phrase.proofs.refusal.length_in.Tie as tie

@@ -1,7 +1,7 @@
 -- `phrase::refusal::put_refusal` meets its contract.
 -- Assumes nothing.
 use borrow.Author.Needs.{needs}
-use Rattle.wording.specs.Text.{ascii}
+use Rattle.numeral.specs.Ascii.{ascii}
 use Rattle.wording.specs.Wording.{refusal}
 use Rattle.wording.proofs.Each.{put-one, put-first}
 use Rattle.phrase.proofs.refusal.put_refusal.Statement.{statement}

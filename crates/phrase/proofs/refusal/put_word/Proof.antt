@@ -2,7 +2,7 @@
 -- Assumes nothing.
 use borrow.Author.Needs.{needs}
 use Rattle.phrase.proofs.Words.{rowsOf, rows, put-row}
-use Rattle.wording.specs.Text.{ascii}
+use Rattle.numeral.specs.Ascii.{ascii}
 use Rattle.wording.specs.Wording.{refusalWords}
 use Rattle.phrase.proofs.refusal.put_word.Statement.{statement}
 use Rattle.phrase.proofs.refusal.put_word.Tie as tie

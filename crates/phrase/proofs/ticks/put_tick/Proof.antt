@@ -1,7 +1,7 @@
 -- `phrase::ticks::put_tick` meets its contract.
 -- Assumes nothing.
 use borrow.Author.Needs.{needs}
-use Rattle.wording.specs.Text.{ascii}
+use Rattle.numeral.specs.Ascii.{ascii}
 use Rattle.wording.specs.Wording.{tickReports}
 use Rattle.wording.proofs.Each.{put-then}
 use Rattle.phrase.proofs.ticks.put_tick.Statement.{statement}

@@ -1,7 +1,7 @@
 -- `phrase::ticks::put_ticked` meets its contract.
 -- Assumes nothing.
 use borrow.Author.Needs.{needs}
-use Rattle.wording.specs.Text.{ascii}
+use Rattle.numeral.specs.Ascii.{ascii}
 use Rattle.wording.specs.Wording.{ticked}
 use Rattle.wording.proofs.Each.{put-one, put-first, put-then}
 use Rattle.phrase.proofs.ticks.put_ticked.Statement.{statement}

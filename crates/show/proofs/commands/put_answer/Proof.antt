@@ -13,7 +13,7 @@ use Rattle.device.specs.declared.Model.{Model}
 use Rattle.numeral.specs.Place.{Put}
 use Rattle.wording.proofs.Each.{put-one}
 use Rattle.wording.specs.Text.{PutEach}
-use Rattle.wording.specs.Text.{ascii}
+use Rattle.numeral.specs.Ascii.{ascii}
 use Rattle.page.specs.Commands.{answerTexts}
 use Rattle.show.proofs.commands.put_answer.Statement.{statement}
 use Rattle.show.proofs.commands.put_answer.Tie as tie

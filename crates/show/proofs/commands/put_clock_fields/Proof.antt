@@ -2,7 +2,7 @@
 -- Assumes nothing.
 use borrow.Author.Needs.{needs}
 use Rattle.wording.proofs.Each.{put-none}
-use Rattle.wording.specs.Text.{ascii}
+use Rattle.numeral.specs.Ascii.{ascii}
 use Rattle.page.specs.Commands.{clockFields}
 use Rattle.show.proofs.commands.put_clock_fields.Statement.{statement}
 use Rattle.show.proofs.commands.put_clock_fields.Tie as tie

@@ -1,7 +1,7 @@
 -- `show::commands::put_flash` meets its contract.
 -- Assumes nothing.
 use borrow.Author.Needs.{needs}
-use Rattle.wording.specs.Text.{ascii}
+use Rattle.numeral.specs.Ascii.{ascii}
 use Rattle.page.specs.Commands.{flashRow}
 use Rattle.show.proofs.commands.put_flash.Statement.{statement}
 use Rattle.show.proofs.commands.put_flash.Tie as tie

@@ -2,7 +2,7 @@
 -- Assumes nothing.
 use borrow.Author.Needs.{needs}
 use Rattle.wording.proofs.Each.{put-none, put-then}
-use Rattle.wording.specs.Text.{ascii}
+use Rattle.numeral.specs.Ascii.{ascii}
 use Rattle.page.specs.Commands.{flightFields}
 use Rattle.show.proofs.commands.put_flight_fields.Statement.{statement}
 use Rattle.show.proofs.commands.put_flight_fields.Tie as tie

@@ -3,7 +3,7 @@
 use borrow.Author.Needs.{needs}
 use borrow.Author.Tests.{eq-eqb, ne-eqb}
 use Rattle.wording.proofs.Each.{put-none, put-first, put-then}
-use Rattle.wording.specs.Text.{ascii}
+use Rattle.numeral.specs.Ascii.{ascii}
 use Rattle.page.specs.Commands.{refusedTexts}
 use Rattle.show.proofs.commands.put_refused.Statement.{statement}
 use Rattle.show.proofs.commands.put_refused.Tie as tie

@@ -3,7 +3,7 @@
 use borrow.Author.Needs.{needs}
 use borrow.Author.Tests.{eq-eqb, ne-eqb}
 use Rattle.wording.proofs.Each.{put-none, put-first}
-use Rattle.wording.specs.Text.{ascii}
+use Rattle.numeral.specs.Ascii.{ascii}
 use Rattle.page.specs.Commands.{temperatureFields}
 use Rattle.show.proofs.commands.put_temperature_fields.Statement.{statement}
 use Rattle.show.proofs.commands.put_temperature_fields.Tie as tie

@@ -1,7 +1,7 @@
 -- `show::commands::put_write` meets its contract.
 -- Assumes nothing.
 use borrow.Author.Needs.{needs}
-use Rattle.wording.specs.Text.{ascii}
+use Rattle.numeral.specs.Ascii.{ascii}
 use Rattle.page.specs.Commands.{writeRow}
 use Rattle.show.proofs.commands.put_write.Statement.{statement}
 use Rattle.show.proofs.commands.put_write.Tie as tie

@@ -3,7 +3,7 @@
 use borrow.Author.Needs.{needs}
 use borrow.Author.Tests.{eq-eqb, ne-eqb}
 use Rattle.wording.proofs.Each.{put-none, put-one}
-use Rattle.wording.specs.Text.{ascii}
+use Rattle.numeral.specs.Ascii.{ascii}
 use Rattle.page.specs.Clock.{halfDay}
 use Rattle.show.proofs.date.put_half_day.Statement.{statement}
 use Rattle.show.proofs.date.put_half_day.Tie as tie

@@ -2,7 +2,7 @@
 -- Assumes nothing.
 use borrow.Author.Needs.{needs}
 use Rattle.wording.proofs.Each.{put-one, put-first}
-use Rattle.wording.specs.Text.{ascii}
+use Rattle.numeral.specs.Ascii.{ascii}
 use Rattle.page.specs.Clock.{seconds}
 use Rattle.show.proofs.date.put_seconds.Statement.{statement}
 use Rattle.show.proofs.date.put_seconds.Tie as tie

@@ -2,7 +2,7 @@
 -- Assumes nothing.
 use borrow.Author.Needs.{needs}
 use Rattle.wording.proofs.Each.{put-one, put-first}
-use Rattle.wording.specs.Text.{ascii}
+use Rattle.numeral.specs.Ascii.{ascii}
 use Rattle.page.specs.Clock.{timeOfDay}
 use Rattle.show.proofs.date.put_time_of_day.Statement.{statement}
 use Rattle.show.proofs.date.put_time_of_day.Tie as tie

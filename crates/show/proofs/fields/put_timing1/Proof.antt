@@ -3,7 +3,7 @@
 use borrow.Author.Needs.{needs}
 use mathlib.Core.Path.{_∙_}
 use Rattle.wording.proofs.Each.{put-one, put-first, put-then}
-use Rattle.wording.specs.Text.{ascii}
+use Rattle.numeral.specs.Ascii.{ascii}
 use Rattle.page.specs.Row.{registerRow}
 use Rattle.page.specs.Setup.{timing1Row}
 use Rattle.show.proofs.fields.put_timing1.Statement.{statement}

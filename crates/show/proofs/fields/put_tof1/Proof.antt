@@ -2,7 +2,7 @@
 -- Assumes nothing.
 use borrow.Author.Needs.{needs}
 use Rattle.wording.proofs.Each.{put-one, put-then}
-use Rattle.wording.specs.Text.{ascii}
+use Rattle.numeral.specs.Ascii.{ascii}
 use Rattle.page.specs.Row.{registerRow}
 use Rattle.page.specs.Setup.{tof1Row}
 use Rattle.show.proofs.fields.put_tof1.Statement.{statement}

@@ -2,7 +2,7 @@
 -- Assumes nothing.
 use borrow.Author.Needs.{needs}
 use Rattle.wording.proofs.Each.{put-then}
-use Rattle.wording.specs.Text.{ascii}
+use Rattle.numeral.specs.Ascii.{ascii}
 use Rattle.page.specs.Row.{registerRow, absentRow}
 use Rattle.show.proofs.row.put_absent.Statement.{statement}
 use Rattle.show.proofs.row.put_absent.Tie as tie

@@ -2,7 +2,7 @@
 -- Assumes nothing.
 use borrow.Author.Needs.{needs}
 use Rattle.wording.proofs.Each.{put-one, put-first}
-use Rattle.wording.specs.Text.{ascii}
+use Rattle.numeral.specs.Ascii.{ascii}
 use Rattle.page.specs.Row.{binary}
 use Rattle.show.proofs.row.put_binary.Statement.{statement}
 use Rattle.show.proofs.row.put_binary.Tie as tie

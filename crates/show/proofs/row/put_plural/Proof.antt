@@ -3,7 +3,7 @@
 use borrow.Author.Needs.{needs}
 use borrow.Author.Tests.{lt-ltb, le-ltb}
 use Rattle.wording.proofs.Each.{put-one, put-first}
-use Rattle.wording.specs.Text.{ascii}
+use Rattle.numeral.specs.Ascii.{ascii}
 use Rattle.page.specs.Row.{plural}
 use Rattle.show.proofs.row.put_plural.Statement.{statement}
 use Rattle.show.proofs.row.put_plural.Tie as tie

@@ -2,7 +2,7 @@
 -- Assumes nothing.
 use borrow.Author.Needs.{needs}
 use Rattle.wording.proofs.Each.{put-then}
-use Rattle.wording.specs.Text.{ascii}
+use Rattle.numeral.specs.Ascii.{ascii}
 use Rattle.page.specs.Row.{registerRow, storedRow}
 use Rattle.show.proofs.row.put_stored.Statement.{statement}
 use Rattle.show.proofs.row.put_stored.Tie as tie

@@ -2,7 +2,7 @@
 -- Assumes nothing.
 use borrow.Author.Needs.{needs}
 use borrow.Author.Tests.{eq-eqb, ne-eqb}
-use Rattle.wording.specs.Text.{ascii}
+use Rattle.numeral.specs.Ascii.{ascii}
 use Rattle.page.specs.Run.{initialisedRow}
 use Rattle.show.proofs.run.put_initialised.Statement.{statement}
 use Rattle.show.proofs.run.put_initialised.Tie as tie

@@ -11,7 +11,7 @@ use Rattle.run_state.specs.declared.Placed.the-variants.{Refused, NoEvent, Even
 use Rattle.run_state.specs.declared.Placed.{Placed}
 use Rattle.wording.proofs.Each.{put-one, put-then}
 use Rattle.wording.specs.Text.{PutEach}
-use Rattle.wording.specs.Text.{ascii}
+use Rattle.numeral.specs.Ascii.{ascii}
 use Rattle.page.specs.Run.{nextTexts}
 use Rattle.show.proofs.run.put_next_texts.Statement.{statement}
 use Rattle.show.proofs.run.put_next_texts.Tie as tie

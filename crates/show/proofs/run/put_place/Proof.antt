@@ -2,7 +2,7 @@
 -- Assumes nothing.
 use borrow.Author.Needs.{needs}
 use Rattle.wording.proofs.Each.{put-then}
-use Rattle.wording.specs.Text.{ascii}
+use Rattle.numeral.specs.Ascii.{ascii}
 use Rattle.page.specs.Run.{placeTexts}
 use Rattle.show.proofs.run.put_place.Statement.{statement}
 use Rattle.show.proofs.run.put_place.Tie as tie

@@ -3,7 +3,7 @@
 use borrow.Author.Needs.{needs}
 use mathlib.Core.Path.{_∙_}
 use Rattle.wording.proofs.Each.{put-then}
-use Rattle.wording.specs.Text.{ascii}
+use Rattle.numeral.specs.Ascii.{ascii}
 use Rattle.page.specs.Results.{highNames}
 use Rattle.show.proofs.state.put_high_names.Statement.{statement}
 use Rattle.show.proofs.state.put_high_names.Tie as tie

@@ -2,7 +2,7 @@
 -- Assumes nothing.
 use borrow.Author.Needs.{needs}
 use Rattle.wording.proofs.Each.{put-then}
-use Rattle.wording.specs.Text.{ascii}
+use Rattle.numeral.specs.Ascii.{ascii}
 use Rattle.page.specs.Results.{lowNames}
 use Rattle.show.proofs.state.put_low_names.Statement.{statement}
 use Rattle.show.proofs.state.put_low_names.Tie as tie

@@ -2,7 +2,7 @@
 -- Assumes nothing.
 use borrow.Author.Needs.{needs}
 use Rattle.wording.proofs.Each.{put-none, put-one, put-first, put-then}
-use Rattle.wording.specs.Text.{ascii}
+use Rattle.numeral.specs.Ascii.{ascii}
 use Rattle.page.specs.Results.{statusRows}
 use Rattle.page.specs.Row.{lines, registerRow}
 use Rattle.show.proofs.state.put_status.Statement.{statement}

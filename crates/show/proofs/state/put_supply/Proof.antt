@@ -2,7 +2,7 @@
 -- Assumes nothing.
 use borrow.Author.Needs.{needs}
 use borrow.Author.Tests.{eq-eqb, ne-eqb}
-use Rattle.wording.specs.Text.{ascii}
+use Rattle.numeral.specs.Ascii.{ascii}
 use Rattle.page.specs.Results.{supplyRow}
 use Rattle.show.proofs.state.put_supply.Statement.{statement}
 use Rattle.show.proofs.state.put_supply.Tie as tie

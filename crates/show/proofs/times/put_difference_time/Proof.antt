@@ -1,7 +1,7 @@
 -- `show::times::put_difference_time` meets its contract.
 -- Assumes nothing.
 use borrow.Author.Needs.{needs}
-use Rattle.wording.specs.Text.{ascii}
+use Rattle.numeral.specs.Ascii.{ascii}
 use Rattle.wording.proofs.Each.{put-one}
 use Rattle.page.specs.Results.{differenceTexts}
 use Rattle.show.proofs.times.put_difference_time.Statement.{statement}

@@ -2,7 +2,7 @@
 -- Assumes nothing.
 use borrow.Author.Needs.{needs}
 use Rattle.wording.proofs.Each.{put-none, put-then}
-use Rattle.wording.specs.Text.{ascii}
+use Rattle.numeral.specs.Ascii.{ascii}
 use Rattle.page.specs.Results.{differenceRows}
 use Rattle.page.specs.Row.{lines}
 use Rattle.show.proofs.times.put_differences.Statement.{statement}

@@ -3,7 +3,7 @@
 use borrow.Author.Needs.{needs}
 use native.Mathlib.Omega.{arith}
 use Rattle.wording.proofs.Each.{put-one, put-first}
-use Rattle.wording.specs.Text.{ascii}
+use Rattle.numeral.specs.Ascii.{ascii}
 use Rattle.page.specs.Results.{signedTime}
 use Rattle.show.proofs.Justified.{signed-end, signed-part}
 use Rattle.show.proofs.times.put_signed_time.Statement.{statement}

@@ -5,7 +5,7 @@ use Rattle.wording.proofs.Each.{put-first, put-then}
 use Rattle.collection.specs.Summary.{firstCounts}
 use Rattle.tally.proofs.summary.put_first_counts.Statement.{statement}
 use Rattle.tally.proofs.summary.put_first_counts.Tie as tie
-use Rattle.wording.specs.Text.{ascii}
+use Rattle.numeral.specs.Ascii.{ascii}
 
 slice-aggregate-put-text : tie.Need-slice-aggregate-put-text
 slice-aggregate-put-text c = search needs

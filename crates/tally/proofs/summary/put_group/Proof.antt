@@ -1,7 +1,7 @@
 -- `tally::summary::put_group` meets its contract.
 -- Assumes nothing.
 use borrow.Author.Needs.{needs}
-use Rattle.wording.specs.Text.{ascii}
+use Rattle.numeral.specs.Ascii.{ascii}
 use Rattle.tally.proofs.Parts.{group-some, group-none}
 use Rattle.tally.proofs.summary.put_group.Statement.{statement}
 use Rattle.tally.proofs.summary.put_group.Tie as tie

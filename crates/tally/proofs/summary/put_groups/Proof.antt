@@ -5,7 +5,7 @@ use Rattle.wording.proofs.Each.{put-then}
 use Rattle.collection.specs.Summary.{groupsTexts}
 use Rattle.tally.proofs.summary.put_groups.Statement.{statement}
 use Rattle.tally.proofs.summary.put_groups.Tie as tie
-use Rattle.wording.specs.Text.{ascii}
+use Rattle.numeral.specs.Ascii.{ascii}
 
 slice-aggregate-put-group : tie.Need-slice-aggregate-put-group
 slice-aggregate-put-group c = search needs

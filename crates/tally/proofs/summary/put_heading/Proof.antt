@@ -5,7 +5,7 @@ use Rattle.wording.proofs.Each.{put-one, put-first}
 use Rattle.collection.specs.Summary.{headingTexts}
 use Rattle.tally.proofs.summary.put_heading.Statement.{statement}
 use Rattle.tally.proofs.summary.put_heading.Tie as tie
-use Rattle.wording.specs.Text.{ascii}
+use Rattle.numeral.specs.Ascii.{ascii}
 
 slice-aggregate-put-text : tie.Need-slice-aggregate-put-text
 slice-aggregate-put-text c = search needs

@@ -5,7 +5,7 @@ use Rattle.wording.proofs.Each.{put-then}
 use Rattle.collection.specs.Summary.{lastCounts}
 use Rattle.tally.proofs.summary.put_last_counts.Statement.{statement}
 use Rattle.tally.proofs.summary.put_last_counts.Tie as tie
-use Rattle.wording.specs.Text.{ascii}
+use Rattle.numeral.specs.Ascii.{ascii}
 
 slice-aggregate-put-count : tie.Need-slice-aggregate-put-count
 slice-aggregate-put-count c = search needs

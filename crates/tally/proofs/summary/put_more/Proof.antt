@@ -1,7 +1,7 @@
 -- `tally::summary::put_more` meets its contract.
 -- Assumes nothing.
 use borrow.Author.Needs.{needs}
-use Rattle.wording.specs.Text.{ascii}
+use Rattle.numeral.specs.Ascii.{ascii}
 use Rattle.tally.proofs.Parts.{more-some, more-none}
 use Rattle.tally.proofs.summary.put_more.Statement.{statement}
 use Rattle.tally.proofs.summary.put_more.Tie as tie

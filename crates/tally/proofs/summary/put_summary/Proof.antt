@@ -5,7 +5,7 @@ use Rattle.wording.proofs.Each.{put-then}
 use Rattle.collection.specs.Summary.{summaryTexts, firstCounts, lastCounts}
 use Rattle.tally.proofs.summary.put_summary.Statement.{statement}
 use Rattle.tally.proofs.summary.put_summary.Tie as tie
-use Rattle.wording.specs.Text.{ascii}
+use Rattle.numeral.specs.Ascii.{ascii}
 
 put-head-requires : tie.Need-put-head-requires
 put-head-requires c κs = search needs

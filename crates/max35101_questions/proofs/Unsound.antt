@@ -1,0 +1,37 @@
+-- A model that is not sound: every question is number 0, and tells no word. Assumes nothing.
+use Prim.Native.Nat.{ℕ}
+use mathlib.Core.Bool.{false}
+use mathlib.Core.List.{List, []}
+use mathlib.Core.Path.{_≡_, refl}
+use Rattle.device.specs.declared.Model.{Model}
+use Rattle.device.specs.declared.Schedule.{Schedule}
+use Rattle.device.specs.declared.Told.{Told}
+use Rattle.device.specs.Model.{isSound}
+use Rattle.device.specs.Call.{firstOf}
+use Rattle.device.specs.Question.{interruptPending, awaitedTold, regulatorOn, peek}
+use Rattle.run_state.specs.declared.Placed.{Placed}
+use Rattle.run_state.specs.State.{initialisedTold, leftTold}
+use Rattle.run_state.specs.Event.{placeTold}
+use Rattle.setup_frames.specs.Frames.{framesVerdict, answerBy, bytesBy, lengthsBy}
+use Rattle.finding.specs.Finding.{toldCode, toldWords, framedCode, framedWords}
+use Rattle.max35101_questions.specs.Places.{placedCode, placedWords}
+use Rattle.max35101_questions.specs.Frames.{SetUp}
+
+abbrev pub NotTold : Told → Type 0
+NotTold t = (toldCode t ≡ 0) × (toldWords t ≡ [])
+
+abbrev pub NotPlaced : Placed → Type 0
+NotPlaced p = (placedCode p ≡ 0) × (placedWords p ≡ [])
+
+module _ (m : Model) (unsound : isSound m ≡ false) where
+  pub questions-zero : (k : Schedule) (a : ℕ)
+      → NotTold (interruptPending m) × NotTold (awaitedTold m k) × NotTold (regulatorOn m) × NotTold (peek m a) × NotTold (initialisedTold m)
+      × NotTold (leftTold m k) × NotPlaced (placeTold m k)
+  unfolding interruptPending awaitedTold regulatorOn peek initialisedTold leftTold placeTold toldCode toldWords placedCode placedWords
+  questions-zero k a = rw unsound ((refl, refl), (refl, refl), (refl, refl), (refl, refl), (refl, refl), (refl, refl), (refl, refl))
+
+  -- set-up frames: nor is a byte or a length put
+  pub frames-zero : {bytes lengths sizes bytes′ lengths′ sizes′ : List ℕ} {code : ℕ} → SetUp m bytes lengths sizes code bytes′ lengths′ sizes′
+      → (code ≡ 0) × (sizes′ ≡ sizes) × (bytes′ ≡ bytes) × (lengths′ ≡ lengths)
+  unfolding framesVerdict firstOf answerBy bytesBy lengthsBy framedCode framedWords
+  frames-zero s = (rw unsound at (s .number), rw unsound at (s .answer), rw unsound at (s .inBytes), rw unsound at (s .inLengths))

@@ -6,9 +6,9 @@ use native.Mathlib.Omega.{arith}
 use lib.ListN.{length, getD, set, length-set}
 use lib.Seq.{set-getD, getD-set-same}
 use Rattle.wording.specs.Wording.{Texts}
-use Rattle.item_state.specs.Log.{Log, added, put}
+use Rattle.item_state.specs.Log.{Log, added, put, callCounted}
 use Rattle.answer_text.proofs.Page.{ending-page, page-then}
-use Rattle.answer_text.specs.Texts.{Told, onPage, endingAt, silent, behind, callCounted, answered}
+use Rattle.answer_text.specs.Texts.{Told, onPage, endingAt, silent, behind, answered}
 
 -- What is told of counts, and of the same counts with another first one: the texts are the same, and the counts differ in the first
 -- alone; and there are as many counts as before.

@@ -16,9 +16,9 @@ use Rattle.device.specs.Reply.{reply}
 use Rattle.line.specs.declared.Content.{Content}
 use Rattle.numeral.specs.Ascii.{ascii}
 use Rattle.wording.specs.Wording.{Texts, lineFeed, numbered, delivery, single, stretch}
-use Rattle.item_state.specs.Log.{Log, added, said, counted, called, refusals}
+use Rattle.item_state.specs.Log.{Log, added, said, counted, called, refusals, callCounted}
 use Rattle.item_calls.specs.Lines.{WithFlash, told, itemCounts, startMoment, transacted, busLine, setLine, moved, singleLine, ticked, partEnded, ticksPart, ticksAhead, unlessUnderWay, ticksBegun, tickLine, atBegun, atLine, movedBy, stretchLine, flightLine, temperatureLine, beside, itemLine, timedLine, callLine}
-use Rattle.answer_text.specs.Texts.{Told, onPage, silent, behind, callCounted, answered, toldOfTransaction, toldOfBus, toldOfSet, toldOfSingle, toldOfHead, endTexts, toldOfPart, toldOfTicks, toldOfTick, toldOfAt, toldOfStretch, toldOfDelivery, callTold}
+use Rattle.answer_text.specs.Texts.{Told, onPage, silent, behind, answered, toldOfTransaction, toldOfBus, toldOfSet, toldOfSingle, toldOfHead, endTexts, toldOfPart, toldOfTicks, toldOfTick, toldOfAt, toldOfStretch, toldOfDelivery, callTold}
 use Rattle.answer_text.proofs.Page.{front, by-front, silent-page, put-more, called-page}
 use Rattle.answer_text.proofs.Aside.{Aside, page-some, page-behind, behind-aside, first-left, silent-aside, call-set, call-long, answered-aside}
 

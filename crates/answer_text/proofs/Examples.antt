@@ -13,11 +13,11 @@ use Rattle.listing.specs.Listing.{sign, rightJustified, line, lines, lastAbove}
 use Rattle.line.specs.declared.Content.{Content}
 use Rattle.numeral.specs.Ascii.{ascii}
 use Rattle.wording.specs.Wording.{counted, numbered, difference, refusalWords, refusalWord, refusal, refused, listingHead}
-use Rattle.item_state.specs.Log.{Log, added}
+use Rattle.item_state.specs.Log.{Log, added, callCounted}
 use Rattle.item_calls.specs.Lines.{moved}
 use Rattle.item_analysis.specs.Kept.{keptOne, keptEach}
 use Rattle.item_analysis.specs.Lines.{ItemKept, differenceTexts, recordTexts, recordWords}
-use Rattle.answer_text.specs.Texts.{onPage, callCounted, toldOfHead, endTexts, toldOfRecord, toldOfListing, analysisTold}
+use Rattle.answer_text.specs.Texts.{onPage, toldOfHead, endTexts, toldOfRecord, toldOfListing, analysisTold}
 
 -- Where the answers end, the calls, the moment, the differences in the record, and the ticks that are left.
 abbrev counts : ℕ → ℕ → ℕ → ℕ → ℕ → List ℕ

@@ -20,10 +20,10 @@ use Rattle.listing.specs.Listing.{captureDigits, lineLength, lines, lastAbove, 
 use Rattle.listing.proofs.Meaning.{Fit, lines-length}
 use Rattle.numeral.specs.Ascii.{ascii}
 use Rattle.wording.specs.Wording.{Texts, counted as numberOf, refusalWords, refusalWord, refusal, refused, listingHead}
-use Rattle.item_state.specs.Log.{Log, put, counted, called}
+use Rattle.item_state.specs.Log.{Log, put, counted, called, callCounted}
 use Rattle.item_analysis.specs.Lines.{widthOf, listedAt, listingTold, listingLine}
 use Rattle.answer_text.proofs.Page.{joined-last}
-use Rattle.answer_text.specs.Texts.{onPage, HasRoom, callCounted, answered, toldOfListing, recorded}
+use Rattle.answer_text.specs.Texts.{onPage, HasRoom, answered, toldOfListing, recorded}
 
 -- ---- a text over another
 

@@ -11,8 +11,8 @@ use Rattle.numeral.proofs.PlaceLaws.{put-each, length-overwrite}
 use Rattle.wording.specs.Text.{PutEach}
 use Rattle.wording.specs.Wording.{Texts}
 use Rattle.wording.proofs.Each.{each-then}
-use Rattle.item_state.specs.Log.{Log, put, counted, called}
-use Rattle.answer_text.specs.Texts.{Told, onPage, HasRoom, endingAt, silent, callCounted, answered}
+use Rattle.item_state.specs.Log.{Log, put, counted, called, callCounted}
+use Rattle.answer_text.specs.Texts.{Told, onPage, HasRoom, endingAt, silent, answered}
 
 -- A log that has a first count.
 abbrev pub front : ℕ → List ℕ → List ℕ → Log

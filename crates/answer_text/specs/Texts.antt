@@ -26,7 +26,7 @@ use Rattle.page.specs.Page.{pageTexts}
 use Rattle.line.specs.declared.Content.{Content}
 use Rattle.numeral.specs.Ascii.{ascii}
 use Rattle.wording.specs.Wording.{Texts, lineFeed, bus, set as setTexts, delivery, numbered, single, stretch, counted, probe, degrees, refused, listingHead, quietest}
-use Rattle.item_state.specs.Log.{Log, added, put, refusals}
+use Rattle.item_state.specs.Log.{Log, added, put, callCounted, refusals}
 use Rattle.item_calls.specs.Lines.{WithFlash, itemCounts, startMoment, writeBytes, moved, movedBy, ticked}
 use Rattle.item_calls.specs.Buffer.{bufferSize}
 use Rattle.item_questions.specs.Answers.{interrupt, awaited, registers, differing, expectation, frameLines}
@@ -57,10 +57,6 @@ silent counts = record { texts = []; counts = counts }
 -- one thing told, then another, which goes by the counts that the first left
 abbrev pub behind : Told → (List ℕ → Told) → Told
 behind first next = record { texts = first .texts ++ next (first .counts) .texts; counts = next (first .counts) .counts }
-
--- "C counts the lines .. that were calls, R those of them answered `no`": a call more
-unfoldable pub callCounted : ℕ → List ℕ → List ℕ
-callCounted refused counts = added (added counts 3 1) 4 refused
 
 -- a call answered with texts
 abbrev pub answered : ℕ → Texts → List ℕ → Told

@@ -3,7 +3,7 @@ ghost use mathlib.Core.Path.{_≡_};
 ghost use mathlib.Core.List.{_++_};
 ghost use Prim.Native.Nat.{_+_, _≤_, min};
 ghost use lib.ListN.{length, take, drop};
-ghost use Rattle.item_checks.specs.Close.{answer, placeOf, firstEnd, startsWith, beginsWith, wantedIn, inserted, compared, judgedLog, announced as Close·announced, refusalCounted, trouble as Close·trouble, shortened, looked, closed, expectedFrom, cutOff, keptBriefly};
+ghost use Rattle.item_checks.specs.Close.{answer, placeOf, firstEnd, startsWith, beginsWith, wantedIn, inserted, compared, judgedLog, isAnnounced, refusalCounted, trouble as Close·trouble, shortened, looked, closed, expectedFrom, cutOff, keptBriefly};
 use item_state::counts::BAD;
 use item_state::counts::BODY;
 use item_state::counts::CHECK;
@@ -92,7 +92,7 @@ fn count_unannounced(counts: &mut [usize; 22], announced: bool)
 
 // Whether the answer is one that the line expects.
 fn judged(text: &[u8], expected: usize, counts: &mut [usize; 22], answers: &mut [u8]) -> bool
-    ensures { λ r. ⌜ (r ≡ Close·announced (expectedFrom (now (text .entry)) expected) record { counts = now (counts .entry); answers = now (answers .entry) }) × (record { counts = now (counts .exit); answers = now (answers .exit) } ≡ judgedLog (expectedFrom (now (text .entry)) expected) record { counts = now (counts .entry); answers = now (answers .entry) }) ⌝ }
+    ensures { λ r. ⌜ (r ≡ isAnnounced (expectedFrom (now (text .entry)) expected) (now (counts .entry)) (answer record { counts = now (counts .entry); answers = now (answers .entry) })) × (record { counts = now (counts .exit); answers = now (answers .exit) } ≡ judgedLog (expectedFrom (now (text .entry)) expected) record { counts = now (counts .entry); answers = now (answers .entry) }) ⌝ }
 {
     if expected == 0 {
         return false;

@@ -1,6 +1,6 @@
 // Lines that are no calls.
 ghost use mathlib.Core.Path.{_≡_};
-ghost use Rattle.item_checks.specs.Fault.{atLeastOne, comesWrong, isFault, leftOf, faultTold, faultLog};
+ghost use Rattle.item_checks.specs.Fault.{atLeastOne, isPastOrFull, isFault, leftOf, faultSaid, faultLog};
 use item_state::counts::BAD;
 use item_state::counts::LINES;
 use item_state::counts::MOMENT;
@@ -24,7 +24,7 @@ pub fn answer_fault(content: Content, counts: &mut [usize; 22], answers: &mut [u
 }
 
 fn tell_fault(content: Content, counts: &mut [usize; 22], answers: &mut [u8])
-    ensures { λ _. ⌜ record { counts = now (counts .exit); answers = now (answers .exit) } ≡ faultTold content record { counts = now (counts .entry); answers = now (answers .entry) } ⌝ }
+    ensures { λ _. ⌜ record { counts = now (counts .exit); answers = now (answers .exit) } ≡ faultSaid content record { counts = now (counts .entry); answers = now (answers .entry) } ⌝ }
 {
     counts[BAD] = more(counts[BAD], 1);
     let number = counts[LINES] as u64;
@@ -39,13 +39,13 @@ fn is_fault(content: Content, counts: &[usize; 22]) -> bool
         Content::UnknownWord => true,
         Content::BadNumber => true,
         Content::WrongCount => true,
-        _ => comes_wrong(content, counts),
+        _ => is_past_or_full(content, counts),
     }
 }
 
 // A line that is no call because of what came before it: its moment has passed, or there is no room.
-fn comes_wrong(content: Content, counts: &[usize; 22]) -> bool
-    ensures { λ r. ⌜ r ≡ comesWrong content (now (counts .entry)) ⌝ }
+fn is_past_or_full(content: Content, counts: &[usize; 22]) -> bool
+    ensures { λ r. ⌜ r ≡ isPastOrFull content (now (counts .entry)) ⌝ }
 {
     match content {
         Content::At(t) => (t as usize) < counts[MOMENT],

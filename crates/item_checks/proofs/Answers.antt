@@ -17,8 +17,8 @@ use Rattle.line.specs.Line.{contentLength, wordsExpected, lineExpected}
 use Rattle.line.specs.Mark.{Expects}
 use Rattle.line.specs.Spaced.{blanked, spaced}
 use Rattle.wording.specs.Wording.{place, itemName}
-use Rattle.item_state.specs.Log.{Log, added, said, counted, called}
-use Rattle.item_checks.specs.Close.{lineWords, answer, placeOf, startsWith, beginsWith, wantedIn, inserted, oneMore, compared, expectedFrom, expectedOf, judgedLog, announced, refusalCounted, trouble, tail, closed}
+use Rattle.item_state.specs.Log.{Log, added, said, callCounted, counted, called}
+use Rattle.item_checks.specs.Close.{lineWords, answer, placeOf, startsWith, beginsWith, wantedIn, inserted, oneMore, compared, expectedFrom, expectedOf, judgedLog, isAnnounced, refusalCounted, trouble, tail, closed}
 use Rattle.item_checks.specs.Open.{lineCounted, headed, begun, itemNamed}
 
 -- ---- "the words that its answer begins with, the first word of the answer left out"
@@ -190,12 +190,12 @@ refusal-apart false counts = go (eqb (getD counts 4 0) (getD counts 17 0))
 -- A line without `=>` keeps its answer as it is.
 pub no-mark : (names : List ℕ) (l : Log) → getD (l .counts) 14 0 ≡ 0
     → closed [] names l ≡ record { counts = refusalCounted false (l .counts); answers = l .answers }
-unfolding closed judgedLog announced
+unfolding closed judgedLog isAnnounced
 no-mark names l h = rw (refusal-apart false (l .counts), h)
 
 -- An answer that is as expected stays as it is, and is counted among the expectations.
-pub as-expected : (wanted : List ℕ) (l : Log) → announced (wanted ∷ []) l ≡ true → judgedLog (wanted ∷ []) l ≡ record { counts = added (l .counts) 7 1; answers = l .answers }
-unfolding announced judgedLog compared
+pub as-expected : (wanted : List ℕ) (l : Log) → isAnnounced (wanted ∷ []) (l .counts) (answer l) ≡ true → judgedLog (wanted ∷ []) l ≡ record { counts = added (l .counts) 7 1; answers = l .answers }
+unfolding isAnnounced judgedLog compared
 as-expected wanted l = go (eqb (getD (l .counts) 6 0) (getD (l .counts) 18 0)) (beginsWith wanted (answer l))
   where
     go : (t u : Bool) → cond t u false ≡ true
@@ -336,14 +336,14 @@ module _ (line : List ℕ) (e : ℕ) (ws : List (List ℕ)) (clean : NoFeed line
 
   module _ (l : Log) (call : getD (l .counts) 6 0 ≡ getD (l .counts) 18 0) (first v : List ℕ) (vs : List (List ℕ)) (rest : List ℕ)
       (there : answer l ≡ answerOf first v vs rest) (a : Above first) (b : AllAbove (v ∷ vs)) where
-    announced-is : announced (expectedFrom line e) l ≡ beginsWith (joined (spaced ws)) (answerOf first v vs rest)
-    unfolding announced expectedFrom
+    announced-is : isAnnounced (expectedFrom line e) (l .counts) (answer l) ≡ beginsWith (joined (spaced ws)) (answerOf first v vs rest)
+    unfolding isAnnounced expectedFrom
     announced-is =
         rw (ne-eqb e 0 (λ z. omega arith), eq-eqb (getD (l .counts) 6 0) (getD (l .counts) 18 0) call, wanted-are line e ws marked says some, there)
 
     -- A call whose line has `=>` and words ws is answered as expected where the words behind the answer's first begin with ws, and
     -- only there.
-    pub announced-exactly : (announced (expectedFrom line e) l ≡ true → take (length ws) (v ∷ vs) ≡ ws) × (take (length ws) (v ∷ vs) ≡ ws → announced (expectedFrom line e) l ≡ true)
+    pub announced-exactly : (isAnnounced (expectedFrom line e) (l .counts) (answer l) ≡ true → take (length ws) (v ∷ vs) ≡ ws) × (take (length ws) (v ∷ vs) ≡ ws → isAnnounced (expectedFrom line e) (l .counts) (answer l) ≡ true)
     announced-exactly =
         let exact = begins-exactly first v vs ws rest a b expected-apart in
         (λ h. exact .0 (sym announced-is ∙ h), λ h. announced-is ∙ exact .1 h)
@@ -418,7 +418,7 @@ unfolding added
 added-length counts place k = length-set counts place (min (getD counts place 0 + k) 18446744073709551615)
 
 counted-body : (counts : List ℕ) (refused used : ℕ) → getD (counted counts refused used) 20 0 ≡ getD counts 20 0
-unfolding counted added
+unfolding counted callCounted added
 counted-body counts refused used =
     let calls = min (getD counts 3 0 + 1) 18446744073709551615 in
     let one = set counts 3 calls in
@@ -427,7 +427,7 @@ counted-body counts refused used =
     ∙ getD-set-other counts 3 20 calls 0 (λ e. omega arith)
 
 counted-used : (counts : List ℕ) (refused used : ℕ) → 20 < length counts → getD (counted counts refused used) 0 0 ≡ used
-unfolding counted
+unfolding counted callCounted
 counted-used counts refused used long =
     getD-set-same (added (added counts 3 1) 4 refused) 0 used 0 (rw (added-length (added counts 3 1) 4 refused, added-length counts 3 1) (omega arith))
 

@@ -14,8 +14,8 @@ use Rattle.line.specs.Spaced.{blanked, spaced}
 use Rattle.numeral.specs.Ascii.{ascii}
 use Rattle.wording.specs.Wording.{counted, why, fault, place, expected}
 use Rattle.item_state.specs.Log.{Log, added, said}
-use Rattle.item_checks.specs.Fault.{atLeastOne, comesWrong, isFault, leftOf, faultTold, faultLog}
-use Rattle.item_checks.specs.Close.{lineWords, placeOf, firstEnd, startsWith, beginsWith, wantedIn, within, inserted, compared, expectedFrom, judgedLog, announced, refusalCounted, trouble, tail, shortened, looked, closed}
+use Rattle.item_checks.specs.Fault.{atLeastOne, isPastOrFull, isFault, leftOf, faultSaid, faultLog}
+use Rattle.item_checks.specs.Close.{lineWords, placeOf, firstEnd, startsWith, beginsWith, wantedIn, within, inserted, compared, expectedFrom, judgedLog, isAnnounced, refusalCounted, trouble, tail, shortened, looked, closed}
 use Rattle.item_checks.specs.Open.{lineCounted, headed, begun, isItem, named, opened}
 
 -- The moment, the differences in the record, and the entries of the probe table.
@@ -24,24 +24,24 @@ counts moment kept probes = 0 ∷ 0 ∷ 0 ∷ 0 ∷ 0 ∷ 0 ∷ 0 ∷ 0 ∷ 0 �
 
 -- `at 5` is a call until the fifth tick has passed.
 past : (isFault (Content.At 5) (counts 5 0 0) ≡ false) × (isFault (Content.At 5) (counts 6 0 0) ≡ true)
-unfolding isFault comesWrong
+unfolding isFault isPastOrFull
 past = (refl, refl)
 
 -- 1,024 entries fit an empty table, and none a full one.
 table : (isFault (Content.Probe 1024) (counts 0 0 0) ≡ false) × (isFault (Content.Probe 1) (counts 0 0 1024) ≡ true)
-unfolding isFault comesWrong
+unfolding isFault isPastOrFull
 table = (refl, refl)
 
 -- 4,096 differences fit an empty record; one without numbers takes one place.
 record-full : (isFault (Content.Record 4096) (counts 0 0 0) ≡ false) × (isFault (Content.Record 0) (counts 0 4095 0) ≡ false)
     × (isFault (Content.Record 0) (counts 0 4096 0) ≡ true)
-unfolding isFault comesWrong atLeastOne
+unfolding isFault isPastOrFull atLeastOne
 record-full = (refl, refl, refl)
 
 bad-lines : (isFault Content.TooLong (counts 0 0 0) ≡ true) × (isFault Content.UnknownWord (counts 0 0 0) ≡ true)
     × (isFault Content.BadNumber (counts 0 0 0) ≡ true) × (isFault Content.WrongCount (counts 0 0 0) ≡ true)
     × (isFault Content.Nothing (counts 0 0 0) ≡ false)
-unfolding isFault comesWrong
+unfolding isFault isPastOrFull
 bad-lines = (refl, refl, refl, refl, refl)
 
 -- ---- what stands behind an answer
@@ -57,12 +57,12 @@ log used refused alone wanted differ text =
 -- `tick 1` is answered as expected, and the answer stays; so it does without an expectation.
 ticked : (closed (expectedFrom (ascii "tick 1 => 1") 9) [] (log 7 0 0 0 0 "tick 1\n...........") ≡ log 7 0 0 1 0 "tick 1\n...........")
     × (closed (expectedFrom (ascii "tick 1") 0) [] (log 7 0 0 0 0 "tick 1\n...........") ≡ log 7 0 0 0 0 "tick 1\n...........")
-unfolding ascii lineWords placeOf firstEnd startsWith beginsWith wantedIn within inserted compared expectedFrom judgedLog announced refusalCounted closed contentLength isBlank ended wordsAfter words blanked spaced joined added
+unfolding ascii lineWords placeOf firstEnd startsWith beginsWith wantedIn within inserted compared expectedFrom judgedLog isAnnounced refusalCounted closed contentLength isBlank ended wordsAfter words blanked spaced joined added
 ticked = (refl, refl)
 
 -- A delivery that nothing awaits: what was expected stands in the answer, the expectation differs, the refusal is not announced.
 not-awaited : closed (expectedFrom (ascii "flight 1 / => good") 13) [] (log 25 1 0 0 0 "flight no 10 not awaited\n......................") ≡ log 39 1 1 1 1 "flight no 10 not awaited expected good\n........"
-unfolding ascii lineWords placeOf firstEnd startsWith beginsWith wantedIn within inserted compared expectedFrom judgedLog announced refusalCounted closed contentLength isBlank ended wordsAfter words blanked spaced joined added expected
+unfolding ascii lineWords placeOf firstEnd startsWith beginsWith wantedIn within inserted compared expectedFrom judgedLog isAnnounced refusalCounted closed contentLength isBlank ended wordsAfter words blanked spaced joined added expected
 not-awaited = refl
 
 -- The same refusal announced: `=> no`, `=> no 10` and `=>` are what it begins with, and `=> no 1` is not.
@@ -84,7 +84,7 @@ checked used wanted differ start body text =
 -- Of a line without trouble nothing is written; of another its first line is.
 in-check : (closed (expectedFrom (ascii "int") 0) (ascii "a") (checked 14 0 0 1 6 "_a:3: int yes\n..............") ≡ checked 1 0 0 1 6 "_a:3: int yes\n..............")
     × (closed (expectedFrom (ascii "int => no") 6) (ascii "a") (checked 14 0 0 1 6 "_a:3: int yes\n..............") ≡ checked 26 1 1 1 6 "_a:3: int yes expected no\n..")
-unfolding ascii lineWords placeOf firstEnd startsWith beginsWith wantedIn within inserted compared expectedFrom judgedLog announced refusalCounted trouble tail shortened looked closed contentLength isBlank ended wordsAfter words blanked spaced joined added expected overwrite nextPlace written putEach
+unfolding ascii lineWords placeOf firstEnd startsWith beginsWith wantedIn within inserted compared expectedFrom judgedLog isAnnounced refusalCounted trouble tail shortened looked closed contentLength isBlank ended wordsAfter words blanked spaced joined added expected overwrite nextPlace written putEach
 in-check = (refl, refl)
 
 -- ---- what stands before an answer
@@ -102,5 +102,5 @@ before : (opened Content.UnknownWord (ascii "foo") (ascii "a") (file 0 0 0 0 0 "
     ≡ record { content = Content.Nothing; names = ascii "a"; log = file 0 1 21 1 0 "line 1: unknown word\n..." })
     × (opened Content.Int (ascii "int") (ascii "a") (file 0 0 0 0 0 "...........") ≡ record { content = Content.Int; names = ascii "a"; log = file 0 1 0 0 0 "..........." })
     × (opened Content.Int (ascii "int") (ascii "a") (file 1 0 0 0 0 "...........") ≡ record { content = Content.Int; names = ascii "a"; log = file 1 1 5 0 5 "a:1: ......" })
-unfolding ascii lineCounted headed begun isItem named opened leftOf faultLog faultTold isFault comesWrong trouble place counted fault why decimal decimalWidth widthFrom digits glyph overwrite nextPlace written putEach said added
+unfolding ascii lineCounted headed begun isItem named opened leftOf faultLog faultSaid isFault isPastOrFull trouble place counted fault why decimal decimalWidth widthFrom digits glyph overwrite nextPlace written putEach said added
 before = (refl, refl, refl)

@@ -89,19 +89,19 @@ unfoldable pub expectedOf : List ℕ → List (List ℕ)
 expectedOf text = map (λ (ws : List (List ℕ)). joined (spaced ws)) (lineExpected text)
 
 -- "A bad line has no expectation": there are as many bad lines as before this one.
-abbrev pub isCall : Log → Bool
-isCall l = eqb (getD (l .counts) 6 0) (getD (l .counts) 18 0)
+abbrev pub isNotBad : List ℕ → Bool
+isNotBad counts = eqb (getD counts 6 0) (getD counts 18 0)
 
 unfoldable pub judgedLog : List (List ℕ) → Log → Log
 judgedLog [] l = l
-judgedLog (wanted ∷ others) l = cond (isCall l) (compared wanted l) l
+judgedLog (wanted ∷ others) l = cond (isNotBad (l .counts)) (compared wanted l) l
 
 -- ---- refusals that nothing announces
 
 -- Whether the line expects what it is answered.
-unfoldable pub announced : List (List ℕ) → Log → Bool
-announced [] l = false
-announced (wanted ∷ others) l = cond (isCall l) (beginsWith wanted (answer l)) false
+unfoldable pub isAnnounced : List (List ℕ) → List ℕ → List ℕ → Bool
+isAnnounced [] counts answer = false
+isAnnounced (wanted ∷ others) counts answer = cond (isNotBad counts) (beginsWith wanted answer) false
 
 -- "U those of R that are not announced": a refusal more than before the line
 unfoldable pub refusalCounted : Bool → List ℕ → List ℕ
@@ -153,5 +153,5 @@ looked names l = cond (eqb (trouble (l .counts)) (getD (l .counts) 19 0)) (dropp
 unfoldable pub closed : List (List ℕ) → List ℕ → Log → Log
 closed expected names l =
     let j = judgedLog expected l in
-    let u : Log = record { counts = refusalCounted (announced expected l) (j .counts); answers = j .answers } in
+    let u : Log = record { counts = refusalCounted (isAnnounced expected (l .counts) (answer l)) (j .counts); answers = j .answers } in
     cond (eqb (getD (u .counts) 14 0) 0) u (looked names u)

@@ -23,9 +23,13 @@ put texts l = putEach (l .answers) (getD (l .counts) 0 0) texts
 unfoldable pub said : List (List ℕ) → Log → Log
 said texts l = record { counts = set (l .counts) 0 (put texts l .next); answers = put texts l .bytes }
 
--- "C counts the lines .. that were calls, R those of them answered `no`": a call more, the answers now ending at `used`
+-- "C counts the lines .. that were calls, R those of them answered `no`": a call more
+unfoldable pub callCounted : ℕ → List ℕ → List ℕ
+callCounted refused counts = added (added counts 3 1) 4 refused
+
+-- the same, the answers now ending at `used`
 unfoldable pub counted : List ℕ → ℕ → ℕ → List ℕ
-counted counts refused used = set (added (added counts 3 1) 4 refused) 0 used
+counted counts refused used = set (callCounted refused counts) 0 used
 
 -- a call answered with texts
 unfoldable pub called : ℕ → List (List ℕ) → Log → Log

@@ -15,13 +15,13 @@ use Rattle.listing.proofs.Meaning.{Fit, lines-length}
 use Rattle.line.specs.declared.Content.{Content}
 use Rattle.numeral.specs.Ascii.{ascii}
 use Rattle.wording.specs.Wording.{Texts, lineFeed, place, expected as expectedTexts, leftOut, refused, listingHead}
-use Rattle.item_state.specs.Log.{Log, added, put, said, counted, called}
+use Rattle.item_state.specs.Log.{Log, added, put, said, callCounted, counted, called}
 use Rattle.item_calls.specs.Lines.{callLine, timedLine, beside}
 use Rattle.item_questions.specs.Answers.{questionLine}
 use Rattle.item_analysis.specs.Lines.{widthOf, listedAt, listingTold, listingLine, analysisLine}
-use Rattle.item_checks.specs.Fault.{isFault, leftOf, faultTold, faultLog}
+use Rattle.item_checks.specs.Fault.{isFault, leftOf, faultSaid, faultLog}
 use Rattle.item_checks.specs.Open.{lineCounted, headed, begun, isItem, itemNamed, named, opened}
-use Rattle.item_checks.specs.Close.{lineWords, answer, placeOf, firstEnd, beginsWith, within, inserted, oneMore, compared, judgedLog, announced, refusalCounted, cutOff, keptBriefly, trouble, tail, shortened, looked, closed}
+use Rattle.item_checks.specs.Close.{lineWords, answer, placeOf, firstEnd, beginsWith, within, inserted, oneMore, compared, judgedLog, isAnnounced, refusalCounted, cutOff, keptBriefly, trouble, tail, shortened, looked, closed}
 use Rattle.answer_text.specs.Texts.{onPage, isListing}
 use Rattle.answer_text.specs.Line.{lineLeft, lineTold}
 use Rattle.answer_text.proofs.Page.{page-long}
@@ -61,7 +61,7 @@ said-then : (ts : Texts) (counts : List ℕ) (l : Log) → length counts ≡ len
 said-then ts counts l h = alike-then (counts-alike counts l h) (said-alike ts record { counts = counts; answers = l .answers })
 
 counted-long : (counts : List ℕ) (refusals used : ℕ) → length (counted counts refusals used) ≡ length counts
-unfolding counted added
+unfolding counted callCounted added
 counted-long counts refusals used = simp length-set
 
 called-alike : (refusals : ℕ) (ts : Texts) (l : Log) → Alike l (called refusals ts l)
@@ -91,7 +91,7 @@ begun-alike names l =
     (counts-alike (set (head .counts) 20 (getD (head .counts) 0 0)) head (length-set (head .counts) 20 (getD (head .counts) 0 0))))
 
 fault-alike : (content : Content) (l : Log) → Alike l (faultLog content l)
-unfolding faultLog faultTold
+unfolding faultLog faultSaid
 fault-alike content l = either-alike (isFault content (l .counts)) (said-then _ (added (l .counts) 6 1) l (added-long (l .counts) 6 1)) (alike l)
 
 named-alike : (content : Content) (text names : List ℕ) (l : Log) → Alike l (named content text names l .log)
@@ -274,8 +274,8 @@ closed-alike : (expected : List (List ℕ)) (names : List ℕ) (l : Log) → Ali
 unfolding closed
 closed-alike expected names l =
     let j = judgedLog expected l in
-    let u : Log = record { counts = refusalCounted (announced expected l) (j .counts); answers = j .answers } in
-    let first : Alike l u = alike-then (judged-alike expected l) (counts-alike (u .counts) j (refusal-long (announced expected l) (j .counts))) in
+    let u : Log = record { counts = refusalCounted (isAnnounced expected (l .counts) (answer l)) (j .counts); answers = j .answers } in
+    let first : Alike l u = alike-then (judged-alike expected l) (counts-alike (u .counts) j (refusal-long (isAnnounced expected (l .counts) (answer l)) (j .counts))) in
     either-alike (eqb (getD (u .counts) 14 0) 0) first (alike-then first (looked-alike names u))
 
 -- In a check the answer is cut.

@@ -22,11 +22,11 @@ use Rattle.quietest.specs.declared.Place.{Place}
 use Rattle.listing.specs.Listing.{lastAbove}
 use Rattle.line.specs.declared.Content.{Content}
 use Rattle.wording.specs.Wording.{Texts}
-use Rattle.item_state.specs.Log.{added, refusals}
+use Rattle.item_state.specs.Log.{added, refusals, callCounted}
 use Rattle.item_calls.specs.Lines.{WithFlash, itemCounts, startMoment, moved, movedBy, callLine}
-use Rattle.item_checks.specs.Fault.{comesWrong, isFault, leftOf}
+use Rattle.item_checks.specs.Fault.{isPastOrFull, isFault, leftOf}
 use Rattle.item_checks.specs.Open.{lineCounted, isItem}
-use Rattle.answer_text.specs.Texts.{Told, callCounted, toldOfTransaction, toldOfBus, toldOfSet, toldOfSingle, toldOfHead, toldOfPart, toldOfTicks, toldOfTick, toldOfAt, toldOfStretch, toldOfDelivery, callTold, toldOfExpect, toldOfFrames, questionTold, toldOfProbe, toldInDegrees, toldOfDegrees, toldOfRecord, toldOfListing, toldOfPlace, toldOfQuietest, analysisTold}
+use Rattle.answer_text.specs.Texts.{Told, toldOfTransaction, toldOfBus, toldOfSet, toldOfSingle, toldOfHead, toldOfPart, toldOfTicks, toldOfTick, toldOfAt, toldOfStretch, toldOfDelivery, callTold, toldOfExpect, toldOfFrames, questionTold, toldOfProbe, toldInDegrees, toldOfDegrees, toldOfRecord, toldOfListing, toldOfPlace, toldOfQuietest, analysisTold}
 use Rattle.answer_text.specs.Line.{toldOfKept, lineTold}
 use Rattle.session.specs.Line.{Replay}
 use Rattle.line_text.specs.Text.{headTold, begunTold, faultTold, itemTold, bare, ownTold, headOf, ownOf}
@@ -285,7 +285,7 @@ line-left content numbers s differences probes none long =
 
 -- a bad line has no ticks to run
 pub fault-ticks : (content : Content) (counts : List ℕ) → isFault content counts ≡ true → ticksOf content counts ≡ 0
-unfolding isFault comesWrong ticksOf
+unfolding isFault isPastOrFull ticksOf
 fault-ticks Content.Nothing counts bad = refl
 fault-ticks Content.TooLong counts bad = refl
 fault-ticks Content.UnknownWord counts bad = refl

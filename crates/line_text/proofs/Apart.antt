@@ -11,12 +11,12 @@ use Rattle.numeral.specs.Place.{joined}
 use Rattle.line.specs.declared.Content.{Content}
 use Rattle.item_state.specs.Log.{added}
 use Rattle.item_checks.specs.Fault.{leftOf}
-use Rattle.item_checks.specs.Close.{beginsWith, refusalCounted, trouble, tail}
+use Rattle.item_checks.specs.Close.{beginsWith, refusalCounted, trouble, tail, isAnnounced, isNotBad}
 use Rattle.answer_text.specs.Texts.{Told}
 use Rattle.answer_text.specs.Line.{lineTold}
 use Rattle.answer_text.proofs.Aside.{behind-aside}
 use Rattle.session.specs.Line.{State}
-use Rattle.line_text.specs.Text.{itemTold, namesAfter, bare, ownTold, isCall, judgedText, judgedCounts, isAnnounced, shownAnswer, closedCounts, lookedText, closedText, toldText, toldCounts, elsewhere}
+use Rattle.line_text.specs.Text.{itemTold, namesAfter, bare, ownTold, judgedText, judgedCounts, shownAnswer, closedCounts, lookedText, closedText, toldText, toldCounts, elsewhere}
 use Rattle.line_text.proofs.Told.{fault-same, left-set, fault-aside, item-aside}
 use Rattle.line_text.proofs.Whole.{tell-aside}
 use Rattle.line_text.proofs.Own.{own-placed}
@@ -121,7 +121,7 @@ module _ (p v : ℕ) (a : Apart p) where
   added-apart counts n apart =
       rw (getD-set-other counts p n v 0 apart, set-comm counts p n v (min (getD counts n 0 + 1) 18446744073709551615) (λ e. apart (sym e)))
 
-  call-apart : (counts : List ℕ) → isCall (set counts p v) ≡ isCall counts
+  call-apart : (counts : List ℕ) → isNotBad (set counts p v) ≡ isNotBad counts
   call-apart counts = rw (getD-set-other counts p 6 v 0 (a .six), getD-set-other counts p 18 v 0 (a .eighteen))
 
   pub judged-text-apart : (expected : List (List ℕ)) (counts answer : List ℕ) → judgedText expected (set counts p v) answer ≡ judgedText expected counts answer
@@ -138,7 +138,7 @@ module _ (p v : ℕ) (a : Apart p) where
   unfolding judgedCounts
   judged-counts-apart [] counts answer = refl
   judged-counts-apart (wanted ∷ others) counts answer =
-      rw (call-apart counts, added-apart counts 7 (a .seven), added-apart (added counts 7 1) 8 (a .eight)) (go (isCall counts) (beginsWith wanted answer))
+      rw (call-apart counts, added-apart counts 7 (a .seven), added-apart (added counts 7 1) 8 (a .eight)) (go (isNotBad counts) (beginsWith wanted answer))
     where
       go : (t u : Bool) → cond t (cond u (set (added counts 7 1) p v) (set (added (added counts 7 1) 8 1) p v)) (set counts p v)
           ≡ set (cond t (cond u (added counts 7 1) (added (added counts 7 1) 8 1)) counts) p v

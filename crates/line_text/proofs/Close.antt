@@ -13,9 +13,9 @@ use Rattle.numeral.specs.Place.{noRoom, overwrite, putEach, joined}
 use Rattle.numeral.proofs.PlaceLaws.{length-overwrite, put-each}
 use Rattle.wording.specs.Wording.{expected as expectedTexts, leftOut}
 use Rattle.item_state.specs.Log.{Log, added}
-use Rattle.item_checks.specs.Close.{answer, placeOf, firstEnd, beginsWith, within, inserted, oneMore, compared, judgedLog, announced, refusalCounted, briefly, cutOff, keptBriefly, trouble, tail, shortened, dropped, looked, closed}
+use Rattle.item_checks.specs.Close.{answer, placeOf, firstEnd, beginsWith, within, inserted, oneMore, compared, judgedLog, refusalCounted, briefly, cutOff, keptBriefly, trouble, tail, shortened, dropped, looked, closed, isAnnounced, isNotBad}
 use Rattle.item_checks.proofs.Briefly.{dots, left-out, briefly-short, briefly-long, briefly-shorter}
-use Rattle.line_text.specs.Text.{differingText, isCall, judgedText, judgedCounts, isAnnounced, shownAnswer, closedCounts, lookedText, closedText}
+use Rattle.line_text.specs.Text.{differingText, judgedText, judgedCounts, shownAnswer, closedCounts, lookedText, closedText}
 
 -- The answers are the text before a line, its head and its own answer, and the counts have where each starts.
 pub record Stands (base head own : List ℕ) (l : Log) : Type 0 where
@@ -360,7 +360,7 @@ module _ {base head own counts : List ℕ} {l : Log} (w : Written base head own 
   judged [] room = w
   judged (wanted ∷ others) room =
       rw (other-count w 6 (λ e. omega arith), other-count w 18 (λ e. omega arith), answer-is (w .stands))
-      (go (isCall counts) (beginsWith wanted own))
+      (go (isNotBad counts) (beginsWith wanted own))
     where
       go : (t u : Bool) → Written base head (cond t (cond u own (differingText wanted own)) own)
           (cond t (cond u (added counts 7 1) (added (added counts 7 1) 8 1)) counts)
@@ -383,15 +383,15 @@ module _ {base head own counts : List ℕ} {l : Log} (w : Written base head own 
   judged-long : (expected : List (List ℕ)) → length (judgedText expected counts own) ≤ length own + length (differing expected)
   unfolding judgedText
   judged-long [] = omega arith
-  judged-long (wanted ∷ others) = go (isCall counts) (beginsWith wanted own)
+  judged-long (wanted ∷ others) = go (isNotBad counts) (beginsWith wanted own)
     where
       go : (t u : Bool) → length (cond t (cond u own (differingText wanted own)) own) ≤ length own + length (joined (expectedTexts wanted))
       go true true = omega arith
       go true false = omega (arith, differing-long wanted own)
       go false u = omega arith
 
-  announced-is : (expected : List (List ℕ)) → announced expected l ≡ isAnnounced expected counts own
-  unfolding announced isAnnounced
+  announced-is : (expected : List (List ℕ)) → isAnnounced expected (l .counts) (answer l) ≡ isAnnounced expected counts own
+  unfolding isAnnounced
   announced-is [] = refl
   announced-is (wanted ∷ others) = rw (other-count w 6 (λ e. omega arith), other-count w 18 (λ e. omega arith), answer-is (w .stands))
 
@@ -414,7 +414,7 @@ added-name counts p apart = getD-set-other counts p 15 _ 0 apart
 judged-name : (expected : List (List ℕ)) (counts answer : List ℕ) → getD (judgedCounts expected counts answer) 15 0 ≡ getD counts 15 0
 unfolding judgedCounts
 judged-name [] counts answer = refl
-judged-name (wanted ∷ others) counts answer = go (isCall counts) (beginsWith wanted answer)
+judged-name (wanted ∷ others) counts answer = go (isNotBad counts) (beginsWith wanted answer)
   where
     go : (t u : Bool) → getD (cond t (cond u (added counts 7 1) (added (added counts 7 1) 8 1)) counts) 15 0 ≡ getD counts 15 0
     go true true = added-name counts 7 (λ e. omega arith)

@@ -18,14 +18,14 @@ use Rattle.wording.specs.Wording.{why, fault, place, counted, expected}
 use Rattle.item_state.specs.Log.{added}
 use Rattle.device.specs.declared.Model.{Model}
 use Rattle.item_calls.specs.Lines.{itemCounts}
-use Rattle.item_checks.specs.Fault.{comesWrong, isFault, leftOf}
+use Rattle.item_checks.specs.Fault.{isPastOrFull, isFault, leftOf}
 use Rattle.item_checks.specs.Open.{lineCounted, isItem}
-use Rattle.item_checks.specs.Close.{lineWords, placeOf, startsWith, beginsWith, refusalCounted, briefly, trouble, tail}
+use Rattle.item_checks.specs.Close.{lineWords, placeOf, startsWith, beginsWith, refusalCounted, briefly, trouble, tail, isAnnounced}
 use Rattle.item_checks.proofs.Briefly.{briefly-long}
 use Rattle.answer_text.specs.Texts.{callTold, questionTold, analysisTold}
 use Rattle.answer_text.specs.Line.{lineTold}
 use Rattle.session.specs.Line.{Replay}
-use Rattle.line_text.specs.Text.{headTold, begunTold, faultTold, itemTold, namesAfter, ownTold, differingText, judgedText, judgedCounts, isAnnounced, shownAnswer, closedCounts, lookedText, closedText, toldText, lineText}
+use Rattle.line_text.specs.Text.{headTold, begunTold, faultTold, itemTold, namesAfter, ownTold, differingText, judgedText, judgedCounts, shownAnswer, closedCounts, lookedText, closedText, toldText, lineText}
 use Rattle.line_text.proofs.Text.{Whole}
 
 -- Four lines were read before; in a check the count 14 is 1, and the file's name has one byte.
@@ -56,12 +56,12 @@ module _ (model : Model) (flash : List ℕ) (differences : List ℤ) (probes ans
 
   -- `item A => B`: what differs stands in the answer's first line.
   differing-item : lineText Content.Item (ascii "B" ∷ []) (ascii "item A") [] (kept 0) ≡ ascii "item A expected B\n"
-  unfolding ascii lineText toldText shownAnswer briefly closedText closedCounts judgedText differingText expected beginsWith startsWith placeOf judgedCounts isAnnounced refusalCounted ownTold leftOf isFault comesWrong faultTold itemTold isItem lineWords contentLength words wordsAfter ended isBlank spaced blanked lineTold callTold itemCounts questionTold analysisTold begunTold headTold lineCounted added joined
+  unfolding ascii lineText toldText shownAnswer briefly closedText closedCounts judgedText differingText expected beginsWith startsWith placeOf judgedCounts isAnnounced refusalCounted ownTold leftOf isFault isPastOrFull faultTold itemTold isItem lineWords contentLength words wordsAfter ended isBlank spaced blanked lineTold callTold itemCounts questionTold analysisTold begunTold headTold lineCounted added joined
   differing-item = refl
 
   -- Of an item that needs no look a check writes nothing.
   checked-item : lineText Content.Item [] (ascii "item A") [] (kept 1) ≡ []
-  unfolding ascii lineText toldText shownAnswer briefly closedText lookedText trouble closedCounts judgedText judgedCounts isAnnounced refusalCounted ownTold leftOf isFault comesWrong faultTold itemTold isItem lineTold callTold itemCounts questionTold analysisTold begunTold headTold lineCounted added
+  unfolding ascii lineText toldText shownAnswer briefly closedText lookedText trouble closedCounts judgedText judgedCounts isAnnounced refusalCounted ownTold leftOf isFault isPastOrFull faultTold itemTold isItem lineTold callTold itemCounts questionTold analysisTold begunTold headTold lineCounted added
   checked-item = refl
 
 -- Of an answer of 2,052 bytes and more a check shows the first 2,048 and ` ..`; without one it is shown whole.

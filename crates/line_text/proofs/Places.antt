@@ -23,11 +23,11 @@ use Rattle.setup_frames.specs.Frames.{frames}
 use Rattle.line.specs.declared.Content.{Content}
 use Rattle.numeral.specs.Ascii.{ascii}
 use Rattle.wording.specs.Wording.{Texts, lineFeed, numbered, counted as countedTexts, refused, listingHead}
-use Rattle.item_state.specs.Log.{Log, added, counted, called, refusals}
+use Rattle.item_state.specs.Log.{Log, added, counted, called, refusals, callCounted}
 use Rattle.item_calls.specs.Lines.{WithFlash, told, itemCounts, startMoment, transacted, busLine, setLine, moved, singleLine, ticksPart, ticksAhead, unlessUnderWay, ticksBegun, tickLine, atBegun, atLine, movedBy, stretchLine, flightLine, temperatureLine, beside, itemLine, timedLine, callLine}
 use Rattle.item_questions.specs.Answers.{frameLines, questionLine}
 use Rattle.item_analysis.specs.Lines.{degreesOf, widthOf, probeLine, recordLine, analysisLine}
-use Rattle.answer_text.specs.Texts.{Told, silent, behind, callCounted, answered, toldOfTransaction, toldOfBus, toldOfSet, toldOfSingle, toldOfHead, toldOfPart, toldOfTicks, toldOfTick, toldOfAt, toldOfStretch, toldOfDelivery, callTold, toldOfExpect, toldOfFrames, questionTold, toldOfProbe, toldInDegrees, toldOfDegrees, toldOfRecord, toldOfListing, toldOfPlace, toldOfQuietest, recorded, analysisTold}
+use Rattle.answer_text.specs.Texts.{Told, silent, behind, answered, toldOfTransaction, toldOfBus, toldOfSet, toldOfSingle, toldOfHead, toldOfPart, toldOfTicks, toldOfTick, toldOfAt, toldOfStretch, toldOfDelivery, callTold, toldOfExpect, toldOfFrames, questionTold, toldOfProbe, toldInDegrees, toldOfDegrees, toldOfRecord, toldOfListing, toldOfPlace, toldOfQuietest, recorded, analysisTold}
 use Rattle.answer_text.specs.Line.{lineLeft, lineTold, toldOfKept}
 
 module _ (p v : ℕ) (low : 11 < p) (high : p < 21) where
@@ -187,7 +187,7 @@ module _ (p v : ℕ) (low : 11 < p) (high : p < 21) where
   otherLog l = record { counts = set (l .counts) p v; answers = l .answers }
 
   called-placed : (refused : ℕ) (texts : Texts) (l : Log) → called refused texts (otherLog l) ≡ otherLog (called refused texts l)
-  unfolding called counted
+  unfolding called counted callCounted
   called-placed refused texts l =
       rw (getD-set-other (l .counts) p 0 v 0 (λ e. omega arith), added-placed (l .counts) 3 1 (λ e. omega arith), added-placed (added (l .counts) 3 1) 4 refused (λ e. omega arith), set-comm (added (added (l .counts) 3 1) 4 refused) p 0 v _ (λ e. omega arith))
 

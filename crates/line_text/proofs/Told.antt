@@ -12,7 +12,7 @@ use Rattle.numeral.proofs.PlaceLaws.{put-each}
 use Rattle.line.specs.declared.Content.{Content}
 use Rattle.wording.specs.Wording.{Texts, lineFeed, fault, place}
 use Rattle.item_state.specs.Log.{Log, added, said}
-use Rattle.item_checks.specs.Fault.{comesWrong, isFault, leftOf, faultTold as faultPut, faultLog}
+use Rattle.item_checks.specs.Fault.{isPastOrFull, isFault, leftOf, faultSaid, faultLog}
 use Rattle.item_checks.specs.Open.{lineCounted, headed, begun, isItem, itemNamed, named}
 use Rattle.item_checks.specs.Close.{lineWords, trouble}
 use Rattle.answer_text.specs.Texts.{onPage, HasRoom, silent, asked}
@@ -80,8 +80,8 @@ begun-page names l some room =
 
 -- Whether a line is bad goes by three counts.
 wrong-same : (content : Content) (counts counts′ : List ℕ) → getD counts′ 9 0 ≡ getD counts 9 0 → getD counts′ 10 0 ≡ getD counts 10 0
-    → getD counts′ 11 0 ≡ getD counts 11 0 → comesWrong content counts′ ≡ comesWrong content counts
-unfolding comesWrong
+    → getD counts′ 11 0 ≡ getD counts 11 0 → isPastOrFull content counts′ ≡ isPastOrFull content counts
+unfolding isPastOrFull
 wrong-same Content.Nothing counts counts′ nine ten eleven = refl
 wrong-same Content.TooLong counts counts′ nine ten eleven = refl
 wrong-same Content.UnknownWord counts counts′ nine ten eleven = refl
@@ -150,15 +150,15 @@ left-set content counts place = rw (fault-set content counts place)
 abbrev badCounts : List ℕ → List ℕ
 badCounts counts = added counts 6 1
 
-bad-page : (content : Content) (l : Log) → faultPut content l ≡ onPage (asked (fault (getD (badCounts (l .counts)) 2 0) content) (badCounts (l .counts))) l
-unfolding faultPut added
+bad-page : (content : Content) (l : Log) → faultSaid content l ≡ onPage (asked (fault (getD (badCounts (l .counts)) 2 0) content) (badCounts (l .counts))) l
+unfolding faultSaid added
 bad-page content l = set-page (fault (getD (set (l .counts) 6 (min (getD (l .counts) 6 0 + 1) 18446744073709551615)) 2 0) content) 6 (min (getD (l .counts) 6 0 + 1) 18446744073709551615) l (λ e. omega arith)
 
 pub fault-page : (content : Content) (l : Log) → faultLog content l ≡ onPage (faultTold content (l .counts)) l
 unfolding faultLog faultTold
 fault-page content l = go (isFault content (l .counts))
   where
-    go : (t : Bool) → cond t (faultPut content l) l
+    go : (t : Bool) → cond t (faultSaid content l) l
         ≡ onPage (cond t (asked (fault (getD (badCounts (l .counts)) 2 0) content) (badCounts (l .counts))) (silent (l .counts))) l
     go true = bad-page content l
     go false = silent-page l

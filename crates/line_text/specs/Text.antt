@@ -12,7 +12,7 @@ use Rattle.item_state.specs.Log.{added}
 use Rattle.item_calls.specs.Lines.{WithFlash}
 use Rattle.item_checks.specs.Fault.{isFault, leftOf}
 use Rattle.item_checks.specs.Open.{lineCounted, isItem}
-use Rattle.item_checks.specs.Close.{lineWords, placeOf, beginsWith, refusalCounted, briefly, trouble, tail}
+use Rattle.item_checks.specs.Close.{lineWords, placeOf, beginsWith, isNotBad, isAnnounced, refusalCounted, briefly, trouble, tail}
 use Rattle.answer_text.specs.Texts.{Told, silent, behind, asked}
 use Rattle.answer_text.specs.Line.{lineTold}
 use Rattle.session.specs.Line.{State, Replay}
@@ -70,26 +70,17 @@ unfoldable pub differingText : List ℕ → List ℕ → List ℕ
 differingText wanted answer =
     take (placeOf 10 answer) answer ++ (joined (expectedTexts wanted) ++ drop (placeOf 10 answer) answer)
 
--- "A bad line has no expectation": there are as many bad lines as before this one.
-abbrev pub isCall : List ℕ → Bool
-isCall counts = eqb (getD counts 6 0) (getD counts 18 0)
-
 -- "`=>` and the words that its answer begins with": the text of the answer, then the counts
 unfoldable pub judgedText : List (List ℕ) → List ℕ → List ℕ → List ℕ
 judgedText [] counts answer = answer
 judgedText (wanted ∷ others) counts answer =
-    cond (isCall counts) (cond (beginsWith wanted answer) answer (differingText wanted answer)) answer
+    cond (isNotBad counts) (cond (beginsWith wanted answer) answer (differingText wanted answer)) answer
 
 -- "E the words of `expect` lines and the `=>`, X those of E that differ"
 unfoldable pub judgedCounts : List (List ℕ) → List ℕ → List ℕ → List ℕ
 judgedCounts [] counts answer = counts
 judgedCounts (wanted ∷ others) counts answer =
-    let more = added counts 7 1 in cond (isCall counts) (cond (beginsWith wanted answer) more (added more 8 1)) counts
-
--- Whether the line expects what it is answered.
-unfoldable pub isAnnounced : List (List ℕ) → List ℕ → List ℕ → Bool
-isAnnounced [] counts answer = false
-isAnnounced (wanted ∷ others) counts answer = cond (isCall counts) (beginsWith wanted answer) false
+    let more = added counts 7 1 in cond (isNotBad counts) (cond (beginsWith wanted answer) more (added more 8 1)) counts
 
 -- "U those of R that are not announced"
 unfoldable pub closedCounts : List (List ℕ) → List ℕ → List ℕ → List ℕ

@@ -23,17 +23,17 @@ use Rattle.numeral.specs.Place.{putEach}
 use Rattle.line.specs.declared.Content.{Content}
 use Rattle.numeral.specs.Ascii.{ascii}
 use Rattle.wording.specs.Wording.{Texts, lineFeed, counted, refused, listingHead}
-use Rattle.item_state.specs.Log.{Log, added, refusals}
+use Rattle.item_state.specs.Log.{Log, added, refusals, callCounted}
 use Rattle.item_calls.specs.Lines.{WithFlash, itemCounts, startMoment, moved, movedBy, callLine, timedLine, beside, itemLine, busLine, setLine, transacted, singleLine, tickLine, stretchLine, flightLine, temperatureLine, told}
 use Rattle.item_questions.specs.Answers.{frameLines, questionLine}
 use Rattle.item_analysis.specs.Lines.{degreesOf, recordWords, analysisLine, probeLine, recordLine}
 use Rattle.item_checks.specs.Open.{isItem}
 use Rattle.item_checks.specs.Fault.{isFault, leftOf}
-use Rattle.item_checks.specs.Close.{lineWords, beginsWith, refusalCounted}
-use Rattle.answer_text.specs.Texts.{Told, silent, behind, asked, answered, callCounted, toldOfTransaction, toldOfBus, toldOfSet, toldOfSingle, toldOfTick, toldOfStretch, toldOfDelivery, callTold, toldOfExpect, toldOfFrames, questionTold, toldOfProbe, toldInDegrees, toldOfDegrees, toldOfRecord, toldOfListing, toldOfPlace, toldOfQuietest, analysisTold}
+use Rattle.item_checks.specs.Close.{lineWords, beginsWith, refusalCounted, isAnnounced, isNotBad}
+use Rattle.answer_text.specs.Texts.{Told, silent, behind, asked, answered, toldOfTransaction, toldOfBus, toldOfSet, toldOfSingle, toldOfTick, toldOfStretch, toldOfDelivery, callTold, toldOfExpect, toldOfFrames, questionTold, toldOfProbe, toldInDegrees, toldOfDegrees, toldOfRecord, toldOfListing, toldOfPlace, toldOfQuietest, analysisTold}
 use Rattle.answer_text.specs.Line.{lineLeft, toldOfKept, lineTold}
 use Rattle.session.specs.Line.{State, withLog, lineDone}
-use Rattle.line_text.specs.Text.{faultTold, itemTold, bare, isCall, judgedCounts, isAnnounced, closedCounts}
+use Rattle.line_text.specs.Text.{faultTold, itemTold, bare, judgedCounts, closedCounts}
 use Rattle.replay_text.specs.Replay.{tickLines, ticksTold, ticksDone, toldBy, doneBy, opening, ownWhole, doneWhole}
 use Rattle.replay_text.proofs.Reading.{isTicks}
 use Rattle.replay_text.proofs.Numbers.{usedOf, SameNumbers, numbers-taken}
@@ -497,11 +497,11 @@ module _ (R : List ℕ → List ℕ → Type 0)
 
   -- ---- behind the answer
 
-  module _ (call : (c c′ : List ℕ) → R c c′ → isCall c ≡ isCall c′) (before : (c c′ : List ℕ) → R c c′ → getD c 17 0 ≡ getD c′ 17 0) where
+  module _ (call : (c c′ : List ℕ) → R c c′ → isNotBad c ≡ isNotBad c′) (before : (c c′ : List ℕ) → R c c′ → getD c 17 0 ≡ getD c′ 17 0) where
     judged-same : (expected : List (List ℕ)) (c c′ answer : List ℕ) → R c c′ → R (judgedCounts expected c answer) (judgedCounts expected c′ answer)
     unfolding judgedCounts
     judged-same [] c c′ answer r = r
-    judged-same (wanted ∷ others) c c′ answer r = rw (call c c′ r) (go (isCall c′) (beginsWith wanted answer))
+    judged-same (wanted ∷ others) c c′ answer r = rw (call c c′ r) (go (isNotBad c′) (beginsWith wanted answer))
       where
         one : R (added c 7 1) (added c′ 7 1)
         one = added-same 7 1 refl c c′ r

@@ -1,7 +1,7 @@
 -- A call is refused exactly where its answer begins with `no`, and these are the refusals of a text. Assumes nothing.
-use Prim.Native.Nat.{ℕ, _+_, _/_, _%_, _≤_, _<_, min}
+use Prim.Native.Nat.{ℕ, _/_, _%_, _≤_, _<_, min}
 use mathlib.Core.Path.{_≡_, refl, sym, ap, _∙_}
-use mathlib.Core.Bool.{Bool, true, false, cond, true≢false, false≢true}
+use mathlib.Core.Bool.{Bool, true, false, cond, false≢true}
 use mathlib.Core.List.{List, [], _∷_, _++_, append-nil, append-assoc}
 use native.Mathlib.Omega.{arith}
 use lib.Dec.{eqb, ltb}
@@ -28,7 +28,6 @@ use Rattle.quietest.specs.Quietest.{quietestPlace}
 use Rattle.listing.specs.Listing.{captureDigits, lines, lastAbove}
 use Rattle.setup_frames.specs.Frames.{frames}
 use Rattle.line.specs.declared.Content.{Content}
-use Rattle.line.specs.Line.{lineReading}
 use Rattle.line_buffer.specs.Lines.{textLines}
 use Rattle.numeral.specs.Ascii.{ascii}
 use Rattle.wording.specs.Wording.{Texts, lineFeed, refusal, started, busAnswer, outputBuffer, bus, set as setTexts, deliveryAnswer, delivery, numbered, quiet, ticked as tickTexts, single, stretched, stretch, counted, degrees, refused, listingHead, quietest}
@@ -43,43 +42,12 @@ use Rattle.answer_text.specs.Texts.{toldOfTransaction, toldOfBus, toldOfSet, to
 use Rattle.answer_text.specs.Line.{lineTold}
 use Rattle.session.specs.Line.{State}
 use Rattle.line_text.specs.Text.{faultTold, itemTold, headOf, bare}
-use Rattle.replay_text.specs.Replay.{tickLines, ticksTold, toldBy, opening, ownWhole, Page, pageLine, firstPage, lastPage}
-use Rattle.replay_text.proofs.Refusals.{degreesRefused, placeRefused, refusedOf, refused-most, refused-same, refusedOn, line-refused, refusedIn, first-none, text-refused}
+use Rattle.replay_text.specs.Replay.{tickLines, ticksTold, toldBy, opening, ownWhole, Page, firstPage, lastPage}
+use Rattle.replay_text.specs.LastLine.{countsOf, readOn, lineOwn, isBad, isCallLine, wasCall, saysNo, answeredNo, linesThat}
+use Rattle.replay_text.proofs.Refusals.{degreesRefused, placeRefused, refusedOf, refused-most, refused-same}
 use Rattle.replay_text.proofs.Counts.{begun-alike, begun-fault}
-use Rattle.replay_text.proofs.Bad.{countsOf, isBad}
-use Rattle.replay_text.proofs.Sound.{sound-line, sound-first}
-
--- "C counts the lines `bus`, `set`, `tick`, `at`, `stretch`, `flight`, `temperature`, `frames`, `degrees`, `listing` and `quietest`"
-unfoldable pub isCallLine : Content → Bool
-isCallLine Content.Nothing = false
-isCallLine Content.TooLong = false
-isCallLine Content.UnknownWord = false
-isCallLine Content.BadNumber = false
-isCallLine Content.WrongCount = false
-isCallLine Content.Item = false
-isCallLine (Content.Bus n) = true
-isCallLine (Content.BusOut size n) = true
-isCallLine (Content.Tick n) = true
-isCallLine (Content.Flight up down) = true
-isCallLine (Content.Temperature n) = true
-isCallLine Content.Int = false
-isCallLine Content.Awaited = false
-isCallLine Content.Regs = false
-isCallLine (Content.Expect a n) = false
-isCallLine Content.Show = false
-isCallLine (Content.Set a n) = true
-isCallLine (Content.At t) = true
-isCallLine (Content.Stretch n) = true
-isCallLine Content.Frames = true
-isCallLine (Content.Probe n) = false
-isCallLine Content.Degrees = true
-isCallLine (Content.Record n) = false
-isCallLine (Content.Listing old first) = true
-isCallLine (Content.Quietest n) = true
-
--- as behind `=> no`
-abbrev pub saysNo : Texts → Bool
-saysNo texts = beginsWith (ascii "no") (joined texts)
+use Rattle.replay_text.proofs.Gains.{inOwn, own-alone}
+use Rattle.replay_text.proofs.Order.{InOrder, text-counts}
 
 -- ---- a number is no `no`
 
@@ -359,91 +327,38 @@ call-item (Content.Record n) call = refl
 call-item (Content.Listing old first) call = refl
 call-item (Content.Quietest n) call = refl
 
-other-none : (content : Content) (numbers : List ℕ) (s : State) (c : List ℕ) → isCallLine content ≡ false → refusedOf content numbers s c ≡ 0
-unfolding isCallLine refusedOf
-other-none Content.Nothing numbers s c other = refl
-other-none Content.TooLong numbers s c other = refl
-other-none Content.UnknownWord numbers s c other = refl
-other-none Content.BadNumber numbers s c other = refl
-other-none Content.WrongCount numbers s c other = refl
-other-none Content.Item numbers s c other = refl
-other-none (Content.Bus n) numbers s c other = absurd (true≢false other)
-other-none (Content.BusOut size n) numbers s c other = absurd (true≢false other)
-other-none (Content.Tick n) numbers s c other = absurd (true≢false other)
-other-none (Content.Flight up down) numbers s c other = absurd (true≢false other)
-other-none (Content.Temperature n) numbers s c other = absurd (true≢false other)
-other-none Content.Int numbers s c other = refl
-other-none Content.Awaited numbers s c other = refl
-other-none Content.Regs numbers s c other = refl
-other-none (Content.Expect a n) numbers s c other = refl
-other-none Content.Show numbers s c other = refl
-other-none (Content.Set a n) numbers s c other = absurd (true≢false other)
-other-none (Content.At t) numbers s c other = refl
-other-none (Content.Stretch n) numbers s c other = absurd (true≢false other)
-other-none Content.Frames numbers s c other = absurd (true≢false other)
-other-none (Content.Probe n) numbers s c other = refl
-other-none Content.Degrees numbers s c other = absurd (true≢false other)
-other-none (Content.Record n) numbers s c other = refl
-other-none (Content.Listing old first) numbers s c other = absurd (true≢false other)
-other-none (Content.Quietest n) numbers s c other = absurd (true≢false other)
-
--- Whether a line is a call that is answered `no`: it is not bad, it is one of the calls' lines, and its own answer begins so.
-unfoldable pub answeredNo : List ℕ → Page → Bool
-answeredNo line p =
-    let read = lineReading (p .numbers) line in
-    let own = ownWhole (read .content) line (read .numbers) (p .replay .names) (p .replay .state) (headOf (p .replay) .counts) in
-    cond (isBad line p) false (cond (isCallLine (read .content)) (saysNo (own .texts)) false)
-
 zero-or-one : (n : ℕ) → n ≤ 1 → n ≡ cond (eqb n 1) 1 0
 zero-or-one n most = by-eqb n 1 (λ one e. rw e one) (λ other e. rw e (omega (arith, most, other)))
 
-own-no : (content : Content) (line numbers : List ℕ) (p : Page) → length (countsOf p) ≡ 22 → isSound (p .replay .state .model) ≡ true
-    → isFault content (countsOf p) ≡ false → isCallLine content ≡ true
-    → saysNo (ownWhole content line numbers (p .replay .names) (p .replay .state) (headOf (p .replay) .counts) .texts)
-    ≡ eqb (refusedOf content numbers (p .replay .state) (countsOf p)) 1
-unfolding ownWhole opening faultTold leftOf itemTold
-own-no content line numbers p long sound good call =
+own-no : (line : List ℕ) (p : Page) → length (countsOf p) ≡ 22 → isSound (p .replay .state .model) ≡ true
+    → isFault (readOn line p .content) (countsOf p) ≡ false → isCallLine (readOn line p .content) ≡ true
+    → saysNo (lineOwn line p .texts) ≡ eqb (refusedOf (readOn line p .content) (readOn line p .numbers) (p .replay .state) (countsOf p)) 1
+unfolding lineOwn ownWhole opening faultTold leftOf itemTold
+own-no line p long sound good call =
+    let read = readOn line p in
     let a = begun-alike (p .replay .names) (countsOf p) long in
     let h = headOf (p .replay) .counts in
-    rw (begun-fault (p .replay .names) (countsOf p) long content ∙ good, call-item content call)
-    (call-no numbers (p .replay .state) h sound content call
-    ∙ ap (λ (n : ℕ). eqb n 1) (refused-same content numbers (p .replay .state) h (countsOf p) (sym (a .each 10 refl)) (sym (a .each 11 refl))))
+    rw (begun-fault (p .replay .names) (countsOf p) long (read .content) ∙ good, call-item (read .content) call)
+    (call-no (read .numbers) (p .replay .state) h sound (read .content) call
+    ∙ ap (λ (n : ℕ). eqb n 1) (refused-same (read .content) (read .numbers) (p .replay .state) h (countsOf p) (sym (a .each 10 refl)) (sym (a .each 11 refl))))
 
--- The refusals of a line are 1 where it is a call that is answered `no`, and 0 else.
-pub refused-no : (line : List ℕ) (p : Page) → length (countsOf p) ≡ 22 → isSound (p .replay .state .model) ≡ true
-    → refusedOn line p ≡ cond (answeredNo line p) 1 0
-unfolding refusedOn answeredNo isBad
-refused-no line p long sound =
-    let read = lineReading (p .numbers) line in
+-- The refusals of a line are 1 where it was a call that is answered `no`, and 0 else.
+pub own-refused : (line : List ℕ) (p : Page) → InOrder p → inOwn 4 line p ≡ cond (answeredNo line p) 1 0
+unfolding inOwn answeredNo wasCall isBad
+own-refused line p o =
+    let read = readOn line p in
     let count = refusedOf (read .content) (read .numbers) (p .replay .state) (countsOf p) in
     by-test (isFault (read .content) (countsOf p)) (λ bad. rw bad)
     (λ good.
     by-test (isCallLine (read .content))
     (λ call.
-    rw (good, call, own-no (read .content) line (read .numbers) p long sound good call)
-    (zero-or-one count (refused-most (read .content) (read .numbers) (p .replay .state) (countsOf p))))
-    (λ other. rw (good, other) (other-none (read .content) (read .numbers) (p .replay .state) (countsOf p) other)))
+    rw (good, call, own-no line p (o .long) (o .sound) good call)
+    (omega (arith, zero-or-one count (refused-most (read .content) (read .numbers) (p .replay .state) (countsOf p)))))
+    (λ other. rw (good, other)))
 
--- ---- a whole text
-
--- How many lines are such calls.
-unfoldable pub answeredNoIn : List (List ℕ) → Page → ℕ
-answeredNoIn [] p = 0
-answeredNoIn (l ∷ ls) p = cond (answeredNo l p) 1 0 + answeredNoIn ls (pageLine l p)
-
-lines-no : (ls : List (List ℕ)) (p : Page) → length (countsOf p) ≡ 22 → getD (countsOf p) 4 0 ≤ 18446744073709551615
-    → isSound (p .replay .state .model) ≡ true → refusedIn ls p ≡ answeredNoIn ls p
-unfolding refusedIn answeredNoIn
-lines-no [] p long bound sound = refl
-lines-no (l ∷ ls) p long bound sound =
-    let next = line-refused l p long bound in
-    rw (refused-no l p long sound, lines-no ls (pageLine l p) (next .0) (omega (arith, next .1)) (sound-line l p sound))
-
--- "R those answered `no`": the refusals that the last line of a text tells are the calls among its lines whose answers begin with `no`.
+-- "R those of them answered `no`": count 4 of a text is the number of its lines that were calls and whose answers begin with `no`.
 pub text-answered-no : (path : List ℕ) (check : Bool) (text : List ℕ)
-    → getD (countsOf (lastPage path check text)) 4 0 ≡ min (answeredNoIn (textLines text) (firstPage path check)) 18446744073709551615
-text-answered-no path check text =
-    let first = first-none path check in
-    text-refused path check text
-    ∙ ap (λ (n : ℕ). min n 18446744073709551615)
-    (lines-no (textLines text) (firstPage path check) (first .0) (omega (arith, first .1)) (sound-first path check))
+    → getD (countsOf (lastPage path check text)) 4 0 ≡ min (linesThat answeredNo (textLines text) (firstPage path check)) 18446744073709551615
+text-answered-no =
+    text-counts 4 (omega arith) (omega arith) (λ line p. cond (answeredNo line p) 1 0)
+    (λ line p o. own-alone 4 refl refl refl line p ∙ own-refused line p o)

@@ -1,7 +1,7 @@
 -- What a bad line leaves of a text. Assumes nothing.
 use Prim.Native.Nat.{ℕ, _+_, _<_, min}
 use mathlib.Core.Path.{_≡_, refl, sym, ap, subst, _∙_}
-use mathlib.Core.Bool.{Bool, true, false}
+use mathlib.Core.Bool.{true, false}
 use mathlib.Core.List.{List, [], _∷_, _++_, append-nil, append-assoc}
 use native.Mathlib.Omega.{arith}
 use lib.Dec.{eqb}
@@ -20,22 +20,20 @@ use Rattle.item_questions.specs.Answers.{questionLine}
 use Rattle.item_analysis.specs.Lines.{analysisLine}
 use Rattle.item_checks.specs.Fault.{isFault, leftOf}
 use Rattle.item_checks.specs.Open.{isItem}
-use Rattle.item_checks.specs.Close.{expectedOf, refusalCounted}
+use Rattle.item_checks.specs.Close.{expectedOf, refusalCounted, isAnnounced, isNotBad}
 use Rattle.answer_text.specs.Texts.{Told, asked, callTold, questionTold, analysisTold}
 use Rattle.answer_text.specs.Line.{lineLeft, lineTold}
 use Rattle.session.specs.Line.{State, lineDone, withLog}
-use Rattle.line_text.specs.Text.{begunTold, faultTold, itemTold, namesAfter, headOf, isCall, judgedText, judgedCounts, isAnnounced, closedCounts, closedText, elsewhere, shownAnswer, toldText, toldCounts}
+use Rattle.line_text.specs.Text.{begunTold, faultTold, itemTold, namesAfter, headOf, judgedText, judgedCounts, closedCounts, closedText, elsewhere, shownAnswer, toldText, toldCounts}
 use Rattle.line_text.proofs.Told.{fault-same}
 use Rattle.line_text.proofs.Apart.{count-elsewhere}
 use Rattle.replay_text.specs.Replay.{TickLine, tickLines, toldBy, doneBy, opening, ownWhole, doneWhole, Page, contentPage, pageLine}
+use Rattle.replay_text.specs.LastLine.{countsOf, isBad}
 use Rattle.replay_text.proofs.Numbers.{SameNumbers, SameReading, reading-alike}
 use Rattle.replay_text.proofs.Alike.{SameTold, SameState, own-same, done-same, closed-same}
 use Rattle.replay_text.proofs.Counts.{AlikeCounts, alike-self, alike-back, alike-on, alike-set, WithinLine, within-same, within-kept, within-call, begun-alike, begun-refused, begun-before, begun-bad, begun-line, begun-fault, no-head, heads-within, elsewhere-alike}
 
 -- ---- what a line adds to the text
-
-abbrev pub countsOf : Page → List ℕ
-countsOf p = p .replay .state .log .counts
 
 unfoldable pub contentAdds : Content → List (List ℕ) → List ℕ → List ℕ → Page → List ℕ
 contentAdds content expected line numbers p =
@@ -106,10 +104,6 @@ pub record Counting (p : Page) : Type 0 where
   pub long : length (countsOf p) ≡ 22
   pub few : getD (countsOf p) 6 0 < 18446744073709551615
 
--- "A line that is none of these is no call"
-unfoldable pub isBad : List ℕ → Page → Bool
-isBad line p = isFault (lineReading (p .numbers) line .content) (countsOf p)
-
 module _ (content : Content) (line numbers : List ℕ) (p : Page) (counting : Counting p) (bad : isFault content (countsOf p) ≡ true) where
   abbrev head : Told
   head = headOf (p .replay)
@@ -137,7 +131,7 @@ module _ (content : Content) (line numbers : List ℕ) (p : Page) (counting : Co
   unfolding added
   more-left n other = getD-set-other (head .counts) 6 n _ 0 other
 
-  no-call : isCall more ≡ false
+  no-call : isNotBad more ≡ false
   no-call =
       let before : getD more 18 0 ≡ getD (countsOf p) 6 0
       = more-left 18 (λ e. omega arith) ∙ begun-before (p .replay .names) (countsOf p) (counting .long) in
@@ -261,7 +255,7 @@ done-log : (content : Content) (line numbers names : List ℕ) (s : State) (l : 
 unfolding doneWhole
 done-log content line numbers names s l c = refl
 
-judged-text : (expected : List (List ℕ)) (c c′ answer : List ℕ) → isCall c ≡ isCall c′ → judgedText expected c answer ≡ judgedText expected c′ answer
+judged-text : (expected : List (List ℕ)) (c c′ answer : List ℕ) → isNotBad c ≡ isNotBad c′ → judgedText expected c answer ≡ judgedText expected c′ answer
 unfolding judgedText
 judged-text [] c c′ answer e = refl
 judged-text (wanted ∷ others) c c′ answer e = rw e

@@ -16,12 +16,12 @@ use Rattle.line.specs.declared.Content.{Content}
 use Rattle.line.specs.Line.{lineReading}
 use Rattle.line_buffer.specs.Lines.{hasLine, lineOf}
 use Rattle.line_buffer.proofs.LineLaws.{behind-shorter}
-use Rattle.item_state.specs.Log.{Log}
+use Rattle.item_state.specs.Log.{Log, callCounted}
 use Rattle.item_calls.specs.Lines.{ticked}
 use Rattle.item_checks.specs.Fault.{isFault, leftOf}
 use Rattle.item_checks.specs.Open.{isItem}
 use Rattle.item_checks.specs.Close.{expectedOf, briefly, keptBriefly}
-use Rattle.answer_text.specs.Texts.{Told, onPage, HasRoom, silent, behind, callCounted, toldOfHead, toldOfPart, endTexts}
+use Rattle.answer_text.specs.Texts.{Told, onPage, HasRoom, silent, behind, toldOfHead, toldOfPart, endTexts}
 use Rattle.answer_text.specs.Line.{lineTold}
 use Rattle.answer_text.proofs.Page.{joined-append}
 use Rattle.session.specs.Line.{State, lineDone, Replay, withLog, contentAnswered, lineAnswered}

@@ -1,50 +1,45 @@
--- What is written of a file that can't be read to its end: the definition's text for what was read, but for the line that was not ended and
--- the last line. Assumes nothing.
-use Prim.Native.Nat.{ℕ}
+-- What is written of a file that can't be read to its end: the definition's text for the lines that have ended in what was read, without
+-- the line that was not ended and without the last line. Assumes nothing.
+use Prim.Native.Nat.{ℕ, _≤_, _<_}
 use mathlib.Core.Bool.{Bool, true, false, true≢false, false≢true}
-use mathlib.Core.List.{List, [], _∷_, _++_, append-nil}
+use mathlib.Core.List.{List, [], _++_, append-nil}
 use mathlib.Core.Logic.{_⊎_, ⊎-elim, inl, inr}
-use mathlib.Core.Path.{_≡_, refl, sym, ap, _∙_}
+use mathlib.Core.Path.{_≡_, refl, sym, ap, subst, _∙_}
 use native.Mathlib.Omega.{arith}
-use lib.ListN.{length, getD, take}
-use Rattle.line_buffer.specs.Lines.{hasLine, lastLine, wholeText, eachLine, piecesRead}
+use lib.ListN.{length, getD}
+use borrow.Author.Tests.{eqb-false, ltb-false}
+use Rattle.line_buffer.specs.Lines.{hasLine, linesIn, wholeText, eachLine}
+use Rattle.session.specs.declared.ends.Outcome.{Outcome}
 use Rattle.session.specs.Flush.{writtenNow}
-use Rattle.session.specs.Input.{goesOn}
-use Rattle.session.specs.Turns.{Turned, turned, flushed, withBytes, turnedOn, reading, leftOver}
-use Rattle.session.specs.Turns.{Reached, begun, line, read, ended, failed, done, broken}
+use Rattle.session.specs.Input.{goesOn, wasWhole}
+use Rattle.session.specs.Ends.{lastSaid, outcomeOf}
+use Rattle.session.specs.Turns.{Turned, turned, flushed, turnedOn, reading, leftOver}
+use Rattle.session.specs.Turns.{Reached, begun, line, read, ended, failed, done, broken, Replayed}
 use Rattle.session.proofs.FeedLaws.{fed-none}
-use Rattle.line_text.proofs.Text.{textOf}
-use Rattle.replay_text.specs.Replay.{Page, pageLine, firstPage, lastPage}
+use Rattle.replay_text.specs.Replay.{pageLine, firstPage}
 use Rattle.replay_text.proofs.Loop.{usedOf}
 use Rattle.replay_text.proofs.Sim.{countsOf, Idle, idle-flushed, idle-bytes}
-use Rattle.replay_text.proofs.Written.{page-is}
-use Rattle.replay_text.proofs.Outcome.{first, kept, left, next, here, more-here}
+use Rattle.replay_text.proofs.Written.{lines-written, none-written, counts-written}
+use Rattle.replay_text.proofs.Outcome.{endedPage, kept, here, ended-here, whole-told, replay-ends}
 
 module _ (path : List ℕ) (check : Bool) where
-  -- Of the pieces that were read a start of a line is held, and what was written is the page before it.
-  pub record Off (pieces : List (List ℕ)) (t : Turned) : Type 0 where
-    pub page : Page
-    pub held : List ℕ
-    pub idle : Idle (t .text) (t .fed) page
-    pub used : usedOf (t .fed) ≡ 0
-    pub left : leftOver t ≡ []
-    pub all : eachLine pageLine (lastLine held) page ≡ lastPage path check (wholeText pieces)
+  -- What was written is the page of the lines that have ended, and nothing is left to be written or answered.
+  record Off (pieces : List (List ℕ)) (t : Turned) : Type 0 where
+    idle : Idle (t .text) (t .fed) (endedPage path check pieces)
+    used : usedOf (t .fed) ≡ 0
+    left : leftOver t ≡ []
 
   off-failed : {n : ℕ} {pieces : List (List ℕ)} {t : Turned} (r : Reached path check n pieces 0 t) (none : hasLine (leftOver (turnedOn t)) ≡ false)
       → Off pieces (reading [] (turnedOn t))
-  unfolding reading piecesRead
+  unfolding reading
   off-failed {n} {pieces} {t} r none =
       let k = kept path check r in
       let now = here path check n pieces 0 t k none in
-      let all : piecesRead pageLine pieces (first path check) ≡ eachLine pageLine (lastLine (take 1002 (leftOver (turnedOn t)))) (next path check n pieces 0 t k none .page)
-      = ap (λ (ps : List (List ℕ)). piecesRead pageLine ps (first path check)) (sym (append-nil pieces)) ∙ more-here path check n pieces 0 t k none refl [] in
+      let page = ended-here path check n pieces 0 t k none refl in
       record {
-        page = next path check n pieces 0 t k none .page;
-        held = take 1002 (leftOver (turnedOn t));
-        idle = idle-bytes (turnedOn t .text) (turnedOn t .fed) (next path check n pieces 0 t k none .page) [] (now .0);
+        idle = idle-bytes (turnedOn t .text) (turnedOn t .fed) (endedPage path check pieces) [] (subst (Idle (turnedOn t .text) (turnedOn t .fed)) page (now .0));
         used = now .1;
         left = refl;
-        all = sym all ∙ page-is path check pieces;
       }
 
   no-line : (t : Turned) → leftOver t ≡ [] → hasLine (leftOver t) ≡ false
@@ -55,14 +50,12 @@ module _ (path : List ℕ) (check : Bool) where
   off-turned : (pieces : List (List ℕ)) (t : Turned) → Off pieces t → Off pieces (reading [] (turnedOn t))
   unfolding reading turnedOn turned
   off-turned pieces t o =
-      let k = idle-flushed (t .text) (t .fed) (o .page) (o .idle) in
+      let page = endedPage path check pieces in
+      let k = idle-flushed (t .text) (t .fed) page (o .idle) in
       rw (fed-none (length (leftOver t)) (t .fed) (no-line t (o .left))) record {
-        page = o .page;
-        held = o .held;
-        idle = idle-bytes (t .text ++ writtenNow (t .fed .replay .state .log)) (flushed (t .fed)) (o .page) [] (k .0);
+        idle = idle-bytes (t .text ++ writtenNow (t .fed .replay .state .log)) (flushed (t .fed)) page [] (k .0);
         used = k .1;
         left = refl;
-        all = o .all;
       }
 
   still-none : (t : Turned) → leftOver t ≡ [] → hasLine (leftOver (turnedOn t)) ≡ false
@@ -83,16 +76,51 @@ module _ (path : List ℕ) (check : Bool) where
   off (done r none) e = absurd (⊎-elim (λ (x : 3 ≡ 2). omega arith) (λ (x : 3 ≡ 4). omega arith) e)
   off (broken {n} {pieces} {t} r none) e = off-turned pieces t (off r (inl refl))
 
-  -- A file that breaks off: what is written is the page before the line that was not ended.
+  -- A file that breaks off: what is written is the text of the lines that have ended in what was read, and of no others,
   module _ {n : ℕ} {pieces : List (List ℕ)} {t : Turned} (r : Reached path check n pieces 4 t) where
-    pub broken-off : Off pieces t
+    broken-off : Off pieces t
     broken-off = off r (inr refl)
 
-    no-text : textOf (t .fed .replay) ≡ []
-    no-text = rw (broken-off .used)
+    pub broken-text : t .text ≡ eachLine pageLine (linesIn (wholeText pieces)) (firstPage path check) .text
+    broken-text = lines-written t (endedPage path check pieces) (broken-off .idle) (broken-off .used)
 
-    nothing-kept : getD (countsOf (t .fed)) 13 0 ≡ 0
-    nothing-kept = omega (arith, broken-off .idle .low, ap length no-text)
+    -- behind which nothing is written, no last line either;
+    pub broken-end : writtenNow (lastSaid false (t .fed .replay .state .log)) ≡ []
+    unfolding lastSaid
+    broken-end = none-written t (endedPage path check pieces) (broken-off .idle) (broken-off .used)
 
-    pub broken-text : t .text ≡ broken-off .page .text
-    broken-text = sym (append-nil (t .text)) ∙ (rw (no-text, nothing-kept) at (broken-off .idle .text))
+    -- and the counts are theirs, but for the places of the buffer.
+    pub broken-counts : (k : ℕ) → (k ≡ 0 → ⊥) → (k ≡ 12 → ⊥) → (k ≡ 13 → ⊥) → (k ≡ 20 → ⊥)
+        → getD (countsOf (t .fed)) k 0 ≡ getD (eachLine pageLine (linesIn (wholeText pieces)) (firstPage path check) .replay .state .log .counts) k 0
+    broken-counts = counts-written t (endedPage path check pieces) (broken-off .idle) (broken-off .used)
+
+    broken-outcome : outcomeOf (wasWhole 4) (countsOf (t .fed)) ≡ outcomeOf false (endedPage path check pieces .replay .state .log .counts)
+    unfolding outcomeOf wasWhole
+    broken-outcome =
+        let same : (k : ℕ) → 0 < k → k < 12 → getD (countsOf (t .fed)) k 0 ≡ getD (endedPage path check pieces .replay .state .log .counts) k 0
+        = λ k low high. broken-counts k (λ e. omega arith) (λ e. omega arith) (λ e. omega arith) (λ e. omega arith) in
+        rw (same 5 (omega arith) (omega arith), same 6 (omega arith) (omega arith), same 7 (omega arith) (omega arith), same 8 (omega arith) (omega arith))
+
+  -- ---- what `replay` in session ensures
+
+  broke-off : (state : ℕ) → goesOn state ≡ false → wasWhole state ≡ false → state ≤ 4 → state ≡ 4
+  unfolding goesOn wasWhole
+  broke-off state still part known = omega (arith, ltb-false state 3 still, eqb-false state 3 part, known)
+
+  -- A replay that does not read its file to the end, of less than 4,500 terabytes:
+  module _ {outcome : Outcome} (r : Replayed path check outcome) (few : length (wholeText (r .pieces)) < 4500000000000000) (part : outcome .whole ≡ false) where
+    at-break : r .state ≡ 4
+    at-break =
+        broke-off (r .state) (replay-ends path check r few) (whole-told path check (r .state) (countsOf (r .last .fed)) (r .told) part) (kept path check (r .reached) .known)
+
+    there : Reached path check (r .turns) (r .pieces) 4 (r .last)
+    there = subst (λ (s : ℕ). Reached path check (r .turns) (r .pieces) s (r .last)) at-break (r .reached)
+
+    -- its turns write what the definition writes for the lines that have ended in what was read,
+    pub replay-broken-written : r .last .text ++ writtenNow (lastSaid false (r .last .fed .replay .state .log))
+        ≡ eachLine pageLine (linesIn (wholeText (r .pieces))) (firstPage path check) .text
+    replay-broken-written = rw (broken-end there, append-nil (r .last .text)) (broken-text there)
+
+    -- and it hands back what the definition counts for them.
+    pub replay-broken : outcome ≡ outcomeOf false (eachLine pageLine (linesIn (wholeText (r .pieces))) (firstPage path check) .replay .state .log .counts)
+    replay-broken = r .told ∙ (ap (λ (s : ℕ). outcomeOf (wasWhole s) (countsOf (r .last .fed))) at-break ∙ broken-outcome there)

@@ -13,10 +13,10 @@ use Rattle.line.specs.declared.Content.{Content}
 use Rattle.wording.specs.Wording.{place}
 use Rattle.item_state.specs.Log.{added}
 use Rattle.item_checks.specs.Open.{lineCounted}
-use Rattle.item_checks.specs.Close.{trouble}
+use Rattle.item_checks.specs.Close.{trouble, isNotBad}
 use Rattle.item_checks.specs.Fault.{isFault}
 use Rattle.answer_text.specs.Texts.{silent, asked}
-use Rattle.line_text.specs.Text.{headTold, begunTold, elsewhere, isCall}
+use Rattle.line_text.specs.Text.{headTold, begunTold, elsewhere}
 use Rattle.line_text.proofs.Told.{fault-same}
 use Rattle.replay_text.proofs.Alike.{isCounted}
 
@@ -108,7 +108,7 @@ module _ (check : ℕ) where
       left l k other = getD-set-other l n k v 0 (counted-apart n k here other)
 
   -- There is an expectation in both or in none.
-  pub within-call : (c c′ : List ℕ) → WithinLine check c c′ → isCall c ≡ isCall c′
+  pub within-call : (c c′ : List ℕ) → WithinLine check c c′ → isNotBad c ≡ isNotBad c′
   within-call c c′ w = rw (w .here, w .there, eq-eqb (getD c 6 0) (getD c 6 0) refl, eq-eqb (getD c′ 6 0) (getD c′ 6 0) refl)
 
 -- ---- the head of a line

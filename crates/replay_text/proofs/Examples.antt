@@ -24,19 +24,19 @@ use Rattle.line.specs.Line.{alone, numbered as numberedLine, decimalWith, decim
 use Rattle.line_buffer.specs.Lines.{hasLine, withFirst, linesIn, restIn, lastLine, textLines, eachLine}
 use Rattle.numeral.specs.Ascii.{ascii}
 use Rattle.wording.specs.Wording.{lineFeed, numbered, counted, calls, faults, nextNamed, sooner, why, fault}
-use Rattle.item_state.specs.Log.{added}
+use Rattle.item_state.specs.Log.{added, callCounted}
 use Rattle.item_state.specs.Told.{toldValue}
 use Rattle.item_calls.specs.Lines.{moved, ticked, onward, stretchReports, callLine, timedLine, beside}
 use Rattle.item_questions.specs.Answers.{awaited, questionLine}
 use Rattle.item_analysis.specs.Lines.{analysisLine}
-use Rattle.item_checks.specs.Fault.{comesWrong, isFault, leftOf}
+use Rattle.item_checks.specs.Fault.{isPastOrFull, isFault, leftOf}
 use Rattle.item_checks.specs.Open.{lineCounted, isItem}
-use Rattle.item_checks.specs.Close.{expectedOf, refusalCounted}
-use Rattle.answer_text.specs.Texts.{callCounted, callTold, questionTold, analysisTold}
+use Rattle.item_checks.specs.Close.{expectedOf, refusalCounted, isAnnounced}
+use Rattle.answer_text.specs.Texts.{callTold, questionTold, analysisTold}
 use Rattle.answer_text.specs.Line.{lineTold, lineLeft}
 use Rattle.session.specs.Line.{lineDone}
 use Rattle.session.specs.Ends.{namesBegun, countsBegun, lastTexts}
-use Rattle.line_text.specs.Text.{headTold, begunTold, faultTold, itemTold, namesAfter, judgedText, judgedCounts, isAnnounced, closedCounts, closedText}
+use Rattle.line_text.specs.Text.{headTold, begunTold, faultTold, itemTold, namesAfter, judgedText, judgedCounts, closedCounts, closedText}
 use Rattle.line_text.specs.Text.{shownAnswer, toldText, toldCounts}
 use Rattle.replay_text.specs.Replay.{TickLine, tickLines, ticksTold, ticksDone, toldBy, doneBy, opening, ownWhole, doneWhole, Page, contentPage, pageLine, firstPage, lastPage, lastText, replayText}
 
@@ -146,14 +146,14 @@ module _ (flash : List ℕ) (differences : List ℤ) (probes numbers names : Lis
   awaited-line : (text : List ℕ)
       → pageLine (ascii "awaited") (page freshModel text (lineCounts 0 1 1 0 0))
       ≡ page freshModel (text ++ ascii "awaited 0 0\n") (lineCounts 0 2 1 1 0)
-  unfolding pageLine contentPage ownWhole doneWhole opening toldBy doneBy tickLines toldText toldCounts shownAnswer lineReading wordsReading contentLength words wordsAfter ended isBlank keywordOf sameBytes keywordReading laterReading alone takesMark beforeMark behindMark isMark lineExpected wordsExpected expectedOf leftOf isFault comesWrong faultTold itemTold namesAfter isItem lineTold callTold questionTold analysisTold lineDone lineLeft callLine timedLine beside questionLine analysisLine begunTold headTold lineCounted added closedText closedCounts judgedText judgedCounts isAnnounced refusalCounted decimal decimalWidth widthFrom digits glyph joined ascii
+  unfolding pageLine contentPage ownWhole doneWhole opening toldBy doneBy tickLines toldText toldCounts shownAnswer lineReading wordsReading contentLength words wordsAfter ended isBlank keywordOf sameBytes keywordReading laterReading alone takesMark beforeMark behindMark isMark lineExpected wordsExpected expectedOf leftOf isFault isPastOrFull faultTold itemTold namesAfter isItem lineTold callTold questionTold analysisTold lineDone lineLeft callLine timedLine beside questionLine analysisLine begunTold headTold lineCounted added closedText closedCounts judgedText judgedCounts isAnnounced refusalCounted decimal decimalWidth widthFrom digits glyph joined ascii
   awaited-line text = rw fresh-awaited
 
   -- `tick 5` behind that
   ticks-line : (text : List ℕ)
       → pageLine (ascii "tick 5") (page freshModel text (lineCounts 0 2 1 1 0))
       ≡ page (ticked 5 5 0 freshModel .model) (text ++ ascii "tick 5\n") (lineCounts 1 3 1 1 5)
-  unfolding pageLine contentPage ownWhole doneWhole opening toldBy doneBy tickLines ticksTold ticksDone toldText toldCounts shownAnswer lineReading wordsReading contentLength words wordsAfter ended isBlank keywordOf sameBytes keywordReading laterReading decimalCall decimalWith alone numberedLine readDecimal valueIn valueOf areDigits digitOf takesMark beforeMark behindMark isMark lineExpected wordsExpected expectedOf leftOf isFault comesWrong faultTold itemTold namesAfter isItem lineTold callTold questionTold analysisTold lineDone lineLeft callLine timedLine beside questionLine analysisLine begunTold headTold lineCounted added callCounted moved numbered closedText closedCounts judgedText judgedCounts isAnnounced refusalCounted decimal decimalWidth widthFrom digits glyph joined ascii
+  unfolding pageLine contentPage ownWhole doneWhole opening toldBy doneBy tickLines ticksTold ticksDone toldText toldCounts shownAnswer lineReading wordsReading contentLength words wordsAfter ended isBlank keywordOf sameBytes keywordReading laterReading decimalCall decimalWith alone numberedLine readDecimal valueIn valueOf areDigits digitOf takesMark beforeMark behindMark isMark lineExpected wordsExpected expectedOf leftOf isFault isPastOrFull faultTold itemTold namesAfter isItem lineTold callTold questionTold analysisTold lineDone lineLeft callLine timedLine beside questionLine analysisLine begunTold headTold lineCounted added callCounted moved numbered closedText closedCounts judgedText judgedCounts isAnnounced refusalCounted decimal decimalWidth widthFrom digits glyph joined ascii
   ticks-line text = rw quiet-ticks
 
 -- A text of these three lines.

@@ -11,10 +11,10 @@ use lib.Seq.{getD-set-same, getD-set-other, length-take-le, drop-at, take-take, 
 use borrow.Author.Tests.{ne-eqb, ltb-true, ltb-false}
 use Rattle.unit.proofs.Cases.{by-test}
 use Rattle.numeral.specs.Place.{joined}
-use Rattle.item_state.specs.Log.{Log, added}
+use Rattle.item_state.specs.Log.{Log, added, callCounted}
 use Rattle.item_checks.specs.Open.{lineCounted}
 use Rattle.item_calls.specs.Lines.{ticked}
-use Rattle.answer_text.specs.Texts.{Told, silent, asked, callCounted}
+use Rattle.answer_text.specs.Texts.{Told, silent, asked}
 use Rattle.answer_length.proofs.Sizes.{size-joined}
 use Rattle.wording.specs.Wording.{place}
 use Rattle.session.specs.Feed.{Fed}

@@ -18,10 +18,10 @@ use Rattle.line_buffer.proofs.Pieces.{line-first}
 use Rattle.item_state.specs.Log.{added}
 use Rattle.item_checks.specs.Fault.{leftOf}
 use Rattle.item_checks.specs.Open.{lineCounted}
-use Rattle.item_checks.specs.Close.{expectedOf, beginsWith, refusalCounted}
+use Rattle.item_checks.specs.Close.{expectedOf, beginsWith, refusalCounted, isAnnounced, isNotBad}
 use Rattle.session.specs.Line.{Replay, contentAnswered, lineAnswered}
 use Rattle.session.specs.Feed.{Fed, leftBehind, lineFed}
-use Rattle.line_text.specs.Text.{headTold, begunTold, namesAfter, isCall, judgedCounts, isAnnounced, shownAnswer, closedCounts, toldText, toldCounts, headOf, ownOf, lineCounts}
+use Rattle.line_text.specs.Text.{headTold, begunTold, namesAfter, judgedCounts, shownAnswer, closedCounts, toldText, toldCounts, headOf, ownOf, lineCounts}
 use Rattle.line_text.proofs.Own.{own-left}
 use Rattle.line_text.proofs.Told.{begun-long}
 use Rattle.line_text.proofs.Text.{textOf, Whole, content-counts}
@@ -50,7 +50,7 @@ module _ (p : ℕ) (five : p ≡ 5 → ⊥) (seven : p ≡ 7 → ⊥) (eight : p
   judged-count : (expected : List (List ℕ)) (counts answer : List ℕ) → getD (judgedCounts expected counts answer) p 0 ≡ getD counts p 0
   unfolding judgedCounts added
   judged-count [] counts answer = refl
-  judged-count (wanted ∷ others) counts answer = go (isCall counts) (beginsWith wanted answer)
+  judged-count (wanted ∷ others) counts answer = go (isNotBad counts) (beginsWith wanted answer)
     where
       more : List ℕ
       more = set counts 7 (min (getD counts 7 0 + 1) 18446744073709551615)

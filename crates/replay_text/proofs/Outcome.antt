@@ -1,15 +1,15 @@
 -- What a replay hands back, and what is written in its turns, is the definition's. Assumes nothing.
 use Prim.Native.Nat.{ℕ, _+_, _*_, _≤_, _<_}
 use mathlib.Core.Bool.{Bool, true, false, cond, true≢false, false≢true}
-use mathlib.Core.List.{List, [], _∷_, _++_, append-nil, append-assoc}
+use mathlib.Core.List.{List, [], _∷_, _++_}
 use mathlib.Core.Logic.{inl}
 use mathlib.Core.Path.{_≡_, refl, sym, ap, subst, _∙_}
 use native.Mathlib.Omega.{arith}
 use lib.Dec.{eqb, ltb}
 use lib.ListN.{length, getD, take, length-append, length-take}
-use borrow.Author.Tests.{ltb-false}
-use Rattle.unit.proofs.Cases.{by-test, by-eqb}
-use Rattle.line_buffer.specs.Lines.{hasLine, restIn, lastLine, wholeText, Reading, eachLine, pieceRead, piecesRead}
+use borrow.Author.Tests.{eqb-true}
+use Rattle.unit.proofs.Cases.{by-test}
+use Rattle.line_buffer.specs.Lines.{hasLine, linesIn, restIn, wholeText, eachLine}
 use Rattle.line_buffer.proofs.Pieces.{all-rest, none-taken}
 use Rattle.session.specs.declared.ends.Outcome.{Outcome}
 use Rattle.session.specs.Flush.{writtenNow, lineEnding}
@@ -21,7 +21,8 @@ use Rattle.session.proofs.FeedLaws.{fed-none}
 use Rattle.replay_text.specs.Replay.{Page, pageLine, firstPage, lastPage, replayText}
 use Rattle.replay_text.proofs.Loop.{usedOf, measure, pageAfter, Ready, left-flushed, measure-flushed, turn-after, ready-idle, page-same, measure-low, last-lines}
 use Rattle.replay_text.proofs.Sim.{countsOf, Idle, idle-flushed, idle-bytes, Under}
-use Rattle.replay_text.proofs.Written.{steps, start-idle, start-used, start-left, counts-written, end-written, page-is}
+use Rattle.replay_text.proofs.Written.{steps, start-idle, start-used, start-left, counts-written, end-written}
+use Rattle.replay_text.proofs.Ended.{ended-more, held-more, ended-last, whole-more}
 
 -- ---- a turn more, whether it finds a line or not
 
@@ -64,11 +65,8 @@ next-turn t p ready =
 
 -- ---- how long the bytes are
 
-whole-more : (pieces : List (List ℕ)) (piece : List ℕ) → length (wholeText (pieces ++ (piece ∷ []))) ≡ length (wholeText pieces) + length piece
-unfolding wholeText
-whole-more [] piece = omega (arith, length-append piece [])
-whole-more (p ∷ ps) piece =
-    omega (arith, length-append p (wholeText (ps ++ (piece ∷ []))), length-append p (wholeText ps), whole-more ps piece)
+whole-length : (pieces : List (List ℕ)) (piece : List ℕ) → length (wholeText (pieces ++ (piece ∷ []))) ≡ length (wholeText pieces) + length piece
+whole-length pieces piece = ap length (whole-more pieces piece) ∙ length-append (wholeText pieces) piece
 
 ending-length : (held : List ℕ) → length (lineEnding held) ≤ length held + 1
 unfolding lineEnding
@@ -78,30 +76,31 @@ ending-length (c ∷ cs) = omega (arith, length-append (c ∷ cs) (10 ∷ []))
 -- ---- what is reached, beside the page of the definition
 
 module _ (path : List ℕ) (check : Bool) where
-  abbrev pub first : Reading Page
-  first = record { state = firstPage path check; held = [] }
+  -- the page behind the lines that have ended in these pieces, and no others
+  abbrev pub endedPage : List (List ℕ) → Page
+  endedPage pieces = eachLine pageLine (linesIn (wholeText pieces)) (firstPage path check)
 
   -- Behind the file's end a line feed may be added, and a turn or two find nothing.
   abbrev atEnd : ℕ → ℕ
   atEnd state = cond (eqb state 0) 0 (cond (ltb state 3) 4098 4099)
 
   pub record Kept (n : ℕ) (pieces : List (List ℕ)) (state : ℕ) (t : Turned) : Type 0 where
-    known : state ≤ 4
+    pub known : state ≤ 4
     few : n + measure (t .fed) ≤ 4098 * length (wholeText pieces) + atEnd state
     page : Page
     ready : ReadyFor t page
-    -- what is still read leads from here to where it leads from the start
-    more : state ≡ 0 → (later : List (List ℕ))
-        → piecesRead pageLine (pieces ++ later) first
-        ≡ piecesRead pageLine later record { state = pageAfter (leftOver t) page; held = take 1002 (restIn (leftOver t)) }
-    last : state ≡ 1 → pageAfter (leftOver t) page ≡ piecesRead pageLine pieces first
-    over : state ≡ 3 → (page ≡ piecesRead pageLine pieces first) × (leftOver t ≡ [])
+    -- what is left to be answered are the last of the lines that have ended, and the start of the next one
+    ended : state ≡ 0 → pageAfter (leftOver t) page ≡ endedPage pieces
+    held : state ≡ 0 → take 1002 (restIn (leftOver t)) ≡ take 1002 (restIn (wholeText pieces))
+    last : state ≡ 1 → pageAfter (leftOver t) page ≡ lastPage path check (wholeText pieces)
+    over : state ≡ 3 → (page ≡ lastPage path check (wholeText pieces)) × (leftOver t ≡ [])
 
   begun-few : measure (start path check) ≤ 0
   unfolding start
   begun-few = omega (arith, measure-low Idle Under steps (start path check) (start-idle path check .none))
 
   kept-begun : Kept 0 [] 0 record { text = []; fed = start path check }
+  unfolding wholeText eachLine linesIn restIn
   kept-begun =
       let left = start-left path check in
       record {
@@ -109,7 +108,8 @@ module _ (path : List ℕ) (check : Bool) where
         few = omega (arith, begun-few);
         page = firstPage path check;
         ready = inl (start-idle path check, start-used path check);
-        more = λ e later. rw (page-same Idle Under steps (start path check .left) (firstPage path check) (left .0), all-rest (start path check .left) (left .0), left .1);
+        ended = λ e. page-same Idle Under steps (start path check .left) (firstPage path check) (left .0);
+        held = λ e. rw (all-rest (start path check .left) (left .0)) (left .1);
         last = λ e. absurd (omega arith);
         over = λ e. absurd (omega arith);
       }
@@ -127,7 +127,8 @@ module _ (path : List ℕ) (check : Bool) where
         few = omega (arith, k .few, on .fewer some);
         page = on .page;
         ready = on .ready;
-        more = λ e later. rw (on .after, on .rest) (k .more e later);
+        ended = λ e. on .after ∙ k .ended e;
+        held = λ e. rw (on .rest) (k .held e);
         last = λ e. on .after ∙ k .last e;
         over = λ e. absurd (not-over state going e);
       }
@@ -165,30 +166,31 @@ module _ (path : List ℕ) (check : Bool) where
     unfolding reading
     measure-on bytes = measure-low Idle Under steps (withBytes bytes (turnedOn t .fed)) (here .0 .none)
 
-    pub more-here : state ≡ 0 → (later : List (List ℕ))
-        → piecesRead pageLine (pieces ++ later) first ≡ piecesRead pageLine later record { state = next .page; held = take 1002 left }
-    more-here e later = k .more e later ∙ rw (page-here, rest-here)
+    -- The page is that of the lines that have ended, and what is left is the start of the next one.
+    pub ended-here : state ≡ 0 → next .page ≡ endedPage pieces
+    ended-here e = sym page-here ∙ k .ended e
+
+    held-here : state ≡ 0 → take 1002 left ≡ take 1002 (restIn (wholeText pieces))
+    held-here e = ap (take 1002) (sym rest-here) ∙ k .held e
 
     kept-read : state ≡ 0 → (piece : List ℕ) → 0 < length piece → Kept (n + 1) (pieces ++ (piece ∷ [])) 0 (reading (take 1002 left ++ piece) (turnedOn t))
-    unfolding piecesRead pieceRead
     kept-read e piece some = record {
       known = omega arith;
       few =
           let old : n + 4097 * length left ≤ 4098 * length (wholeText pieces) + atEnd 0 = rw e at few-here in
-          omega (arith, old, measure-on (take 1002 left ++ piece), length-append (take 1002 left) piece, length-take 1002 left, whole-more pieces piece, some);
+          omega (arith, old, measure-on (take 1002 left ++ piece), length-append (take 1002 left) piece, length-take 1002 left, whole-length pieces piece, some);
       page = next .page;
       ready = ready-on (take 1002 left ++ piece);
-      more = λ z later. rw (left-on (take 1002 left ++ piece), append-assoc pieces (piece ∷ []) later) (more-here e (piece ∷ later));
+      ended = λ z. rw (left-on (take 1002 left ++ piece), held-here e, ended-here e, whole-more pieces piece) (ended-more (wholeText pieces) piece (firstPage path check));
+      held = λ z. rw (left-on (take 1002 left ++ piece), held-here e, whole-more pieces piece) (held-more (wholeText pieces) piece);
       last = λ z. absurd (omega arith);
       over = λ z. absurd (omega arith);
     }
 
     kept-ended : state ≡ 0 → Kept (n + 1) pieces 1 (reading (lineEnding (take 1002 left)) (turnedOn t))
-    unfolding piecesRead
+    unfolding lastPage
     kept-ended e =
         let lines = last-lines Idle Under steps (take 1002 left) (none-taken 1002 left none) in
-        let all : piecesRead pageLine pieces first ≡ eachLine pageLine (lastLine (take 1002 left)) (next .page)
-        = ap (λ (ps : List (List ℕ)). piecesRead pageLine ps first) (sym (append-nil pieces)) ∙ more-here e [] in
         record {
           known = omega arith;
           few =
@@ -196,8 +198,9 @@ module _ (path : List ℕ) (check : Bool) where
               omega (arith, old, measure-on (lineEnding (take 1002 left)), ending-length (take 1002 left), length-take 1002 left);
           page = next .page;
           ready = ready-on (lineEnding (take 1002 left));
-          more = λ z. absurd (omega arith);
-          last = λ z. rw (left-on (lineEnding (take 1002 left)), lines) (sym all);
+          ended = λ z. absurd (omega arith);
+          held = λ z. absurd (omega arith);
+          last = λ z. rw (left-on (lineEnding (take 1002 left)), lines, held-here e, ended-here e) (ended-last (wholeText pieces) (firstPage path check));
           over = λ z. absurd (omega arith);
         }
 
@@ -209,7 +212,8 @@ module _ (path : List ℕ) (check : Bool) where
       few = omega (arith, few-here, more, measure-on []);
       page = next .page;
       ready = ready-on [];
-      more = λ z. absurd (a z);
+      ended = λ z. absurd (a z);
+      held = λ z. absurd (a z);
       last = λ z. absurd (b z);
       over = λ z. absurd (c z);
     }
@@ -222,7 +226,8 @@ module _ (path : List ℕ) (check : Bool) where
           omega (arith, old, measure-on []);
       page = next .page;
       ready = ready-on [];
-      more = λ z. absurd (omega arith);
+      ended = λ z. absurd (omega arith);
+      held = λ z. absurd (omega arith);
       last = λ z. absurd (omega arith);
       over = λ z. (sym page-here ∙ k .last e, left-on []);
     }
@@ -264,7 +269,7 @@ module _ (path : List ℕ) (check : Bool) where
         let k = kept r in
         let o = k .over refl in
         let i = ready-idle Idle Under steps (t .text) (t .fed) (k .page) (k .ready) (ap hasLine (o .1)) in
-        (subst (Idle (t .text) (t .fed)) (o .0 ∙ page-is path check pieces) (i .0), i .1)
+        (subst (Idle (t .text) (t .fed)) (o .0) (i .0), i .1)
 
     -- The counts are the definition's for the whole text, but for the places of the buffer,
     pub read-counts : (k : ℕ) → (k ≡ 0 → ⊥) → (k ≡ 12 → ⊥) → (k ≡ 13 → ⊥) → (k ≡ 20 → ⊥)
@@ -286,23 +291,32 @@ module _ (path : List ℕ) (check : Bool) where
 
   -- ---- what `replay` in session ensures
 
-  whole-told : (state : ℕ) (counts : List ℕ) {outcome : Outcome} → outcome ≡ outcomeOf (wasWhole state) counts → outcome .whole ≡ true → wasWhole state ≡ true
+  pub whole-told : {t : Bool} (state : ℕ) (counts : List ℕ) {outcome : Outcome} → outcome ≡ outcomeOf (wasWhole state) counts → outcome .whole ≡ t → wasWhole state ≡ t
   unfolding outcomeOf
   whole-told state counts told all = sym (ap (λ (o : Outcome). o .whole) told) ∙ all
 
-  stopped : (state : ℕ) → goesOn state ≡ false → wasWhole state ≡ true → state ≤ 4 → state ≡ 3
-  unfolding goesOn wasWhole
-  stopped state still all known = by-eqb state 4 (λ e t. absurd (false≢true (rw t at all))) (λ other t. omega (arith, ltb-false state 3 still, known, other))
+  stopped : (state : ℕ) → wasWhole state ≡ true → state ≡ 3
+  unfolding wasWhole
+  stopped state all = eqb-true state 3 all
 
-  -- A replay that reads its file to the end hands back what the definition counts for the whole text: of less than 4,500 terabytes, for
-  -- which the loop's count of turns is enough.
-  pub replay-told : {outcome : Outcome} (r : Replayed path check outcome)
-      → length (wholeText (r .pieces)) < 4500000000000000 → outcome .whole ≡ true
-      → outcome ≡ outcomeOf true (lastPage path check (wholeText (r .pieces)) .replay .state .log .counts)
-  replay-told r few all =
-      by-test (goesOn (r .state)) (λ going. absurd (omega (arith, r .over going, few, few-turns (r .reached))))
-      (λ still.
-      let end : r .state ≡ 3 = stopped (r .state) still (whole-told (r .state) (countsOf (r .last .fed)) (r .told) all) (kept (r .reached) .known) in
-      let there : Reached path check (r .turns) (r .pieces) 3 (r .last)
-      = subst (λ (s : ℕ). Reached path check (r .turns) (r .pieces) s (r .last)) end (r .reached) in
-      r .told ∙ (ap (λ (s : ℕ). outcomeOf (wasWhole s) (countsOf (r .last .fed))) end ∙ read-outcome there))
+  -- A replay that reads its file to the end:
+  module _ {outcome : Outcome} (r : Replayed path check outcome) (all : outcome .whole ≡ true) where
+    at-end : r .state ≡ 3
+    at-end = stopped (r .state) (whole-told (r .state) (countsOf (r .last .fed)) (r .told) all)
+
+    there : Reached path check (r .turns) (r .pieces) 3 (r .last)
+    there = subst (λ (s : ℕ). Reached path check (r .turns) (r .pieces) s (r .last)) at-end (r .reached)
+
+    -- its turns write, with the last line, what the definition writes for the whole text,
+    pub replay-written : r .last .text ++ writtenNow (lastSaid true (r .last .fed .replay .state .log)) ≡ replayText path check (wholeText (r .pieces))
+    replay-written = read-text there
+
+    -- and it hands back what the definition counts for it.
+    pub replay-told : outcome ≡ outcomeOf true (lastPage path check (wholeText (r .pieces)) .replay .state .log .counts)
+    replay-told = r .told ∙ (ap (λ (s : ℕ). outcomeOf (wasWhole s) (countsOf (r .last .fed))) at-end ∙ read-outcome there)
+
+  -- Every replay comes to an end, of a text of less than 4,500 terabytes: for these the loop's count of turns is enough.
+  pub replay-ends : {outcome : Outcome} (r : Replayed path check outcome) → length (wholeText (r .pieces)) < 4500000000000000
+      → goesOn (r .state) ≡ false
+  replay-ends r few =
+      by-test (goesOn (r .state)) (λ going. absurd (omega (arith, r .over going, few, few-turns (r .reached)))) (λ still. still)

@@ -10,11 +10,11 @@ use lib.Seq.{getD-set-same, getD-set-other, set-comm, set-set}
 use Rattle.numeral.specs.Place.{noRoom, joined}
 use Rattle.device.specs.declared.Model.{Model}
 use Rattle.wording.specs.Wording.{Texts}
-use Rattle.item_state.specs.Log.{Log}
+use Rattle.item_state.specs.Log.{Log, callCounted}
 use Rattle.item_calls.specs.Lines.{Ticks, ticked}
 use Rattle.item_checks.specs.Close.{briefly, keptBriefly}
 use Rattle.item_checks.proofs.Briefly.{briefly-parts}
-use Rattle.answer_text.specs.Texts.{Told, onPage, HasRoom, callCounted, endTexts}
+use Rattle.answer_text.specs.Texts.{Told, onPage, HasRoom, endTexts}
 use Rattle.answer_text.specs.Line.{lineTold}
 use Rattle.answer_text.proofs.Page.{page-ends, page-text, page-long, joined-append}
 use Rattle.session.specs.Line.{withFlash, State, lineDone, Replay}

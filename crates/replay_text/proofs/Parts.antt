@@ -17,12 +17,12 @@ use Rattle.line.specs.Line.{lineReading}
 use Rattle.line_buffer.specs.Lines.{hasLine, lineOf, behindLine, linesIn, restIn, eachLine}
 use Rattle.line_buffer.proofs.LineLaws.{behind-shorter}
 use Rattle.line_buffer.proofs.Pieces.{line-first}
-use Rattle.item_state.specs.Log.{Log}
+use Rattle.item_state.specs.Log.{Log, callCounted}
 use Rattle.item_calls.specs.Lines.{ticked}
 use Rattle.item_checks.specs.Fault.{isFault, leftOf}
 use Rattle.item_checks.specs.Open.{isItem}
 use Rattle.item_checks.specs.Close.{expectedOf, briefly, keptBriefly, tail, closed}
-use Rattle.answer_text.specs.Texts.{Told, onPage, silent, callCounted, endTexts}
+use Rattle.answer_text.specs.Texts.{Told, onPage, silent, endTexts}
 use Rattle.answer_text.proofs.Page.{page-ends, page-long, joined-append}
 use Rattle.answer_length.proofs.Sizes.{size-joined}
 use Rattle.session.specs.Line.{State, lineDone, lineEnded, Replay, withLog, contentAnswered, lineAnswered}

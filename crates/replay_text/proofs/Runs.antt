@@ -15,12 +15,12 @@ use Rattle.line.specs.Line.{Bounded}
 use Rattle.line_buffer.specs.Lines.{hasLine}
 use Rattle.numeral.specs.Ascii.{ascii}
 use Rattle.wording.specs.Wording.{Texts, lineFeed, numbered}
-use Rattle.item_state.specs.Log.{Log, added, said, counted, called}
+use Rattle.item_state.specs.Log.{Log, added, said, counted, called, callCounted}
 use Rattle.item_calls.specs.Lines.{moved, ticked, partEnded, ticksPart, ticksAhead, unlessUnderWay, ticksBegun, tickLine, atBegun, atLine, callLine, timedLine, beside}
 use Rattle.item_checks.specs.Open.{isItem}
 use Rattle.item_questions.specs.Answers.{questionLine}
 use Rattle.item_analysis.specs.Lines.{analysisLine}
-use Rattle.answer_text.specs.Texts.{Told, behind, callCounted, isListing, toldOfHead, endTexts, toldOfPart, toldOfTicks, toldOfTick, toldOfAt, callTold, questionTold, analysisTold}
+use Rattle.answer_text.specs.Texts.{Told, behind, isListing, toldOfHead, endTexts, toldOfPart, toldOfTicks, toldOfTick, toldOfAt, callTold, questionTold, analysisTold}
 use Rattle.answer_text.specs.Line.{lineLeft, lineTold}
 use Rattle.session.specs.Line.{State, lineDone}
 use Rattle.line_text.specs.Text.{bare}
@@ -105,7 +105,7 @@ part-model total m l left is low =
     let all : min (getD (l .counts) 21 0) total ≡ left = omega arith in rw all
 
 log-long : (head : Texts) (l : Log) → length (called 0 head l .counts) ≡ length (l .counts)
-unfolding called counted added
+unfolding called counted callCounted added
 log-long head l = simp length-set
 
 ahead-ticks : (head : Texts) (n : ℕ) (l : Log) → 21 < length (l .counts) → getD (ticksAhead head n l .counts) 21 0 ≡ n

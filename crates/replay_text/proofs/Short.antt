@@ -7,11 +7,12 @@ use native.Mathlib.Omega.{arith}
 use lib.Dec.{eqb}
 use lib.ListN.{length, getD, set}
 use lib.Seq.{set-getD}
+use Rattle.item_state.specs.Log.{callCounted}
 use Rattle.unit.proofs.Cases.{by-eqb}
 use Rattle.line.specs.declared.Content.{Content}
 use Rattle.wording.specs.Wording.{Texts, lineFeed}
 use Rattle.item_calls.specs.Lines.{ticked}
-use Rattle.answer_text.specs.Texts.{Told, callCounted, endTexts}
+use Rattle.answer_text.specs.Texts.{Told, endTexts}
 use Rattle.answer_text.specs.Line.{lineTold}
 use Rattle.session.specs.Line.{State, lineDone}
 use Rattle.line_text.specs.Text.{bare}

@@ -15,10 +15,9 @@ use Rattle.numeral.specs.Place.{joined}
 use Rattle.line.specs.declared.Content.{Content}
 use Rattle.line.specs.Line.{lineReading}
 use Rattle.line_buffer.specs.Lines.{hasLine, lineOf}
-use Rattle.item_state.specs.Log.{Log}
+use Rattle.item_state.specs.Log.{Log, callCounted}
 use Rattle.item_calls.specs.Lines.{ticked}
 use Rattle.item_checks.specs.Fault.{isFault}
-use Rattle.answer_text.specs.Texts.{callCounted}
 use Rattle.session.specs.Line.{State, Replay, withLog}
 use Rattle.session.specs.Feed.{Fed}
 use Rattle.session.specs.Flush.{isLong, writtenTo, writtenNow, keptTo, afterWriting}

@@ -6,23 +6,35 @@ use mathlib.Core.List.{List, [], _∷_, _++_}
 use native.Mathlib.Omega.{arith}
 use lib.ListN.{length, getD, set}
 use lib.Seq.{getD-set-other}
+use borrow.Author.Tests.{eq-eqb}
 use Rattle.unit.proofs.Cases.{by-test}
 use Rattle.numeral.specs.Place.{joined}
 use Rattle.line.specs.declared.Content.{Content}
 use Rattle.line.specs.Line.{Reading, lineReading}
 use Rattle.line_buffer.specs.Lines.{eachLine}
+use Rattle.line_buffer.proofs.Pieces.{each-append}
 use Rattle.wording.specs.Wording.{fault}
-use Rattle.item_checks.specs.Fault.{isFault}
-use Rattle.item_checks.specs.Close.{expectedOf}
+use Rattle.item_state.specs.Log.{added}
+use Rattle.item_checks.specs.Fault.{isFault, leftOf}
+use Rattle.item_checks.specs.Open.{isItem}
+use Rattle.item_checks.specs.Close.{expectedOf, isNotBad}
+use Rattle.answer_text.specs.Texts.{callTold, questionTold, analysisTold}
+use Rattle.answer_text.specs.Line.{lineTold}
 use Rattle.session.specs.Ends.{countsBegun}
-use Rattle.line_text.specs.Text.{headOf, closedCounts, isCall, shownAnswer, toldCounts}
+use Rattle.line_text.specs.Text.{headOf, faultTold, itemTold, closedCounts, judgedText, shownAnswer, closedText, toldText, toldCounts}
 use Rattle.line_text.proofs.Apart.{count-elsewhere}
-use Rattle.replay_text.specs.Replay.{ownWhole, Page, contentPage, pageLine, firstPage}
+use Rattle.replay_text.specs.Replay.{tickLines, toldBy, opening, ownWhole, Page, contentPage, pageLine, firstPage}
+use Rattle.replay_text.specs.LastLine.{countsOf, lineOwn, isBad}
 use Rattle.replay_text.proofs.Alike.{isCounted, own-same, closed-same}
-use Rattle.replay_text.proofs.Counts.{alike-self, counted-apart, begun-alike, begun-line, begun-bad, begun-fault}
-use Rattle.replay_text.proofs.Bad.{countsOf, linesAdd, lines-add, AlikeButLines, Counting, isBad, bad-line-alike, bad-line-counted, bad-line-text, line-alike, line-same}
+use Rattle.replay_text.proofs.Counts.{alike-self, counted-apart, begun-alike, begun-line, begun-bad, begun-fault, no-head}
+use Rattle.replay_text.proofs.Bad.{contentAdds, lineAdds, linesAdd, lines-add, AlikeButLines, Counting, bad-line-alike, bad-line-counted, bad-line-text, line-alike, line-same}
 
 -- ---- what a line that is not bad leaves of the counts
+
+bad-left : (content : Content) (line numbers : List ℕ) (p : Page) (n : ℕ) → (n ≡ 6 → ⊥) → isFault content (headOf (p .replay) .counts) ≡ true
+    → getD (ownWhole content line numbers (p .replay .names) (p .replay .state) (headOf (p .replay) .counts) .counts) n 0 ≡ getD (headOf (p .replay) .counts) n 0
+unfolding ownWhole opening faultTold leftOf itemTold isItem toldBy tickLines lineTold callTold questionTold analysisTold added
+bad-left content line numbers p n apart bad = rw bad (getD-set-other (headOf (p .replay) .counts) 6 n _ 0 apart)
 
 module _ (n v : ℕ) (other : isCounted n ≡ false) where
   -- the same counts, with a number in a place in which no answer counts
@@ -49,7 +61,29 @@ module _ (n v : ℕ) (other : isCounted n ≡ false) where
 
   closed-keeps : (expected : List (List ℕ)) (c answer : List ℕ) → getD c n 0 ≡ v → getD (closedCounts expected c answer) n 0 ≡ v
   closed-keeps expected c answer e =
-      closed-same Keeps keeps-same keeps-set (λ c c′ r. ap isCall (r .0)) (λ c c′ r. ap (λ (l : List ℕ). getD l 17 0) (r .0)) expected c c answer (refl, e) .1
+      closed-same Keeps keeps-same keeps-set (λ c c′ r. ap isNotBad (r .0)) (λ c c′ r. ap (λ (l : List ℕ). getD l 17 0) (r .0)) expected c c answer (refl, e) .1
+
+-- What a line leaves of such a place, bad or not; a bad one counts in place 6.
+pub own-left : (line : List ℕ) (p : Page) → length (countsOf p) ≡ 22 → (n : ℕ) → isCounted n ≡ false → (n ≡ 6 → ⊥)
+    → getD (lineOwn line p .counts) n 0 ≡ getD (headOf (p .replay) .counts) n 0
+unfolding lineOwn
+own-left line p long n other apart =
+    let content = lineReading (p .numbers) line .content in
+    let numbers = lineReading (p .numbers) line .numbers in
+    let h = headOf (p .replay) .counts in
+    by-test (isFault content h) (λ bad. bad-left content line numbers p n apart bad)
+    (λ good. own-keeps n (getD h n 0) other content line numbers p good refl .1)
+
+-- A check stays one.
+pub check-left : (line : List ℕ) (p : Page) → length (countsOf p) ≡ 22 → getD (countsOf (pageLine line p)) 14 0 ≡ getD (countsOf p) 14 0
+unfolding pageLine contentPage toldCounts lineOwn
+check-left line p long =
+    let own = lineOwn line p in
+    let answer = shownAnswer (own .counts) (joined (own .texts)) in
+    let here : getD (own .counts) 14 0 ≡ getD (countsOf p) 14 0
+    = own-left line p long 14 refl (λ e. omega arith) ∙ sym (begun-alike (p .replay .names) (countsOf p) long .each 14 refl) in
+    count-elsewhere 0 0 0 0 (closedCounts (expectedOf line) (own .counts) answer) 14 (λ e. omega arith) (λ e. omega arith) (λ e. omega arith) (λ e. omega arith)
+    ∙ closed-keeps 14 (getD (countsOf p) 14 0) refl (expectedOf line) (own .counts) answer here
 
 module _ (line : List ℕ) (p : Page) (long : length (countsOf p) ≡ 22) where
   abbrev read : Reading
@@ -91,6 +125,18 @@ module _ (line : List ℕ) (p : Page) (long : length (countsOf p) ≡ 22) where
       good-left 6 refl (λ e. omega arith) (λ e. omega arith) (λ e. omega arith) (λ e. omega arith) ∙ begun-bad names (countsOf p) long,
       good-left 14 refl (λ e. omega arith) (λ e. omega arith) (λ e. omega arith) (λ e. omega arith) ∙ sym (begun-alike names (countsOf p) long .each 14 refl),
     )
+
+    -- Outside a check it adds its own answer, and in that, where it differs, what is expected.
+    pub good-line-text : getD (countsOf p) 14 0 ≡ 0
+        → lineAdds line p ≡ judgedText (expectedOf line) (lineOwn line p .counts) (joined (lineOwn line p .texts))
+    unfolding lineAdds contentAdds lineOwn toldText closedText shownAnswer joined
+    good-line-text outside =
+        let own = ownWhole (read .content) line (read .numbers) names (p .replay .state) (headOf (p .replay) .counts) in
+        let head : getD (headOf (p .replay) .counts) 14 0 ≡ 0 = sym (begun-alike names (countsOf p) long .each 14 refl) ∙ outside in
+        let here : getD (own .counts) 14 0 ≡ 0 = own-left line p long 14 refl (λ e. omega arith) ∙ head in
+        let closed : getD (closedCounts (expectedOf line) (own .counts) (joined (own .texts))) 14 0 ≡ 0
+        = closed-keeps 14 0 refl (expectedOf line) (own .counts) (joined (own .texts)) here in
+        rw (eq-eqb (getD (own .counts) 14 0) 0 here, eq-eqb (getD (closedCounts (expectedOf line) (own .counts) (joined (own .texts))) 14 0) 0 closed, no-head names (countsOf p) long outside)
 
 -- ---- any line
 
@@ -146,11 +192,6 @@ behind-bad-line line ls p counting outside few bad none =
 
 -- ---- a whole text
 
-each-append : (a b : List (List ℕ)) (p : Page) → eachLine pageLine (a ++ b) p ≡ eachLine pageLine b (eachLine pageLine a p)
-unfolding eachLine
-each-append [] b p = refl
-each-append (l ∷ ls) b p = each-append ls b (pageLine l p)
-
 -- After some lines of a text: their number, no more bad ones than that, and no check.
 record Reached (k : ℕ) (p : Page) : Type 0 where
   long : length (countsOf p) ≡ 22
@@ -199,8 +240,8 @@ bad-line-aside path before line after few bad none =
     let r = reached-all before 0 start (omega (arith, few)) (first-reached path) in
     let number : getD (countsOf p) 2 0 ≡ length before = r .lines ∙ omega arith in
     let counting : Counting p = record { long = r .long; few = omega (arith, r .bad, few) } in (
-      ap (λ (q : Page). q .text) (each-append before after start) ∙ lines-add after p,
-      ap (λ (q : Page). q .text) (each-append before (line ∷ after) start)
+      ap (λ (q : Page). q .text) (each-append pageLine before after start) ∙ lines-add after p,
+      ap (λ (q : Page). q .text) (each-append pageLine before (line ∷ after) start)
           ∙ (lines-add (line ∷ after) p
           ∙ (ap (λ (t : List ℕ). p .text ++ t) (behind-bad-line line after p counting (r .check) (omega (arith, number, few)) bad none)
           ∙ ap (λ (k : ℕ). p .text ++ (joined (fault (k + 1) (lineReading (p .numbers) line .content)) ++ linesAdd after p)) number)),

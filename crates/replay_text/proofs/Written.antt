@@ -166,7 +166,8 @@ module _ (t : Turned) (page : Page) (idle : Idle (t .text) (t .fed) page) (used 
       rw (said-page (lastTexts (log .counts)) log, said-other 21 (λ e. omega arith), said-other 13 (λ e. omega arith), eq-eqb (getD (log .counts) 21 0) 0 (idle .none), nothing-kept)
       (page-text told log room some ∙ rw used)
 
-  none-written : writtenNow log ≡ []
+  -- Nothing is left to be written.
+  pub none-written : writtenNow log ≡ []
   unfolding writtenNow writtenTo
   none-written = rw (eq-eqb (getD (log .counts) 21 0) 0 (idle .none), nothing-kept, used)
 

@@ -14,6 +14,7 @@ use mathlib.Core.List.{List, [], _∷_, _++_}
 use lib.Dec.{eqb}
 use lib.IntN.{pos}
 use lib.ListN.{getD, set, replicate}
+use Rattle.item_state.specs.Log.{callCounted}
 use Rattle.numeral.specs.Place.{joined}
 use Rattle.device.specs.declared.Model.{Model}
 use Rattle.device.specs.Model.{freshModel}
@@ -25,7 +26,7 @@ use Rattle.wording.specs.Wording.{Texts, lineFeed, numbered}
 use Rattle.item_calls.specs.Lines.{moved, ticked}
 use Rattle.item_checks.specs.Fault.{leftOf}
 use Rattle.item_checks.specs.Close.{expectedOf}
-use Rattle.answer_text.specs.Texts.{Told, behind, callCounted}
+use Rattle.answer_text.specs.Texts.{Told, behind}
 use Rattle.answer_text.specs.Line.{lineTold}
 use Rattle.session.specs.Line.{State, lineDone, Replay, withLog}
 use Rattle.session.specs.Ends.{namesBegun, countsBegun, lastTexts}

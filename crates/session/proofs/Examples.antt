@@ -19,9 +19,9 @@ use Rattle.item_calls.specs.Lines.{callLine, timedLine, beside}
 use Rattle.item_questions.specs.Answers.{questionLine}
 use Rattle.item_analysis.specs.Lines.{analysisLine}
 use Rattle.answer_text.specs.Line.{lineLeft}
-use Rattle.item_checks.specs.Fault.{comesWrong, isFault, leftOf, faultTold, faultLog}
+use Rattle.item_checks.specs.Fault.{isPastOrFull, isFault, leftOf, faultSaid, faultLog}
 use Rattle.item_checks.specs.Open.{lineCounted, headed, begun, isItem, named, opened}
-use Rattle.item_checks.specs.Close.{expectedOf, keptBriefly, judgedLog, announced, refusalCounted, closed}
+use Rattle.item_checks.specs.Close.{expectedOf, keptBriefly, judgedLog, isAnnounced, refusalCounted, closed}
 use Rattle.session.specs.Line.{Replay, lineDone, lineBegun, lineEnded, contentAnswered, lineAnswered}
 use Rattle.session.specs.Feed.{Fed, hasRoom, leftBehind, lineFed, fed}
 
@@ -55,17 +55,17 @@ module _ (model : Model) (flash : List ℕ) (differences : List ℤ) (probes : L
 
   -- A line without a word is counted, and answers nothing.
   no-word : lineAnswered (32 ∷ []) [] (kept (counts 0 4 0 0 0) []) ≡ kept (counts 0 5 0 0 0) []
-  unfolding lineAnswered lineReading wordsReading contentLength words wordsAfter ended isBlank lineExpected wordsExpected expectedOf contentAnswered lineBegun opened begun lineCounted headed added leftOf isFault comesWrong faultLog named isItem lineDone lineLeft callLine timedLine beside questionLine analysisLine lineEnded keptBriefly closed judgedLog announced refusalCounted
+  unfolding lineAnswered lineReading wordsReading contentLength words wordsAfter ended isBlank lineExpected wordsExpected expectedOf contentAnswered lineBegun opened begun lineCounted headed added leftOf isFault isPastOrFull faultLog named isItem lineDone lineLeft callLine timedLine beside questionLine analysisLine lineEnded keptBriefly closed judgedLog isAnnounced refusalCounted
   no-word = refl
 
   -- The same in bytes that were read: two lines, and the start of a third.
   two-lines : fed 3 record { replay = kept (counts 0 4 0 0 0) []; numbers = []; left = 10 ∷ 32 ∷ 10 ∷ 98 ∷ [] }
       ≡ record { replay = kept (counts 0 6 0 0 0) []; numbers = []; left = 98 ∷ [] }
-  unfolding fed lineFed hasLine lineOf behindLine hasRoom leftBehind lineAnswered lineReading wordsReading contentLength words wordsAfter ended isBlank lineExpected wordsExpected expectedOf contentAnswered lineBegun opened begun lineCounted headed added leftOf isFault comesWrong faultLog named isItem lineDone lineLeft callLine timedLine beside questionLine analysisLine lineEnded keptBriefly closed judgedLog announced refusalCounted
+  unfolding fed lineFed hasLine lineOf behindLine hasRoom leftBehind lineAnswered lineReading wordsReading contentLength words wordsAfter ended isBlank lineExpected wordsExpected expectedOf contentAnswered lineBegun opened begun lineCounted headed added leftOf isFault isPastOrFull faultLog named isItem lineDone lineLeft callLine timedLine beside questionLine analysisLine lineEnded keptBriefly closed judgedLog isAnnounced refusalCounted
   two-lines = refl
 
   -- `x`, the fifth line, where one byte stands in the answers: it is told as a bad one behind it, and counted.
   unknown-word : lineAnswered (ascii "x") [] (kept (counts 1 4 0 0 0) (ascii "_.........................."))
       ≡ kept (22 ∷ 0 ∷ 5 ∷ 0 ∷ 0 ∷ 0 ∷ 1 ∷ 0 ∷ 0 ∷ 0 ∷ 0 ∷ 0 ∷ 1 ∷ 0 ∷ 0 ∷ 0 ∷ 0 ∷ 0 ∷ 0 ∷ 0 ∷ 1 ∷ 0 ∷ []) (ascii "_line 5: unknown word\n.....")
-  unfolding ascii lineAnswered lineReading wordsReading contentLength words wordsAfter ended isBlank keywordOf sameBytes keywordReading laterReading takesMark beforeMark behindMark isMark lineExpected wordsExpected expectedOf contentAnswered lineBegun opened begun lineCounted headed added leftOf isFault comesWrong faultLog faultTold said fault why decimal decimalWidth widthFrom digits glyph putEach written nextPlace overwrite named isItem lineDone lineLeft callLine timedLine beside questionLine analysisLine lineEnded keptBriefly closed judgedLog announced refusalCounted
+  unfolding ascii lineAnswered lineReading wordsReading contentLength words wordsAfter ended isBlank keywordOf sameBytes keywordReading laterReading takesMark beforeMark behindMark isMark lineExpected wordsExpected expectedOf contentAnswered lineBegun opened begun lineCounted headed added leftOf isFault isPastOrFull faultLog faultSaid said fault why decimal decimalWidth widthFrom digits glyph putEach written nextPlace overwrite named isItem lineDone lineLeft callLine timedLine beside questionLine analysisLine lineEnded keptBriefly closed judgedLog isAnnounced refusalCounted
   unknown-word = refl

@@ -60,9 +60,9 @@ unfolding lineEnding
 last-line = (refl, refl, refl)
 
 -- A replay is over at the end of its file, or breaks off where the file can't be read. Till then it goes on.
-ended : (overFrom 1 ≡ 3) × (overFrom 2 ≡ 4) × (goesOn 2 ≡ true) × (goesOn 3 ≡ false) × (wasWhole 3 ≡ true) × (wasWhole 4 ≡ false)
+ended : (overFrom 1 ≡ 3) × (overFrom 2 ≡ 4) × (goesOn 2 ≡ true) × (goesOn 3 ≡ false) × (wasWhole 1 ≡ false) × (wasWhole 3 ≡ true) × (wasWhole 4 ≡ false)
 unfolding overFrom goesOn wasWhole
-ended = (refl, refl, refl, refl, refl, refl)
+ended = (refl, refl, refl, refl, refl, refl, refl)
 
 -- `a`, a line feed, `b` are left: they are answered next, and nothing is read.
 line-next : (next : ℕ) (answered : List ℕ) → WentOn (97 ∷ 10 ∷ 98 ∷ []) 0 next answered → (next ≡ 0) × (answered ≡ 97 ∷ 10 ∷ 98 ∷ [])

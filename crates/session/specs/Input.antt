@@ -3,7 +3,7 @@
 -- How far reading has come: 0 the file may have more bytes, 1 it has none, 2 it can't be read; and with nothing left to answer either,
 -- 3 of a file that was read to its end, 4 of one that was not.
 use Prim.Native.Nat.{ℕ, _≤_, _<_}
-use mathlib.Core.Bool.{Bool, true, false, cond, not}
+use mathlib.Core.Bool.{Bool, true, false, cond}
 use mathlib.Core.List.{List, [], _++_}
 use mathlib.Core.Path.{_≡_}
 use lib.Dec.{eqb, ltb}
@@ -32,9 +32,9 @@ pub record ReadOn (held : List ℕ) (state : ℕ) (bytes : List ℕ) : Type 0 wh
 unfoldable pub goesOn : ℕ → Bool
 goesOn state = ltb state 3
 
--- The file was read to its end.
+-- The file was read to its end, and all of it is answered.
 unfoldable pub wasWhole : ℕ → Bool
-wasWhole state = not (eqb state 4)
+wasWhole state = eqb state 3
 
 -- Nothing is left to answer: the replay is over, or breaks off.
 unfoldable pub overFrom : ℕ → ℕ

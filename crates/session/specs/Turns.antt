@@ -98,7 +98,7 @@ pub data Reached (path : List ℕ) (check : Bool) : ℕ → List (List ℕ) → 
   broken : {n : ℕ} {pieces : List (List ℕ)} {t : Turned} → Reached path check n pieces 2 t
       → hasLine (leftOver (turnedOn t)) ≡ false → Reached path check (n + 1) pieces 4 (reading [] (turnedOn t))
 
--- So much is reached, for some pieces.
+-- So much is reached, for some pieces and some text.
 pub record ReachedBy (path : List ℕ) (check : Bool) (turns state : ℕ) (f : Fed) : Type 0 where
   pub pieces : List (List ℕ)
   pub text : List ℕ
@@ -106,8 +106,9 @@ pub record ReachedBy (path : List ℕ) (check : Bool) (turns state : ℕ) (f : F
 
 -- ---- a whole replay
 
--- What is handed back tells what such turns counted. They are made until nothing is left to read or to answer, or so many that no replay
--- makes more.
+-- What is handed back tells what such turns counted, for some pieces and some texts. They are made until nothing is left to read or to
+-- answer, or so many that no replay makes more. There is no word here for what was read or written: that the pieces are the bytes which
+-- the operating system handed over, and that the texts are those which it took, is to be read in the loop of `replay` (src/feed.rt).
 pub record Replayed (path : List ℕ) (check : Bool) (outcome : Outcome) : Type 0 where
   pub turns : ℕ
   pub pieces : List (List ℕ)

@@ -35,11 +35,11 @@ pub fn is_going(input: Input) -> bool
     input.state < DONE
 }
 
-// Whether the file was read to its end.
+// Whether the file was read to its end, and all of it is answered.
 pub fn is_whole(input: Input) -> bool
     ensures { λ r. ⌜ r ≡ wasWhole (input .state) ⌝ }
 {
-    input.state != BROKEN_OFF
+    input.state == DONE
 }
 
 // What is to be answered next: a line that is left in the buffer, or, where none is, what is read on. As many bytes as `left` says are

@@ -11,8 +11,8 @@ use Rattle.numeral.specs.Place.{joined}
 use Rattle.line_buffer.specs.Lines.{hasLine}
 use Rattle.numeral.specs.Ascii.{ascii}
 use Rattle.wording.specs.Wording.{numbered, expected as expectedTexts}
-use Rattle.item_checks.specs.Close.{placeOf, beginsWith}
-use Rattle.line_text.specs.Text.{differingText, isCall, judgedText, judgedCounts, isAnnounced, closedCounts}
+use Rattle.item_checks.specs.Close.{placeOf, beginsWith, isAnnounced, isNotBad}
+use Rattle.line_text.specs.Text.{differingText, judgedText, judgedCounts, closedCounts}
 use Rattle.tick_parts.specs.Kept.{Few, Startable, judgedRest}
 use Rattle.line_buffer.proofs.Pieces.{none-first, none-taken, none-both}
 use Rattle.tick_parts.proofs.Feedless.{tick-feedless, at-feedless}
@@ -46,7 +46,7 @@ pub judged-behind : (expected : List (List ℕ)) (counts a b : List ℕ) → has
 unfolding judgedText judgedRest
 judged-behind [] counts a b none = refl
 judged-behind (wanted ∷ others) counts a b none =
-    rw (differing-behind wanted a b none) (go (isCall counts) (beginsWith wanted (a ++ b)))
+    rw (differing-behind wanted a b none) (go (isNotBad counts) (beginsWith wanted (a ++ b)))
   where
     go : (t u : Bool) → cond t (cond u (a ++ b) (a ++ differingText wanted b)) (a ++ b) ≡ a ++ cond t (cond u b (differingText wanted b)) b
     go true true = refl

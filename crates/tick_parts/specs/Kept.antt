@@ -6,8 +6,8 @@ use mathlib.Core.List.{List, [], _∷_}
 use lib.ListN.{length}
 use Rattle.hit.specs.Mean.{All}
 use Rattle.line_buffer.specs.Lines.{hasLine}
-use Rattle.item_checks.specs.Close.{placeOf, beginsWith}
-use Rattle.line_text.specs.Text.{differingText, isCall}
+use Rattle.item_checks.specs.Close.{placeOf, beginsWith, isNotBad}
+use Rattle.line_text.specs.Text.{differingText}
 
 -- The words that a line expects are few: each of these texts has at most 1,030 bytes.
 abbrev pub Few : List (List ℕ) → Type 0
@@ -25,4 +25,4 @@ pub record Startable (expected : List (List ℕ)) (gone : List ℕ) : Type 0 whe
 unfoldable pub judgedRest : List (List ℕ) → List ℕ → List ℕ → List ℕ → List ℕ
 judgedRest [] counts answer rest = rest
 judgedRest (wanted ∷ others) counts answer rest =
-    cond (isCall counts) (cond (beginsWith wanted answer) rest (differingText wanted rest)) rest
+    cond (isNotBad counts) (cond (beginsWith wanted answer) rest (differingText wanted rest)) rest

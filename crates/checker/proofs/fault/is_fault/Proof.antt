@@ -9,11 +9,11 @@ use mathlib.Core.Path.{_≡_, refl}
 use Prim.Native.Nat.{ℕ}
 use mathlib.Core.List.{List, [], _∷_}
 use mathlib.Core.Bool.{Bool, true, false}
-use Rattle.item_checks.specs.Fault.{comesWrong, isFault}
+use Rattle.item_checks.specs.Fault.{isPastOrFull, isFault}
 use Rattle.checker.proofs.fault.is_fault.Statement.{statement}
 use Rattle.checker.proofs.fault.is_fault.Tie as tie
 
-others : (content : Content) (counts : List ℕ) {b : Bool} → OneOf (0 ∷ 5 ∷ 6 ∷ 7 ∷ 8 ∷ 9 ∷ 10 ∷ 11 ∷ 12 ∷ 13 ∷ 14 ∷ 15 ∷ 16 ∷ 17 ∷ 18 ∷ 19 ∷ 20 ∷ 21 ∷ 22 ∷ 23 ∷ 24 ∷ []) (tagOf the-type content) → b ≡ comesWrong content counts → b ≡ isFault content counts
+others : (content : Content) (counts : List ℕ) {b : Bool} → OneOf (0 ∷ 5 ∷ 6 ∷ 7 ∷ 8 ∷ 9 ∷ 10 ∷ 11 ∷ 12 ∷ 13 ∷ 14 ∷ 15 ∷ 16 ∷ 17 ∷ 18 ∷ 19 ∷ 20 ∷ 21 ∷ 22 ∷ 23 ∷ 24 ∷ []) (tagOf the-type content) → b ≡ isPastOrFull content counts → b ≡ isFault content counts
 unfolding isFault
 others Content.Nothing counts h e = e
 others Content.TooLong counts h e = absurd (miss (0 ∷ 5 ∷ 6 ∷ 7 ∷ 8 ∷ 9 ∷ 10 ∷ 11 ∷ 12 ∷ 13 ∷ 14 ∷ 15 ∷ 16 ∷ 17 ∷ 18 ∷ 19 ∷ 20 ∷ 21 ∷ 22 ∷ 23 ∷ 24 ∷ []) 1 tt h)
@@ -53,8 +53,8 @@ enum-told-3 c = search needs
 enum-told-4 : tie.Need-enum-told-4
 enum-told-4 c = search needs
 
-comes-wrong-requires : tie.Need-comes-wrong-requires
-comes-wrong-requires c κs = search needs
+is-past-or-full-requires : tie.Need-is-past-or-full-requires
+is-past-or-full-requires c κs = search needs
 
 returns : tie.Need-returns
 unfolding isFault
@@ -73,7 +73,7 @@ unfolding isFault
 returns-4 c = rw (c .enum-told4 .given .1)
 
 returns-5 : tie.Need-returns-5
-returns-5 c = others _ _ (c .before .match .keys5) (c .comes-wrong .ensures)
+returns-5 c = others _ _ (c .before .match .keys5) (c .is-past-or-full .ensures)
 
 pub is-fault-spec : {M : Type 1} → statement M
 is-fault-spec =
@@ -83,7 +83,7 @@ is-fault-spec =
     enum-told-2
     enum-told-3
     enum-told-4
-    comes-wrong-requires
+    is-past-or-full-requires
     returns
     returns-2
     returns-3

@@ -1,7 +1,7 @@
 -- `checker::fault::tell_fault` meets its contract.
 -- Assumes nothing.
 use borrow.Author.Needs.{needs}
-use Rattle.item_checks.specs.Fault.{faultTold}
+use Rattle.item_checks.specs.Fault.{faultSaid}
 use Rattle.item_state.specs.Log.{added, said}
 use Rattle.checker.proofs.fault.tell_fault.Statement.{statement}
 use Rattle.checker.proofs.fault.tell_fault.Tie as tie
@@ -31,7 +31,7 @@ same-length : tie.Need-same-length
 same-length c = search needs
 
 returns : tie.Need-returns
-unfolding faultTold added said
+unfolding faultSaid added said
 returns c = rw (← c .before .before .before .before .before .before .more .ensures, ← c .before .before .put-fault .ensures .next, ← c .before .before .put-fault .ensures .bytes)
 
 pub tell-fault-spec : {M : Type 1} → statement M

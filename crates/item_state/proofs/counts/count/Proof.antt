@@ -1,7 +1,7 @@
 -- `item_state::counts::count` meets its contract.
 -- Assumes nothing.
 use borrow.Author.Needs.{needs}
-use Rattle.item_state.specs.Log.{added, counted}
+use Rattle.item_state.specs.Log.{added, callCounted, counted}
 use Rattle.item_state.proofs.counts.count.Statement.{statement}
 use Rattle.item_state.proofs.counts.count.Tie as tie
 
@@ -27,7 +27,7 @@ element-write-counts-3 : tie.Need-element-write-counts-3
 element-write-counts-3 c = search needs
 
 returns : tie.Need-returns
-unfolding counted added
+unfolding counted callCounted added
 returns c = rw (c .more2 .ensures, c .before .before .more .ensures)
 
 pub count-spec : {M : Type 1} → statement M

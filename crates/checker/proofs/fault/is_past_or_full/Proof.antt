@@ -1,4 +1,4 @@
--- `checker::fault::comes_wrong` meets its contract.
+-- `checker::fault::is_past_or_full` meets its contract.
 -- Assumes nothing.
 use borrow.Author.Needs.{needs}
 use types.Run.{OneOf, miss}
@@ -9,12 +9,12 @@ use mathlib.Core.Path.{_≡_, refl}
 use Prim.Native.Nat.{ℕ}
 use mathlib.Core.List.{List, [], _∷_}
 use mathlib.Core.Bool.{Bool, true, false}
-use Rattle.item_checks.specs.Fault.{comesWrong}
-use Rattle.checker.proofs.fault.comes_wrong.Statement.{statement}
-use Rattle.checker.proofs.fault.comes_wrong.Tie as tie
+use Rattle.item_checks.specs.Fault.{isPastOrFull}
+use Rattle.checker.proofs.fault.is_past_or_full.Statement.{statement}
+use Rattle.checker.proofs.fault.is_past_or_full.Tie as tie
 
-others : (content : Content) (counts : List ℕ) → OneOf (0 ∷ 1 ∷ 2 ∷ 3 ∷ 4 ∷ 5 ∷ 6 ∷ 7 ∷ 8 ∷ 9 ∷ 10 ∷ 11 ∷ 12 ∷ 13 ∷ 14 ∷ 15 ∷ 16 ∷ 18 ∷ 19 ∷ 21 ∷ 23 ∷ 24 ∷ []) (tagOf the-type content) → false ≡ comesWrong content counts
-unfolding comesWrong
+others : (content : Content) (counts : List ℕ) → OneOf (0 ∷ 1 ∷ 2 ∷ 3 ∷ 4 ∷ 5 ∷ 6 ∷ 7 ∷ 8 ∷ 9 ∷ 10 ∷ 11 ∷ 12 ∷ 13 ∷ 14 ∷ 15 ∷ 16 ∷ 18 ∷ 19 ∷ 21 ∷ 23 ∷ 24 ∷ []) (tagOf the-type content) → false ≡ isPastOrFull content counts
+unfolding isPastOrFull
 others Content.Nothing counts h = refl
 others Content.TooLong counts h = refl
 others Content.UnknownWord counts h = refl
@@ -72,22 +72,22 @@ more-requires-2 : tie.Need-more-requires-2
 more-requires-2 c κs = search needs
 
 returns : tie.Need-returns
-unfolding comesWrong
+unfolding isPastOrFull
 returns c = rw (c .before .before .content .given .1)
 
 returns-2 : tie.Need-returns-2
-unfolding comesWrong
+unfolding isPastOrFull
 returns-2 c = rw (c .before .before .before .content2 .given .1, ← c .more .ensures)
 
 returns-3 : tie.Need-returns-3
-unfolding comesWrong
+unfolding isPastOrFull
 returns-3 c = rw (c .before .before .before .before .content3 .given .1, ← c .before .at-least-one .ensures, ← c .more2 .ensures)
 
 returns-4 : tie.Need-returns-4
 returns-4 c = others _ _ (c .match .keys4)
 
-pub comes-wrong-spec : {M : Type 1} → statement M
-comes-wrong-spec =
+pub is-past-or-full-spec : {M : Type 1} → statement M
+is-past-or-full-spec =
     tie.close
     (tie.spec
     enum-known-content

@@ -5,6 +5,5 @@ pub mod CleanLaws
 pub mod LineLaws
 pub mod BoundLaws
 pub mod SpacedLaws
-pub mod HeldLaws
 pub mod StoredLaws
 pub mod Examples

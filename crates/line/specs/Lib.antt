@@ -5,4 +5,3 @@ pub mod Decimals
 pub mod Clean
 pub mod Line
 pub mod Spaced
-pub mod Held

@@ -4,7 +4,6 @@
 // lends: those that it has no place for are counted and dropped.
 mod calls;
 mod decimals;
-mod held;
 mod keywords;
 mod later;
 mod mark;
@@ -13,6 +12,4 @@ mod text;
 mod words;
 
 pub use calls::read_line;
-pub use held::LONGEST;
-pub use held::hold_byte;
 pub use text::put_words;

@@ -1,2 +1,3 @@
-pub mod Arguments
+pub mod SourceLaws
+pub mod Along
 pub mod Run

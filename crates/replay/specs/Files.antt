@@ -1,21 +1,24 @@
 -- The files of a run, and what is kept of them. Assumes nothing.
-use Prim.Native.Nat.{ℕ, _+_, _<_}
-use lib.IntN.{negsuc}
-use mathlib.Core.Bool.{Bool, true, false, not}
-use mathlib.Core.List.{List, [], _∷_}
+use Prim.Native.Nat.{ℕ, zero, suc, _<_}
+use mathlib.Core.Bool.{Bool, true, false, cond}
+use mathlib.Core.List.{List, [], _∷_, _++_}
 use mathlib.Core.Path.{_≡_}
 use lib.Dec.{eqb}
 use lib.ListN.{length, take}
+use Rattle.line_buffer.specs.Lines.{wholeText}
+use Rattle.file_names.specs.Names.{namesOf, endedNames}
 use Rattle.numeral.specs.Place.{joined}
-use Rattle.session.specs.declared.ends.Outcome.{Outcome as Replayed}
+use Rattle.session.specs.declared.ends.Outcome.{Outcome as Counted}
+use Rattle.session.specs.Turns.{Replayed}
 use Rattle.collection.specs.declared.Outcome.{Outcome}
 use Rattle.collection.specs.Tally.{Collection, File, collected}
 use Rattle.collection.specs.Summary.{summaryTexts}
 use Rattle.replay.specs.declared.names.Source.{Source}
+use Rattle.replay.specs.Sources.{isThere, placeBehind}
 use Rattle.replay.specs.declared.options.Options.{Options}
 
 -- What a replay came to, count by count.
-abbrev pub outcome : Replayed → Outcome
+abbrev pub outcome : Counted → Outcome
 outcome o = record {
   whole = o .whole;
   unannounced = o .unannounced;
@@ -28,42 +31,75 @@ outcome o = record {
 abbrev pub notRead : Outcome
 notRead = record { whole = false; unannounced = 0; bad = 0; expected = 0; differ = 0 }
 
--- A name was found, and the names have not ended.
-abbrev pub isThere : Source → Bool
-isThere s = not (eqb (s .state) 3)
+-- What a file of this name came to: it can't be opened, or it is that of a replay under the name.
+pub data Came (name : List ℕ) (check : Bool) (came : Outcome) : Type 0 where
+  unread : came ≡ notRead → Came name check came
+  replayed : (counted : Counted) → Replayed name check counted → came ≡ outcome counted → Came name check came
 
--- The source that comes next where so many arguments are left, and no list: there are no more names, or one was found and an argument
--- fewer is left.
-pub record NextArgument (left : ℕ) (s : Source) : Type 0 where
-  pub listless : s .fd ≡ negsuc 0
-  pub none : left ≡ 0 → s .state ≡ 3
-  pub found : 0 < left → (s .state ≡ 1) × (s .left + 1 ≡ left)
-
--- One turn of a run: where a name was found, the buffer that has it, and what the replay of its file came to. A list of names that can't
+-- One turn of a run: where a name was found, the buffer that has it, and what the file of this name came to. A list of names that can't
 -- be read stands under its own name, as a file that can't be read.
-pub record Turn : Type 0 where
+pub record Turn (check : Bool) : Type 0 where
   pub source : Source
   pub path : List ℕ
   pub came : Outcome
   pub there : isThere source ≡ true
+  pub own : Came (take (source .length) path) check came
   pub broken : source .state ≡ 2 → came ≡ notRead
 
 -- The file of a turn, under the name that was found.
-abbrev pub fileOf : Turn → File
+abbrev pub fileOf : {check : Bool} → Turn check → File
 fileOf t = record { name = take (t .source .length) (t .path); outcome = t .came }
 
-unfoldable pub filesOf : List Turn → List File
+unfoldable pub filesOf : {check : Bool} → List (Turn check) → List File
 filesOf [] = []
 filesOf (t ∷ ts) = fileOf t ∷ filesOf ts
 
--- A whole run: the files of its turns, in their order, and no others are collected, and it ends where there are no more names. Without a
--- list there are as many as arguments.
+-- The names of turns, and for each the place of the argument that comes next.
+unfoldable pub turnNames : {check : Bool} → List (Turn check) → List (List ℕ)
+turnNames [] = []
+turnNames (t ∷ ts) = fileOf t .name ∷ turnNames ts
+
+unfoldable pub turnPlaces : {check : Bool} → List (Turn check) → List ℕ
+turnPlaces [] = []
+turnPlaces (t ∷ ts) = t .source .next ∷ turnPlaces ts
+
+-- None of them is a list under its own name.
+unfoldable pub allFound : {check : Bool} → List (Turn check) → Bool
+allFound [] = true
+allFound (t ∷ ts) = cond (eqb (t .source .state) 1) (allFound ts) false
+
+-- So many arguments from a place on: for each the place of the next.
+unfoldable pub places : ℕ → ℕ → List ℕ
+places zero place = []
+places (suc n) place = placeBehind place ∷ places n (placeBehind place)
+
+-- The turns that a list of names makes, by the pieces that it was read in:
+pub data ListTurns (o : Options) : List (Turn (o .check)) → Type 0 where
+  -- none without a list;
+  none : o .list ≡ 0 → ListTurns o []
+  -- one for each name of a list that was read to its end;
+  whole : (turns : List (Turn (o .check))) → ¬ (o .list ≡ 0) → (pieces : List (List ℕ)) → turnNames turns ≡ namesOf 4096 (wholeText pieces)
+      → allFound turns ≡ true → ListTurns o turns
+  -- of one that can't be opened or read any further, one for each name whose line feed was read, and then one under the list's own name.
+  broken : (turns : List (Turn (o .check))) → ¬ (o .list ≡ 0) → (pieces : List (List ℕ))
+      → turnNames turns ≡ endedNames 4096 (wholeText pieces) → allFound turns ≡ true → (own : Turn (o .check)) → own .source .state ≡ 2
+      → ListTurns o (turns ++ (own ∷ []))
+
+-- The turns of a run: those of the list, and then one for each argument, in their order.
+pub record Named (o : Options) (turns : List (Turn (o .check))) : Type 0 where
+  pub listed : List (Turn (o .check))
+  pub given : List (Turn (o .check))
+  pub both : turns ≡ listed ++ given
+  pub list : ListTurns o listed
+  pub arguments : turnPlaces given ≡ places (o .files) (o .first)
+  pub found : allFound given ≡ true
+
+-- A whole run: the files of its turns, in their order, and no others are collected, and the turns are one for each name. (So many turns
+-- as the number below no run makes.)
 pub record Gathered (o : Options) (before after : Collection) : Type 0 where
-  pub turns : List Turn
+  pub turns : List (Turn (o .check))
   pub all : after ≡ collected (filesOf turns) before
-  pub last : Source
-  pub ended : length turns < 18446744073709551615 → isThere last ≡ false
-  pub arguments : o .list ≡ 0 → length turns < 18446744073709551615 → length turns ≡ o .files
+  pub named : length turns < 18446744073709551615 → Named o turns
 
 -- What a run writes at its end: the summary of these files, whole.
 pub record Summed (o : Options) (before : Collection) (bytes : List ℕ) : Type 0 where

@@ -1,17 +1,22 @@
 // The names of the files, one after the other: those of the list, then those of the arguments.
 use crate::options::Options;
+use file_names::take_name;
 use item_state::counts::more;
 use item_state::output::first_bytes;
 use libc::STDIN_FILENO;
+ghost use Prim.Native.Nat.{_-_};
 ghost use lib.Dec.{eqb};
-ghost use lib.IntN.{negsuc};
+ghost use lib.ListN.{length};
+ghost use mathlib.Core.Bool.{true, false};
+ghost use mathlib.Core.List.{[]};
 ghost use mathlib.Core.Path.{_≡_};
-ghost use Rattle.replay.specs.Files.{isThere, NextArgument};
+ghost use Rattle.replay.specs.Sources.{isThere, unused, Stands, NextArgument, FromList, StepFrom, Ended};
 
 // Where the next name comes from, and the one that was found last.
 pub struct Source {
-    // The list, or -1 where none is left, its place among the arguments, and the bytes of it that are
-    // read and not used yet.
+    // Whether the list may have more names, its descriptor, its place among the arguments, and the bytes
+    // of it that are read and not used yet.
+    pub listed: bool,
     pub fd: i32,
     pub list: usize,
     pub at: usize,
@@ -24,7 +29,7 @@ pub struct Source {
     pub length: usize,
 }
 
-// Names are sought.
+// A name is sought in the list.
 const SEEKING: u8 = 0;
 
 // A name was found.
@@ -44,10 +49,25 @@ pub fn is_there(s: Source) -> bool
 
 // The source of the names that are asked for, with the first of them.
 pub fn first(o: Options, part: &mut [u8], path: &mut [u8]) -> Source
-    ensures { λ r. ⌜ (o .list ≡ 0 → NextArgument (o .files) r) ⌝ }
+    ensures { λ r. ⌜ (o .list ≡ 0 → NextArgument (o .first) (o .files) r) × (¬ (o .list ≡ 0) → FromList (length (now (path .entry))) (o .first) (o .files) [] [] r (unused r (now (part .exit))) (now (path .exit))) ⌝ }
 {
-    let s = Source {
-        fd: -1,
+    if o.list == 0 {
+        return argument(source_of(o, -1), path);
+    }
+    let fd = open_list(o.list, path);
+    if fd < 0 {
+        return broken(source_of(o, fd), path);
+    }
+    seek(source_of(o, fd), part, path)
+}
+
+// The source before the first name.
+fn source_of(o: Options, fd: i32) -> Source
+    ensures { λ r. ⌜ (r .next ≡ o .first) × (r .left ≡ o .files) × (r .at ≡ 0) × (r .end ≡ 0) ⌝ }
+{
+    Source {
+        listed: true,
+        fd: fd,
         list: o.list,
         at: 0,
         end: 0,
@@ -55,15 +75,7 @@ pub fn first(o: Options, part: &mut [u8], path: &mut [u8]) -> Source
         left: o.files,
         state: SEEKING,
         length: 0,
-    };
-    if o.list == 0 {
-        return next(s, part, path);
     }
-    let fd = open_list(o.list, path);
-    if fd < 0 {
-        return broken(s, path);
-    }
-    next(with_list(s, fd), part, path)
 }
 
 // The list's descriptor; where it can't be opened, it is told by name with the system's words.
@@ -87,45 +99,53 @@ fn open_named(path: &[u8]) -> i32 {
     fd
 }
 
-fn with_list(s: Source, fd: i32) -> Source {
-    Source {
-        fd: fd,
-        list: s.list,
-        at: 0,
-        end: 0,
-        next: s.next,
-        left: s.left,
-        state: SEEKING,
-        length: 0,
-    }
+// The list can't be read; its name stands for the names that it would have had.
+fn broken(s: Source, path: &mut [u8]) -> Source
+    ensures { λ r. ⌜ Stands (s .next) (s .left) false 2 r ⌝ }
+{
+    let length = os::arg(s.list, path);
+    past_list(s, BROKEN, length)
 }
 
-// The list can't be read; its name stands for the names that it would have had.
-fn broken(s: Source, path: &mut [u8]) -> Source {
-    let length = os::arg(s.list, path);
+// The source with the list behind it.
+fn past_list(s: Source, state: u8, length: usize) -> Source
+    ensures { λ r. ⌜ Stands (s .next) (s .left) false state r × (r .length ≡ length) ⌝ }
+{
     Source {
+        listed: false,
         fd: -1,
         list: s.list,
         at: 0,
         end: 0,
         next: s.next,
         left: s.left,
-        state: BROKEN,
+        state: state,
         length: length,
     }
 }
 
 // The source with the name after the one that it has.
-//
-// Nothing says that the list ends, so the loop counts its turns down, from a number that no run uses up.
 pub fn next(s: Source, part: &mut [u8], path: &mut [u8]) -> Source
-    ensures { λ r. ⌜ (s .fd ≡ negsuc 0 → NextArgument (s .left) r) ⌝ }
+    ensures { λ r. ⌜ (s .listed ≡ false → NextArgument (s .next) (s .left) r) × (s .listed ≡ true → FromList (length (now (path .entry))) (s .next) (s .left) [] (unused s (now (part .entry))) r (unused r (now (part .exit))) (now (path .exit))) ⌝ }
 {
-    let mut turns = u64::MAX;
-    let mut it = seeking(s, s.at, 0);
-    while turns > 0 && is_seeking(it) {
-        turns -= 1;
-        it = step(it, part, path);
+    if s.listed {
+        return seek(s, part, path);
+    }
+    argument(s, path)
+}
+
+// The next name of the list, or where that has none the first argument.
+//
+// Nothing says that the list ends, so reads are counted down, from a number that no run uses up; behind
+// the last of them the list is one that can't be read.
+fn seek(s: Source, part: &mut [u8], path: &mut [u8]) -> Source
+    ensures { λ r. ⌜ FromList (length (now (path .entry))) (s .next) (s .left) [] (unused s (now (part .entry))) r (unused r (now (part .exit))) (now (path .exit)) ⌝ }
+{
+    let mut reads = u64::MAX;
+    let mut it = in_list(s, s.at, s.end, SEEKING, 0);
+    while is_seeking(it) {
+        it = step(it, reads, part, path);
+        reads = one_less(reads);
     }
     it
 }
@@ -136,84 +156,47 @@ fn is_seeking(s: Source) -> bool
     s.state == SEEKING
 }
 
-// The source with a name's first bytes, and the place in the list behind them.
-fn seeking(s: Source, at: usize, length: usize) -> Source
-    ensures { λ r. ⌜ (r .fd ≡ s .fd) × (r .left ≡ s .left) × (r .state ≡ 0) ⌝ }
+fn one_less(reads: u64) -> u64
+    ensures { λ r. ⌜ r ≡ reads - 1 ⌝ }
+{
+    if reads == 0 { 0 } else { reads - 1 }
+}
+
+// The source with its list at other bytes.
+fn in_list(s: Source, at: usize, end: usize, state: u8, length: usize) -> Source
+    ensures { λ r. ⌜ Stands (s .next) (s .left) true state r × (r .at ≡ at) × (r .end ≡ end) × (r .length ≡ length) ⌝ }
 {
     Source {
+        listed: true,
         fd: s.fd,
         list: s.list,
         at: at,
-        end: s.end,
+        end: end,
         next: s.next,
         left: s.left,
-        state: SEEKING,
+        state: state,
         length: length,
     }
 }
 
-fn step(s: Source, part: &mut [u8], path: &mut [u8]) -> Source
-    ensures { λ r. ⌜ (s .fd ≡ negsuc 0 → NextArgument (s .left) r) ⌝ }
+// Takes a name from the bytes that are read, or reads on.
+fn step(s: Source, reads: u64, part: &mut [u8], path: &mut [u8]) -> Source
+    ensures { λ r. ⌜ StepFrom (now (path .entry)) (s .length) (s .next) (s .left) (unused s (now (part .entry))) r (unused r (now (part .exit))) (now (path .exit)) × (reads ≡ 0 → ¬ (r .state ≡ 0)) ⌝ }
 {
-    if s.fd < 0 {
-        return argument(s, path);
-    }
     let got = take_name(first_bytes(part, s.end), s.at, path, s.length);
-    if !got.whole {
-        return read_on(seeking(s, got.at, got.length), part, path);
+    if got.whole {
+        return in_list(s, got.at, s.end, FOUND, got.length);
     }
-    // an empty line is no name
-    if got.length == 0 {
-        return seeking(s, got.at, 0);
+    if reads == 0 {
+        return broken(s, path);
     }
-    found(seeking(s, got.at, got.length))
+    read_on(s, got.length, part, path)
 }
 
-fn found(s: Source) -> Source {
-    Source {
-        fd: s.fd,
-        list: s.list,
-        at: s.at,
-        end: s.end,
-        next: s.next,
-        left: s.left,
-        state: FOUND,
-        length: s.length,
-    }
-}
-
-// A name, or the start of one, the place behind it, and whether it is whole.
-struct Taken {
-    at: usize,
-    length: usize,
-    whole: bool,
-}
-
-// Adds the bytes up to a line feed to the name, as many as it has room for. A path is shorter than its buffer, so a name that fills it
-// is one that can't be opened.
-fn take_name(part: &[u8], at: usize, path: &mut [u8], length: usize) -> Taken {
-    let mut i = at;
-    let mut n = length;
-    while i < part.len() {
-        if part[i] == 10 {
-            return Taken {
-                at: i + 1,
-                length: n,
-                whole: true,
-            };
-        }
-        n = line_reader::hold_byte(path, n, part[i]);
-        i += 1;
-    }
-    Taken {
-        at: i,
-        length: n,
-        whole: false,
-    }
-}
-
-// Reads more of the list. Its last name may lack the line feed.
-fn read_on(s: Source, part: &mut [u8], path: &mut [u8]) -> Source {
+// Reads more of the list, behind the first bytes of a name.
+fn read_on(s: Source, length: usize, part: &mut [u8], path: &mut [u8]) -> Source
+    ensures { λ r. ⌜ StepFrom (now (path .entry)) length (s .next) (s .left) [] r (unused r (now (part .exit))) (now (path .exit)) ⌝ }
+{
     let got = libc::read(s.fd, part);
     if got < 0 {
         os::fail(b"--files");
@@ -222,36 +205,19 @@ fn read_on(s: Source, part: &mut [u8], path: &mut [u8]) -> Source {
     }
     if got == 0 {
         libc::close(s.fd);
-        return list_ended(s);
+        return list_ended(s, length, path);
     }
-    Source {
-        fd: s.fd,
-        list: s.list,
-        at: 0,
-        end: io::count(got, part),
-        next: s.next,
-        left: s.left,
-        state: SEEKING,
-        length: s.length,
-    }
+    in_list(s, 0, io::count(got, part), SEEKING, length)
 }
 
-fn list_ended(s: Source) -> Source {
-    Source {
-        fd: -1,
-        list: s.list,
-        at: 0,
-        end: 0,
-        next: s.next,
-        left: s.left,
-        state: found_if(s.length),
-        length: s.length,
+// The list's last name may lack the line feed.
+fn list_ended(s: Source, length: usize, path: &mut [u8]) -> Source
+    ensures { λ r. ⌜ Ended (s .next) (s .left) length (now (path .entry)) r (now (path .exit)) ⌝ }
+{
+    if length == 0 {
+        return argument(s, path);
     }
-}
-
-// A name without bytes is none.
-fn found_if(length: usize) -> u8 {
-    if length == 0 { SEEKING } else { FOUND }
+    past_list(s, FOUND, length)
 }
 
 // Puts an argument into the buffer. One that is too long fills it with its first bytes, and can't be
@@ -263,13 +229,14 @@ fn argument_length(i: usize, path: &mut [u8]) -> usize {
 
 // The next argument.
 fn argument(s: Source, path: &mut [u8]) -> Source
-    ensures { λ r. ⌜ NextArgument (s .left) r ⌝ }
+    ensures { λ r. ⌜ NextArgument (s .next) (s .left) r ⌝ }
 {
     if s.left == 0 {
-        return ended(s);
+        return past_list(s, ENDED, 0);
     }
     let length = argument_length(s.next, path);
     Source {
+        listed: false,
         fd: -1,
         list: s.list,
         at: 0,
@@ -278,20 +245,5 @@ fn argument(s: Source, path: &mut [u8]) -> Source
         left: s.left - 1,
         state: FOUND,
         length: length,
-    }
-}
-
-fn ended(s: Source) -> Source
-    ensures { λ r. ⌜ (r .fd ≡ negsuc 0) × (r .state ≡ 3) ⌝ }
-{
-    Source {
-        fd: -1,
-        list: s.list,
-        at: 0,
-        end: 0,
-        next: s.next,
-        left: 0,
-        state: ENDED,
-        length: 0,
     }
 }

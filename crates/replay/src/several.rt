@@ -13,7 +13,7 @@ ghost use Prim.Native.Nat.{_≤_};
 ghost use mathlib.Core.Path.{_≡_};
 ghost use lib.ListN.{length, take};
 ghost use Rattle.collection.specs.Tally.{none, collection};
-ghost use Rattle.replay.specs.Files.{notRead, Gathered, Summed};
+ghost use Rattle.replay.specs.Files.{notRead, Came, Gathered, Summed};
 
 // Each group has this much room for its names. The summary has room for all names, and for 20 lines
 // more.
@@ -95,7 +95,7 @@ fn gather(
 
 // The file of the name that was found.
 fn replay_named(source: Source, path: &[u8], check: bool) -> Outcome
-    ensures { λ r. ⌜ (source .state ≡ 2 → r ≡ notRead) ⌝ }
+    ensures { λ r. ⌜ Came (take (source .length) (now (path .entry))) check r × (source .state ≡ 2 → r ≡ notRead) ⌝ }
 {
     if source.state == names::BROKEN {
         return not_read();

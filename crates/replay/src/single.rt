@@ -3,7 +3,7 @@ use collection::Outcome;
 use libc::STDIN_FILENO;
 use libc::STDOUT_FILENO;
 ghost use mathlib.Core.Path.{_≡_};
-ghost use Rattle.replay.specs.Files.{outcome, notRead};
+ghost use Rattle.replay.specs.Files.{outcome, notRead, Came};
 
 // The file that an argument names, without a heading.
 pub fn replay_argument(i: usize) {
@@ -17,7 +17,9 @@ pub fn replay_argument(i: usize) {
 }
 
 // A file that can't be opened is told by name, with the system's words.
-pub fn replay_file(path: &[u8], check: bool, heading: bool) -> Outcome {
+pub fn replay_file(path: &[u8], check: bool, heading: bool) -> Outcome
+    ensures { λ r. ⌜ Came (now (path .entry)) check r ⌝ }
+{
     if check::same(path, b"-") {
         head(path, heading);
         return outcome_of(session::replay(STDIN_FILENO, path, check));

@@ -1,18 +1,10 @@
 -- `replay::names::step` meets its contract.
 -- Assumes nothing.
+use native.Mathlib.Omega.{arith}
+use Rattle.replay.proofs.SourceLaws.{step-found, step-stopped, step-goes}
 use borrow.Author.Needs.{needs}
-use Rattle.replay.proofs.Arguments.{not-listed}
 use Rattle.replay.proofs.names.step.Statement.{statement}
 use Rattle.replay.proofs.names.step.Tie as tie
-
-argument-requires : tie.Need-argument-requires
-argument-requires c κs = search needs
-
-same-length : tie.Need-same-length
-same-length c = search needs
-
-returns : tie.Need-returns
-returns c = search needs
 
 first-bytes-requires : tie.Need-first-bytes-requires
 first-bytes-requires c κs = search needs
@@ -20,68 +12,66 @@ first-bytes-requires c κs = search needs
 take-name-requires : tie.Need-take-name-requires
 take-name-requires c κs = search needs
 
-seeking-requires : tie.Need-seeking-requires
-seeking-requires c κs = search needs
+in-list-requires : tie.Need-in-list-requires
+in-list-requires c κs = search needs
 
-read-on-requires : tie.Need-read-on-requires
-read-on-requires c κs = search needs
+same-length : tie.Need-same-length
+same-length c = search needs
 
 same-length-2 : tie.Need-same-length-2
 same-length-2 c = search needs
 
+returns : tie.Need-returns
+returns c =
+    let args = c .before .before .before .before .before .before .before .before .before .before .args in
+    let took = c .before .before .before .before .take-name .ensures in
+    (λ start begun. step-found (args .s) (args .part .now) (c .before .before .before .before .before .before .first-bytes .ensures) (c .in-list .ensures) (took .name (c .before .if1 .taken) start begun), λ none z. omega (arith, c .in-list .ensures .0 .is, z))
+
+broken-requires : tie.Need-broken-requires
+broken-requires c κs = search needs
+
 same-length-3 : tie.Need-same-length-3
 same-length-3 c = search needs
-
-returns-2 : tie.Need-returns-2
-returns-2 c = λ e. absurd (not-listed (c .before .before .before .before .before .before .before .before .before .before .before .before .before .before .before .before .before .before .before .before .before .args .s .fd) (c .before .before .before .before .before .before .before .before .before .before .before .before .before .before .before .before .if1 .left) e)
-
-seeking-requires-2 : tie.Need-seeking-requires-2
-seeking-requires-2 c κs = search needs
 
 same-length-4 : tie.Need-same-length-4
 same-length-4 c = search needs
 
+returns-2 : tie.Need-returns-2
+returns-2 c =
+    let args = c .before .before .before .before .before .before .before .before .before .before .before .before .before .before .args in
+    let took = c .before .before .before .before .before .before .before .before .take-name in
+    (λ start begun. step-stopped (args .s) (args .part .now) (c .before .before .before .before .before .before .before .before .before .before .first-bytes .ensures) (took .ensures .on (c .before .before .before .before .before .if1 .left) start begun) (took .kept .1 .1 .0) (c .before .before .broken .ensures), λ none z. omega (arith, c .before .before .broken .ensures .is, z))
+
+read-on-requires : tie.Need-read-on-requires
+read-on-requires c κs = search needs
+
 same-length-5 : tie.Need-same-length-5
 same-length-5 c = search needs
-
-returns-3 : tie.Need-returns-3
-returns-3 c = λ e. absurd (not-listed (c .before .before .before .before .before .before .before .before .before .before .before .before .before .before .before .before .args .s .fd) (c .before .before .before .before .before .before .before .before .before .before .before .if1 .left) e)
-
-seeking-requires-3 : tie.Need-seeking-requires-3
-seeking-requires-3 c κs = search needs
-
-found-requires : tie.Need-found-requires
-found-requires c κs = search needs
 
 same-length-6 : tie.Need-same-length-6
 same-length-6 c = search needs
 
-same-length-7 : tie.Need-same-length-7
-same-length-7 c = search needs
-
-returns-4 : tie.Need-returns-4
-returns-4 c = λ e. absurd (not-listed (c .before .before .before .before .before .before .before .before .before .before .before .before .before .before .before .before .before .args .s .fd) (c .before .before .before .before .before .before .before .before .before .before .before .before .if1 .left) e)
+returns-3 : tie.Need-returns-3
+returns-3 c =
+    let args = c .before .before .before .before .before .before .before .before .before .before .before .before .before .before .before .before .before .args in
+    let took = c .before .before .before .before .before .before .before .before .before .before .before .take-name in
+    (λ start begun. step-goes (args .s) (args .part .now) (c .before .before .before .before .before .before .before .before .before .before .before .before .before .first-bytes .ensures) (took .ensures .on (c .before .before .before .before .before .before .before .before .if1 .left) start begun) (took .kept .1 .1 .0) (c .before .before .before .before .read-on .ensures), λ none. absurd (c .before .before .before .before .before .before .before .if2 .left none))
 
 pub step-spec : {M : Type 1} → statement M
 step-spec =
     tie.close
     (tie.spec
-    argument-requires
-    same-length
-    returns
     first-bytes-requires
     take-name-requires
-    seeking-requires
-    read-on-requires
+    in-list-requires
+    same-length
     same-length-2
+    returns
+    broken-requires
     same-length-3
-    returns-2
-    seeking-requires-2
     same-length-4
+    returns-2
+    read-on-requires
     same-length-5
-    returns-3
-    seeking-requires-3
-    found-requires
     same-length-6
-    same-length-7
-    returns-4)
+    returns-3)

@@ -6,7 +6,9 @@ use mathlib.Core.Path.{_≡_, refl, sym, _∙_}
 use native.Mathlib.Omega.{arith}
 use lib.ListN.{length}
 use Rattle.collection.specs.Tally.{none, collection}
+use Rattle.replay.specs.Sources.{unused}
 use Rattle.replay.specs.Files.{Turn}
+use Rattle.replay.proofs.Along.{along-first}
 use Rattle.replay.proofs.Run.{SoFar, no-turn, next-turn, whole-run}
 use Rattle.replay.proofs.several.gather.Statement.{statement}
 use Rattle.replay.proofs.several.gather.Tie as tie
@@ -15,7 +17,7 @@ abbrev Inv-loop : tie.InvT-loop
 Inv-loop o differ₀ unannounced₀ bad₀ unread₀ plain₀ part₀ path₀ tally₀ shown₀ source₀ turns₀ differ unannounced bad unread plain part path tally shown source turns =
     (length differ ≡ length differ₀) × (length unannounced ≡ length unannounced₀) × (length bad ≡ length bad₀) × (length unread ≡ length unread₀)
     × (length plain ≡ length plain₀) × (length part ≡ 65536) × (length path ≡ 4096)
-    × SoFar o (collection none differ₀ unannounced₀ bad₀ unread₀ plain₀) (collection tally differ unannounced bad unread plain) turns source
+    × SoFar o (collection none differ₀ unannounced₀ bad₀ unread₀ plain₀) (collection tally differ unannounced bad unread plain) turns source (unused source part) path
 
 abbrev μ-loop : tie.MeasureT-loop
 μ-loop o differ₀ unannounced₀ bad₀ unread₀ plain₀ part₀ path₀ tally₀ shown₀ source₀ turns₀ differ unannounced bad unread plain part path tally shown source turns =
@@ -52,7 +54,7 @@ loop-holds c =
       refl,
       first .1 .0 ∙ sym (c .before .before .before .before .before .before .before .before .large-buffer .ensures),
       first .1 .1 .0 ∙ sym (c .before .before .before .before .before .before .before .buffer .ensures),
-      no-turn _ (c .before .before .first .ensures) (c .before .before .before .before .before .before .empty .ensures) _ _ _ _ _,
+      no-turn _ (along-first _ (c .before .before .before .before .before .before .before .buffer .ensures) (c .before .before .first .ensures .0) (c .before .before .first .ensures .1)) (c .before .before .before .before .before .before .empty .ensures) _ _ _ _ _,
     )
 
 is-there-requires : tie.Need-is-there-requires Inv-loop μ-loop
@@ -96,13 +98,14 @@ loop-again c =
     let add = c .before .before .before .before .before .before .before .before .before .before .before .before .before .before .before .before .add .kept in
     let next = c .before .before .next .kept in
     let inv = c .before .before .before .before .before .before .before .before .before .before .before .before .before .before .before .before .before .before .before .before .before .before .before .before .before .before .before .before .before .loop .inv in
-    let turn : Turn =
+    let turn : Turn _ =
     record {
       source = c .before .before .before .before .before .before .before .before .before .before .before .before .before .before .before .before .before .before .before .before .before .before .before .before .before .before .before .before .before .loop .source;
       path = c .before .before .before .before .before .before .before .before .before .before .before .before .before .before .before .before .before .before .before .before .before .before .before .before .before .before .before .before .before .loop .path;
       came = c .before .before .before .before .before .before .before .before .before .before .before .before .before .before .before .before .before .before .before .before .before .before .before .before .replay-named .result;
       there = sym (c .before .before .before .before .before .before .before .before .before .before .before .before .before .before .before .before .before .before .before .before .before .before .before .before .before .before .before .is-there .ensures) ∙ c .before .before .before .before .before .before .before .before .before .before .before .before .before .before .before .before .before .before .before .before .before .before .before .before .before .before .if1 .taken;
-      broken = c .before .before .before .before .before .before .before .before .before .before .before .before .before .before .before .before .before .before .before .before .before .before .before .before .replay-named .ensures;
+      own = c .before .before .before .before .before .before .before .before .before .before .before .before .before .before .before .before .before .before .before .before .before .before .before .before .replay-named .ensures .0;
+      broken = c .before .before .before .before .before .before .before .before .before .before .before .before .before .before .before .before .before .before .before .before .before .before .before .before .replay-named .ensures .1;
     } in (
       add .1 .1 .1 .0 ∙ inv .0,
       add .1 .1 .1 .1 .0 ∙ inv .1,
@@ -111,7 +114,7 @@ loop-again c =
       add .1 .1 .1 .1 .1 .1 .1 .0 ∙ inv .4,
       next .1 .0 ∙ inv .5,
       next .1 .1 .0 ∙ inv .6,
-      next-turn turn (inv .7) (omega (arith, c .before .before .before .before .before .before .before .before .before .before .before .before .before .before .before .before .before .before .before .before .before .before .before .before .before .before .before .before .loop-test .taken)) (c .before .before .before .before .before .before .before .before .before .before .before .before .before .before .before .before .before .before .before .before .before .before .first-bytes .ensures) (c .before .before .before .before .before .before .before .before .before .before .before .before .before .before .before .before .add .ensures) (c .before .before .next .ensures),
+      next-turn turn (inv .6) (inv .7) (omega (arith, c .before .before .before .before .before .before .before .before .before .before .before .before .before .before .before .before .before .before .before .before .before .before .before .before .before .before .before .before .loop-test .taken)) (c .before .before .before .before .before .before .before .before .before .before .before .before .before .before .before .before .before .before .before .before .before .before .first-bytes .ensures) (c .before .before .before .before .before .before .before .before .before .before .before .before .before .before .before .before .add .ensures) (c .before .before .next .ensures .0) (c .before .before .next .ensures .1),
     )
 
 end-requires : tie.Need-end-requires Inv-loop μ-loop

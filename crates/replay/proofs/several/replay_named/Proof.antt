@@ -1,6 +1,7 @@
 -- `replay::several::replay_named` meets its contract.
 -- Assumes nothing.
 use borrow.Author.Needs.{needs}
+use Rattle.replay.specs.Files.{unread}
 use Rattle.replay.proofs.several.replay_named.Statement.{statement}
 use Rattle.replay.proofs.several.replay_named.Tie as tie
 
@@ -8,7 +9,7 @@ not-read-requires : tie.Need-not-read-requires
 not-read-requires c κs = search needs
 
 returns : tie.Need-returns
-returns c = search needs
+returns c = (unread (c .not-read .ensures), λ broken. c .not-read .ensures)
 
 first-bytes-requires : tie.Need-first-bytes-requires
 first-bytes-requires c κs = search needs
@@ -17,7 +18,7 @@ replay-file-requires : tie.Need-replay-file-requires
 replay-file-requires c κs = search needs
 
 returns-2 : tie.Need-returns-2
-returns-2 c = λ broken. absurd (c .before .before .if1 .left broken)
+returns-2 c = (rw (c .before .first-bytes .ensures) at (c .replay-file .ensures), λ broken. absurd (c .before .before .if1 .left broken))
 
 pub replay-named-spec : {M : Type 1} → statement M
 replay-named-spec =

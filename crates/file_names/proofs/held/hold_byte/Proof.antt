@@ -1,11 +1,11 @@
--- `line_reader::held::hold_byte` meets its contract.
+-- `file_names::held::hold_byte` meets its contract.
 -- Assumes nothing.
 use mathlib.Core.Path.{refl}
 use borrow.Author.Needs.{needs}
 use borrow.Author.Tests.{lt-ltb, le-ltb}
-use Rattle.line.specs.Held.{heldBytes, heldCount}
-use Rattle.line_reader.proofs.held.hold_byte.Statement.{statement}
-use Rattle.line_reader.proofs.held.hold_byte.Tie as tie
+use Rattle.file_names.specs.Held.{heldBytes, heldCount}
+use Rattle.file_names.proofs.held.hold_byte.Statement.{statement}
+use Rattle.file_names.proofs.held.hold_byte.Tie as tie
 
 slice-write-held : tie.Need-slice-write-held
 slice-write-held c = search needs

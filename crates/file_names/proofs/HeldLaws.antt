@@ -1,4 +1,4 @@
--- A buffer that holds the start of a line goes on to hold it. Assumes nothing.
+-- A buffer that holds the start of a name goes on to hold it. Assumes nothing.
 use Prim.Native.Nat.{ℕ, _+_, _≤_, _<_, min}
 use mathlib.Core.Path.{_≡_, sym, _∙_}
 use mathlib.Core.List.{List, [], _∷_, _++_}
@@ -8,9 +8,9 @@ use native.Mathlib.Omega.{arith}
 use lib.ListN.{length, take, length-append}
 use lib.Seq.{take-all, take-append-le, take-suc-set}
 use borrow.Author.Tests.{lt-ltb, le-ltb}
-use Rattle.line.specs.Held.{heldBytes, heldCount, Held}
+use Rattle.file_names.specs.Held.{heldBytes, heldCount, Held}
 
--- A buffer that holds the start of a line holds it with the line's next byte too.
+-- A buffer that holds the start of a name holds it with the name's next byte too.
 pub held-more : (l : List ℕ) (n : ℕ) (cs : List ℕ) (b : ℕ) → Held l n cs
     → (heldCount l n ≡ min (length l) (length (cs ++ (b ∷ [])))) × (take (heldCount l n) (heldBytes l n b) ≡ take (length l) (cs ++ (b ∷ [])))
 unfolding heldBytes heldCount

@@ -1,4 +1,4 @@
--- The start of a line that comes in byte by byte. Assumes nothing.
+-- The start of a name that comes in byte by byte. Assumes nothing.
 use Prim.Native.Nat.{ℕ, _+_, min}
 use mathlib.Core.Path.{_≡_}
 use mathlib.Core.Bool.{cond}
@@ -13,7 +13,7 @@ heldBytes l n b = cond (ltb n (length l)) (set l n b) l
 unfoldable pub heldCount : List ℕ → ℕ → ℕ
 heldCount l n = cond (ltb n (length l)) (n + 1) n
 
--- A buffer holds as much of the start of a line as it has room for.
+-- A buffer holds as much of the start of a name as it has room for.
 pub record Held (l : List ℕ) (n : ℕ) (cs : List ℕ) : Type 0 where
   pub count : n ≡ min (length l) (length cs)
   pub bytes : take n l ≡ take (length l) cs

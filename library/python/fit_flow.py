@@ -3,105 +3,173 @@
 
     fit_flow.py flows/flows.txt --width 4 --supply 1 2 --return 3 4
 
-A line of the list names a flow, in the unit wanted, and an item's file beside the list: ``0.6 slow.item``. Each item is replayed
+A line of the list names a flow, in the unit wanted, and a file of items beside the list: ``0.6 slow.item``. Each item is replayed
 on a fresh model. Of the differences of its good measurements the quietest run is taken, in nanoseconds; k is the least
-squares' fit over all of them. The degrees are those of the last good temperature measurement.
+squares' fit over all of them. The degrees are those of the item's last good temperature measurement. Of a file with several items
+each one that has differences is a capture of its own.
+
+A bad line, and a refusal that its line does not expect, end the fit; an expectation that differs is told on standard error.
 """
 
 from __future__ import annotations
 
 import argparse
+import math
 import sys
 from pathlib import Path
-from typing import NamedTuple
+from typing import NamedTuple, Optional
 
 import max35101
+from max35101 import items
 
 PORTS = 0xE7  # T1 to T4, two registers each
+
+
+class Unfit(Exception):
+    """Why there is no fit."""
 
 
 class Capture(NamedTuple):
     """What one item gave."""
 
+    name: str
+    differences: list[int]
+    """Of its good measurements, in quanta."""
+    ports: Optional[list[int]]
+    """The words of its last good temperature measurement, T1 to T4."""
+
+
+class Point(NamedTuple):
+    """The quietest run of a capture, in nanoseconds, and what was known of it."""
+
     flow: float
     differences: list[float]
-    model: max35101.Model
+    ports: Optional[list[int]]
 
 
-def replay(text: str) -> tuple[max35101.Model, list[int]]:
-    """An item's end, and the differences of its good measurements in quanta."""
-    model, differences = max35101.Model(), []
-    for number, line in enumerate(text.splitlines(), 1):
-        name, *words = line.split() or ["#"]
-        if name == "item":
-            model, differences = max35101.Model(), []
-        elif name == "bus":
-            model.transaction(bytes.fromhex("".join(words)))
-        elif name == "tick":
-            for start in range(0, int(words[0]), max35101.LONGEST_STRETCH):
-                model.stretch(min(int(words[0]) - start, max35101.LONGEST_STRETCH))
-        elif name == "flight":
-            cut = words.index("/")
-            up, down = ([int(word, 16) for word in side] for side in (words[:cut], words[cut + 1 :]))
-            if model.deliver_flight(up, down) and up and down:
-                differences.append(model.difference())
-        elif name == "temperature":
-            model.deliver_temperature([int(word, 16) for word in words])
-        elif not name.startswith("#"):
-            raise ValueError(f"line {number}: {name} is no line of a capture")
-    return model, differences
+def replayed(path: Path) -> list[Capture]:
+    """What each item of a file gave."""
+    replay = items.Replay(max35101.Model)
+    captures = [Capture("", [], None)]
+    for answer in replay.answers(items.lines(path.read_bytes())):
+        if answer.line is None or answer.refusal is not None and not answer.announced:
+            raise Unfit(f"{path}:{answer.number}: {answer.text.removeprefix(f'line {answer.number}: ')}")
+        if answer.differing:
+            print(f"{path}:{answer.number}: {answer.text.splitlines()[0]}", file=sys.stderr)
+        capture = captures[-1]
+        if answer.line.name == "item":
+            captures.append(Capture(answer.text, [], None))
+        elif answer.line.name == "flight" and answer.delivered is max35101.Delivered.GOOD:
+            if all(answer.line.arguments):  # a measurement up alone, or down alone, has no difference
+                capture.differences.append(replay.model.difference())
+        elif answer.line.name == "temperature" and answer.delivered is max35101.Delivered.GOOD:
+            captures[-1] = capture._replace(ports=list(answer.line.arguments[0]))
+    return [capture for capture in captures if capture.differences]
 
 
-def capture(flow: str, path: Path, width: int) -> Capture:
-    """One line of the list."""
-    model, differences = replay(path.read_text())
-    run = max35101.quietest(differences, width)
-    return Capture(float(flow), [max35101.nanoseconds(quanta) for quanta in run], model)
+def counted(count: int, what: str) -> str:
+    """So many of them."""
+    return f"{count} {what}{'s' * (count != 1)}"
 
 
-def constant(captures: list[Capture]) -> float:
+def points(flow: float, path: Path, width: int) -> list[Point]:
+    """The captures of a file at one flow."""
+    captures = replayed(path)
+    if not captures:
+        raise Unfit(f"{path}: no good measurement up and down")
+    for capture in captures:
+        if len(capture.differences) < width:
+            count = counted(len(capture.differences), "good measurement")
+            raise Unfit(f"{path}: {capture.name or 'the item'} has {count} up and down, fewer than the width, {width}")
+    runs = [max35101.quietest(capture.differences, width) for capture in captures]
+    return [
+        Point(flow, [max35101.nanoseconds(quanta) for quanta in run], capture.ports)
+        for run, capture in zip(runs, captures)
+    ]
+
+
+def listed(path: Path, width: int) -> list[Point]:
+    """The captures of a list's files."""
+    found = []
+    for number, line in enumerate(path.read_text().splitlines(), 1):
+        words = line.split(maxsplit=1)
+        if not words or words[0].startswith("#"):
+            continue
+        try:
+            flow = float(words[0])
+        except ValueError:
+            flow = math.nan
+        if not math.isfinite(flow):
+            raise Unfit(f"{path}:{number}: {words[0]} is no flow")
+        if len(words) == 1:
+            raise Unfit(f"{path}:{number}: no file behind the flow")
+        try:
+            found += points(flow, path.parent / words[1].strip(), width)
+        except OSError as error:
+            raise Unfit(f"{path}:{number}: {error.filename}: {error.strerror}") from error
+    if not found:
+        raise Unfit(f"{path}: no flows")
+    return found
+
+
+def constant(found: list[Point]) -> float:
     """The k that makes the squares of flow − k × difference least."""
-    points = [(one.flow, difference) for one in captures for difference in one.differences]
-    return sum(flow * difference for flow, difference in points) / sum(difference**2 for _, difference in points)
+    pairs = [(point.flow, difference) for point in found for difference in point.differences]
+    squares = math.fsum(difference**2 for _, difference in pairs)
+    if not squares:
+        raise Unfit("all differences are 0, and fit any k")
+    return math.fsum(flow * difference for flow, difference in pairs) / squares
 
 
-def port(model: max35101.Model, number: int) -> int:
-    """A port's word, T1 to T4."""
-    address = PORTS + 2 * (number - 1)
-    return model.peek(address) << 16 | model.peek(address + 1)
-
-
-def degrees(model: max35101.Model, probe: int, reference: int) -> str:
+def degrees(ports: list[int] | None, probe: int, reference: int) -> str:
     """A probe's degrees, or why there are none."""
+    if ports is None:
+        return "not measured"
     try:
-        return f"{max35101.degrees(port(model, probe), port(model, reference)):.3f}"
+        return f"{max35101.degrees(ports[probe - 1], ports[reference - 1]):.3f}"
     except max35101.Refused as refused:
         return f"no degrees ({refused})"
 
 
-def main() -> None:
-    """The command line."""
+def positive(text: str) -> int:
+    """A width."""
+    if int(text) < 1:
+        raise ValueError
+    return int(text)
+
+
+def options(arguments: list[str] | None) -> argparse.Namespace:
+    """What the command line says."""
     parser = argparse.ArgumentParser(description=__doc__, formatter_class=argparse.RawDescriptionHelpFormatter)
-    parser.add_argument("list", type=Path, help="lines of a flow and an item's file")
-    parser.add_argument("--width", type=int, default=4, help="neighbours of the quietest run")
-    ports = {"nargs": 2, "type": int, "choices": (1, 2, 3, 4), "metavar": ("PROBE", "REFERENCE")}
-    parser.add_argument("--supply", default=(1, 2), help="ports of the supply's probe", **ports)
-    parser.add_argument("--return", dest="back", default=(3, 4), help="ports of the return's probe", **ports)
-    options = parser.parse_args()
-    captures = []
+    parser.add_argument("list", type=Path, help="lines of a flow and a file of items")
+    parser.add_argument("--width", type=positive, default=4, help="neighbours of the quietest run, 4 if not given")
+    for option, place, ports in (("--supply", "supply", (1, 2)), ("--return", "back", (3, 4))):
+        parser.add_argument(
+            option, dest=place, nargs=2, type=int, choices=(1, 2, 3, 4), metavar=("PROBE", "REFERENCE"), default=ports,
+            help=f"ports of its probe and of the probe's reference resistor, {ports[0]} and {ports[1]} if not given",
+        )  # fmt: skip
+    said = parser.parse_args(arguments)
+    for option, ports in (("--supply", said.supply), ("--return", said.back)):
+        if ports[0] == ports[1]:
+            parser.error(f"{option}: port {ports[0]} is the probe's and the reference's")
+    return said
+
+
+def main(arguments: list[str] | None = None) -> None:
+    """The command line."""
+    said = options(arguments)
     try:
-        for line in options.list.read_text().splitlines():
-            if line.strip() and not line.startswith("#"):
-                flow, name = line.split()
-                captures.append(capture(flow, options.list.parent / name, options.width))
-        k = constant(captures)
-    except (OSError, ValueError, ZeroDivisionError) as error:
-        sys.exit(f"fit_flow: {error}")
-    print(f"k {k:.6f} per nanosecond, of {sum(len(one.differences) for one in captures)} differences")
-    for one in captures:
-        mean = sum(one.differences) / len(one.differences)
-        supply, back = degrees(one.model, *options.supply), degrees(one.model, *options.back)
-        print(f"flow {one.flow:g}: {mean:.4f} ns, fitted {k * mean:.4f}; supply {supply}, return {back}")
+        found = listed(said.list, said.width)
+        k = constant(found)
+    except Unfit as unfit:
+        sys.exit(f"fit_flow: {unfit}")
+    except (OSError, UnicodeDecodeError) as error:
+        sys.exit(f"fit_flow: {said.list}: {error}")
+    print(f"k {k:.6g} per nanosecond, of {counted(sum(len(point.differences) for point in found), 'difference')}")
+    for point in found:
+        mean = math.fsum(point.differences) / len(point.differences)
+        supply, back = degrees(point.ports, *said.supply), degrees(point.ports, *said.back)
+        print(f"flow {point.flow:g}: {mean:.4f} ns, fitted {k * mean:.5g}; supply {supply}, return {back}")
 
 
 if __name__ == "__main__":

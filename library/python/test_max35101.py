@@ -1,18 +1,34 @@
 """Tests of the Python layer: what it adds to the library."""
 
-import unittest
-from fractions import Fraction
-from pathlib import Path
+from __future__ import annotations
 
-import fit_flow
+import copy
+import doctest
+import os
+import pickle
+import subprocess
+import sys
+import threading
+import unittest
+from pathlib import Path
+from typing import Any, Callable
+
 import max35101
-from max35101 import Model, Refusal, Refused
+import max35101.items
+from max35101 import Delivered, Model, Refusal, Refused
+
+
+def load_tests(loader: unittest.TestLoader, tests: unittest.TestSuite, pattern: object) -> unittest.TestSuite:
+    """The examples of the package's own pages too."""
+    for module in (max35101, max35101.items):
+        tests.addTests(doctest.DocTestSuite(module))
+    return tests
 
 
 class Calls(unittest.TestCase):
     """The model's calls."""
 
-    def refused(self, refusal: Refusal, call, *arguments) -> None:
+    def refused(self, refusal: Refusal, call: Callable[..., object], *arguments: object) -> None:
         """The call must be refused, by this number."""
         with self.assertRaises(Refused) as caught:
             call(*arguments)
@@ -27,6 +43,11 @@ class Calls(unittest.TestCase):
         self.refused(Refusal.UNSOUND, Model, b"")
         self.refused(Refusal.UNSOUND, Model, bytes(233))
         self.refused(Refusal.UNSOUND, Model, b"\2" + bytes(model)[1:])
+        self.assertEqual(Model(bytearray(bytes(model)), memoryview(model.flash)), model)
+        with self.assertRaises(ValueError):
+            Model(bytes(model), b"")
+        with self.assertRaises(TypeError):
+            Model(233)  # type: ignore[arg-type]
 
     def test_a_copy_goes_its_own_way(self) -> None:
         model = Model()
@@ -34,6 +55,27 @@ class Calls(unittest.TestCase):
         other.stretch(100)
         self.assertEqual(model, Model())
         self.assertNotEqual(other, model)
+
+    def test_copies_and_pickles(self) -> None:
+        model = Model()
+        model.transaction(b"\x0c")
+        model.transaction(bytes.fromhex("1000001234"))
+        for other in (copy.copy(model), copy.deepcopy(model), pickle.loads(pickle.dumps(model))):
+            self.assertEqual(other, model)
+            other.transaction(bytes.fromhex("130000"))
+            self.assertNotEqual(other, model)
+        refused = pickle.loads(pickle.dumps(Refused(Refusal.SET_UP)))
+        self.assertEqual((refused.refusal, str(refused)), (Refusal.SET_UP, "9: set-up"))
+
+    def test_a_model_is_equal_to_models_alone(self) -> None:
+        class Anything:
+            def __eq__(self, other: object) -> bool:
+                return True
+
+        self.assertEqual(Model(), Anything())
+        self.assertNotEqual(Model(), bytes(Model()))
+        with self.assertRaises(TypeError):
+            hash(Model())
 
     def test_a_refusal_changes_nothing(self) -> None:
         model = Model()
@@ -59,11 +101,11 @@ class Calls(unittest.TestCase):
                 max35101.Started(True, False, b""),
                 max35101.Ticked(False, False, False, False),
                 Refusal.SPAN,
-                True,
+                Delivered.GOOD,
                 max35101.Started(False, False, b"\0\0\0\x63"),
                 Refusal.NOT_AWAITED,
                 max35101.Started(True, False, b""),
-                max35101.Stretched(0, 8192, 0, 0),
+                max35101.Stretched(None, 8192, None, None),
                 Refusal.SHORT_OUTPUT,
                 Refusal.NOT_AWAITED,
             ],
@@ -77,6 +119,89 @@ class Calls(unittest.TestCase):
         self.assertEqual(model, single)
         self.assertEqual(model.run(max35101.Calls()), [])
         self.assertEqual(model, single)
+
+    def test_what_counts_as_true(self) -> None:
+        model = Model()
+        calls = max35101.Calls().transaction(bytes.fromhex("381010")).transaction(b"\5").transaction(b"\2")
+        calls.deliver_flight([1], [1]).deliver_flight([1], [1])
+        calls.transaction(b"\2").deliver_flight([0xFFFFFFFF], [1])
+        *_, good, refused, _, failed = model.run(calls)
+        self.assertEqual((good, refused, failed), (Delivered.GOOD, Refusal.NOT_AWAITED, Delivered.FAILED))
+        self.assertEqual((bool(good), bool(refused), bool(failed)), (True, False, False))
+        self.assertFalse(any(Refusal))
+        model.transaction(b"\2")
+        self.assertIs(model.deliver_flight([0xFFFFFFFF], [1]), Delivered.FAILED)
+
+    def test_a_list_stays_as_it_was_after_an_error(self) -> None:
+        calls = max35101.Calls().transaction(bytes.fromhex("381010"))
+        wrong: list[tuple[type[Exception], Callable[[], Any]]] = [
+            (OverflowError, lambda: calls.transaction(b"\5", -1)),
+            (TypeError, lambda: calls.transaction("05")),  # type: ignore[arg-type]
+            (TypeError, lambda: calls.transaction(3)),  # type: ignore[arg-type]
+            (OverflowError, lambda: calls.stretch(1 << 32)),
+            (OverflowError, lambda: calls.deliver_flight([1], [-1])),
+            (TypeError, lambda: calls.deliver_flight([1], [0.5])),  # type: ignore[list-item]
+            (OverflowError, lambda: calls.deliver_temperature([1, 2, 3, 1 << 32])),
+        ]
+        for error, add in wrong:
+            with self.assertRaises(error):
+                add()
+        calls.transaction(b"\5").transaction(b"\2").deliver_flight([2], [1])
+        self.assertEqual(len(calls), 4)
+        model = Model()
+        self.assertIs(model.run(calls)[-1], Delivered.GOOD)
+        self.assertEqual(model.difference(), 1)
+
+    def test_the_words_are_those_of_one_moment(self) -> None:
+        class Changing(list):  # type: ignore[type-arg]
+            """Has more words each time it is asked how many."""
+
+            def __len__(self) -> int:
+                self.append(0)
+                return super().__len__() + 1000
+
+        model = Model()
+        for frame in ("381010", "400060", "05", "02"):
+            model.transaction(bytes.fromhex(frame))
+        self.assertIs(model.deliver_flight(Changing([3]), Changing([1])), Delivered.GOOD)
+        model.transaction(b"\3")
+        self.assertIs(model.deliver_temperature(Changing([0x200000] * 4)), Delivered.GOOD)
+        self.assertEqual(max35101.degrees_by(Changing([500_000, 1_500_000]), 1, 1), 0.5)
+        self.assertEqual(max35101.quietest(Changing([9, 1, 2]), 2), [1, 2])
+        self.assertEqual(len(max35101.listing(Changing([1, 2]), 0)), 46)
+        wide = memoryview(bytes.fromhex("FE000000")).cast("I")
+        self.refused(Refusal.FRAME_LENGTH, model.transaction, wide)
+
+    def test_threads_share_a_model(self) -> None:
+        model = Model()
+        calls = max35101.Calls()
+        for _ in range(100):
+            calls.tick()
+
+        def work() -> None:
+            for _ in range(50):
+                model.tick()
+                model.stretch(9)
+                model.run(calls)
+                model.copy().difference()
+
+        threads = [threading.Thread(target=work) for _ in range(4)]
+        for thread in threads:
+            thread.start()
+        for thread in threads:
+            thread.join()
+        single = Model()
+        for _ in range(2):
+            single.stretch(4 * 50 * 110 // 2)
+        self.assertEqual(model, single)
+
+    def test_the_output_of_a_frame(self) -> None:
+        model = Model()
+        for frame, size in (("", 0), ("05", 0), ("fe", 0), ("fe00", 0), ("fe0000", 2), ("9000", 2), ("b0000000", 2)):
+            self.assertEqual(max35101.output_size(bytes.fromhex(frame)), size)
+        self.assertEqual(model.transaction(bytes.fromhex("fe0000")).output, b"\0\4")
+        self.assertEqual(model.transaction(bytes.fromhex("fe0000"), 4, 0xEE).output, b"\0\0\xee\xee")
+        self.refused(Refusal.SHORT_OUTPUT, model.transaction, bytes.fromhex("fe0000"), 1)
 
     def test_words_out_of_range(self) -> None:
         model = Model()
@@ -105,12 +230,17 @@ class Calls(unittest.TestCase):
             model.transaction(bytes.fromhex(frame))
         self.assertTrue(model.initialised())
         model.tick()
-        self.assertEqual((model.flight_left(), model.temperature_left()), (8191, 0))
+        self.assertEqual((model.flight_left(), model.temperature_left()), (8191, None))
         place = max35101.EventPlace(planned=3, started=1, settled=0, good=0, next_start=16383, continuous=False)
         self.assertEqual(model.flight_place(), place)
         model.deliver_flight([100], [90])
         self.assertEqual(model.flight_place(), place._replace(settled=1, good=1))
-        self.assertEqual((model.flight_left(), model.temperature_place()), (0, None))
+        self.assertEqual((model.flight_left(), model.temperature_place()), (None, None))
+        model.stretch(16384)
+        model.stretch(16384)
+        started = model.flight_place()
+        assert started
+        self.assertEqual((started.started, started.next_start), (3, None))
 
     def test_set_up_frames(self) -> None:
         model = Model()
@@ -146,41 +276,35 @@ class Analysis(unittest.TestCase):
     def test_listing(self) -> None:
         self.assertEqual(len(max35101.listing([1, 2], 0)), 46)
         self.assertEqual(len(max35101.listing([1, 2], 0, digits=2)), 34)
-        with self.assertRaises(Refused):
-            max35101.listing([1], 0, digits=3)
+        for digits in (0, 3, 0xFFFFFFFF):
+            with self.assertRaises(Refused) as caught:
+                max35101.listing([1], 0, digits=digits)
+            self.assertIs(caught.exception.refusal, Refusal.DIGITS)
+        for digits in (-15, 1 << 32):
+            with self.assertRaises(OverflowError):
+                max35101.listing([1], 0, digits=digits)
 
 
-FLOWS = Path(__file__).parent / "flows"
+class Import(unittest.TestCase):
+    """What an import says without a library."""
 
+    def said(self, library: str) -> str:
+        environment = {**os.environ, "MAX35101_LIBRARY": library}
+        done = subprocess.run(
+            [sys.executable, "-c", "import max35101"], cwd=Path(__file__).parent, env=environment, text=True,
+            stderr=subprocess.PIPE,
+        )  # fmt: skip
+        self.assertEqual(done.returncode, 1)
+        return done.stderr.splitlines()[-1]
 
-class Fit(unittest.TestCase):
-    """The meter maker's example, against the captures' own words in exact fractions."""
+    def test_no_library(self) -> None:
+        said = self.said("/none/libmax35101.so")
+        self.assertTrue(said.startswith("ImportError: /none/libmax35101.so: "), said)
+        self.assertTrue("library/build" in said and "MAX35101_LIBRARY" in said, said)
 
-    @staticmethod
-    def quiet(name: str, width: int) -> list[int]:
-        """The quietest run of the differences that the capture's lines have."""
-        lines = [line.split() for line in (FLOWS / name).read_text().splitlines()]
-        quanta = [int(line[1], 16) - int(line[3], 16) for line in lines if line[0] == "flight"]
-        runs = [quanta[i : i + width] for i in range(len(quanta) - width + 1)]
-        return min(runs, key=lambda run: max(run) - min(run))
-
-    def test_the_constant(self) -> None:
-        points = []
-        captures = []
-        for line in (FLOWS / "flows.txt").read_text().splitlines()[1:]:
-            flow, name = line.split()
-            points += [(Fraction(flow), Fraction(quanta * 250, 65_536)) for quanta in self.quiet(name, 4)]
-            captures.append(fit_flow.capture(flow, FLOWS / name, 4))
-        exact = sum(flow * time for flow, time in points) / sum(time * time for _, time in points)
-        self.assertEqual(len(points), 12)
-        self.assertAlmostEqual(fit_flow.constant(captures), float(exact), places=15)
-
-    def test_the_probes(self) -> None:
-        model, differences = fit_flow.replay((FLOWS / "fast.item").read_text())
-        self.assertEqual(len(differences), 7)
-        self.assertEqual(fit_flow.degrees(model, 1, 2), "70.000")
-        self.assertEqual(fit_flow.degrees(model, 3, 4), "40.000")
-        self.assertEqual(fit_flow.degrees(max35101.Model(), 1, 2), "no degrees (13: off the table)")
+    def test_a_library_without_the_functions(self) -> None:
+        said = self.said("libc.so.6")
+        self.assertTrue(said.startswith("ImportError: ") and "max35101_fresh" in said and "library/build" in said, said)
 
 
 if __name__ == "__main__":

@@ -65,10 +65,11 @@ static void degrees(uint32_t probe, uint32_t reference, char *text)
 
 static void frames(void)
 {
-    uint8_t bytes[33], *at = bytes;
-    uint32_t lengths[8];
+    uint8_t bytes[MAX35101_SETUP_BYTES], *at = bytes;
+    uint32_t lengths[MAX35101_SETUP_FRAMES];
     size_t answer[2] = {0, 0};
-    printf("%" PRIu32, max35101_setup_frames(model, sizeof model, bytes, sizeof bytes, lengths, 8, answer, 2));
+    printf("%" PRIu32,
+           max35101_setup_frames(model, sizeof model, bytes, sizeof bytes, lengths, MAX35101_SETUP_FRAMES, answer, 2));
     for (size_t i = 0; i < answer[1]; ++i) {
         printf(" ");
         for (uint32_t k = 0; k < lengths[i]; ++k)

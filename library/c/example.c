@@ -47,8 +47,9 @@ int main(void)
     default:
         return 1;
     }
-    max35101_peek(model, sizeof model, 0xE2, &high, 1);
-    max35101_peek(model, sizeof model, 0xE3, &low, 1);
+    if (max35101_peek(model, sizeof model, 0xE2, &high, 1) != MAX35101_ACCEPTED ||
+        max35101_peek(model, sizeof model, 0xE3, &low, 1) != MAX35101_ACCEPTED)
+        return 1;
     printf("difference %.4f ns\n", max35101_nanoseconds((int32_t)(high << 16 | low)));
     return 0;
 }

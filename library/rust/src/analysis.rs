@@ -66,7 +66,9 @@ pub fn nanoseconds(quanta: i32) -> f64 {
 /// How many hexadecimal digits a listing's capture numbers have.
 #[derive(Clone, Copy, Debug, Default, PartialEq, Eq)]
 pub enum Digits {
+    /// Two, the old form.
     Two = 2,
+    /// Eight.
     #[default]
     Eight = 8,
 }

@@ -8,27 +8,49 @@ use std::fmt;
 pub enum Refusal {
     /// The bytes are no model.
     Unsound = 0,
+    /// A transaction of no bytes.
     NoFrame = 1,
+    /// A first byte that the model does not carry.
     Opcode = 2,
+    /// A frame that is too short or too long for its first byte.
     FrameLength = 3,
+    /// A read or write past the last register, or a peek where no register is.
     Address = 4,
+    /// A read that the output has no room for.
     ShortOutput = 5,
+    /// A measurement is awaited or an event runs.
     Busy = 6,
+    /// The clock or the alarm would be invalid.
     Calendar = 7,
+    /// A measurement or an event before Initialize.
     NotInitialised = 8,
+    /// The set-up does not allow the measurement.
     SetUp = 9,
+    /// A delivery that nothing waits for.
     NotAwaited = 10,
+    /// A delivery of another number of words.
     WordCount = 11,
+    /// A stretch of more than [`LONGEST_STRETCH`](crate::LONGEST_STRETCH) ticks.
     Span = 12,
+    /// No resistance, or none on the probe's table.
     OffTheTable = 13,
+    /// A probe's table that does not rise, or has too few, too many or too large entries.
     BadTable = 14,
+    /// The regulator of the user flash is off.
     SupplyOff = 15,
+    /// An address past the user flash, an odd one, or a user flash of another size.
     FlashAddress = 16,
+    /// A flash write on a word other than FFFFh.
     NotErased = 17,
+    /// No run of that width.
     Width = 18,
+    /// Too little room for the frames of a set-up; this crate lends enough.
     ShortFrames = 19,
+    /// A listing whose last capture has too many digits.
     CaptureNumber = 20,
+    /// A listing that the output has no room for.
     ShortListing = 21,
+    /// A listing of neither 2 nor 8 digits; [`Digits`](crate::Digits) has no other.
     Digits = 22,
 }
 
@@ -98,7 +120,9 @@ pub(crate) fn accepted(code: u32) -> Result<(), Refusal> {
 /// The kinds of measurement that a transaction started.
 #[derive(Clone, Copy, Debug, Default, PartialEq, Eq)]
 pub struct Started {
+    /// A flight measurement, or an event of differences.
     pub flight: bool,
+    /// A temperature measurement, or an event of temperatures.
     pub temperature: bool,
 }
 
@@ -114,9 +138,13 @@ impl Started {
 /// What one tick did with the measurements of each kind.
 #[derive(Clone, Copy, Debug, Default, PartialEq, Eq)]
 pub struct Ticked {
+    /// A flight measurement of an event started.
     pub flight_started: bool,
+    /// The awaited flight measurement failed, since no words came.
     pub flight_failed: bool,
+    /// A temperature measurement of an event started.
     pub temperature_started: bool,
+    /// The awaited temperature measurement failed.
     pub temperature_failed: bool,
 }
 
@@ -136,16 +164,25 @@ impl Ticked {
 /// The ticks of a stretch, from 1 on, in which each of these happened.
 #[derive(Clone, Copy, Debug, Default, PartialEq, Eq)]
 pub struct Stretched {
+    /// A flight measurement of an event started.
     pub flight_started: Option<u32>,
+    /// The awaited flight measurement failed, since no words came.
     pub flight_failed: Option<u32>,
+    /// A temperature measurement of an event started.
     pub temperature_started: Option<u32>,
+    /// The awaited temperature measurement failed.
     pub temperature_failed: Option<u32>,
+}
+
+/// A count of ticks; the library's 0 is none.
+pub(crate) fn ticks(count: u32) -> Option<u32> {
+    (count != 0).then_some(count)
 }
 
 impl Stretched {
     pub(crate) fn of(answer: [u32; 4]) -> Stretched {
         let [flight_started, flight_failed, temperature_started, temperature_failed] =
-            answer.map(|tick| (tick != 0).then_some(tick));
+            answer.map(ticks);
         Stretched {
             flight_started,
             flight_failed,
@@ -158,7 +195,9 @@ impl Stretched {
 /// How an accepted delivery ended.
 #[derive(Clone, Copy, Debug, PartialEq, Eq)]
 pub enum Delivered {
+    /// The results are those of the words.
     Good,
+    /// A word was late, open or short.
     Failed,
 }
 
@@ -174,11 +213,15 @@ pub(crate) fn delivered(code: u32) -> Result<Delivered, Refusal> {
 pub struct EventPlace {
     /// How many measurements it makes.
     pub planned: u32,
+    /// How many of them are started.
     pub started: u32,
+    /// How many of these are good or failed.
     pub settled: u32,
+    /// How many of these are good.
     pub good: u32,
-    /// Ticks until the next start; 0 where all are started.
-    pub next_start: u32,
+    /// Ticks until the next start; none where all are started.
+    pub next_start: Option<u32>,
+    /// Whether the event goes on, group by group.
     pub continuous: bool,
 }
 
@@ -190,7 +233,7 @@ impl EventPlace {
             started,
             settled,
             good,
-            next_start,
+            next_start: ticks(next_start),
             continuous: continuous == 1,
         })
     }

@@ -1,5 +1,7 @@
 //! Lists of calls, which a model does one after the other.
 
+use std::slice::ChunksExact;
+
 use crate::answer::{accepted, delivered, Delivered, Refusal, Started, Stretched, Ticked};
 
 const TRANSACTION: u32 = 0;
@@ -27,6 +29,7 @@ fn size(count: usize) -> u32 {
 }
 
 impl Calls {
+    /// An empty list.
     #[must_use]
     pub fn new() -> Calls {
         Calls::default()
@@ -38,10 +41,15 @@ impl Calls {
     }
 
     /// One bus transaction with an output of `room` bytes.
+    ///
+    /// # Panics
+    /// Where the frame or `room` has 2^32 bytes or more, or all outputs together more than memory
+    /// can have; the list is as it was then.
     pub fn transaction(&mut self, frame: &[u8], room: usize) -> &mut Calls {
+        let (first, second) = (size(frame.len()), size(room));
+        self.room = self.room.checked_add(room).expect("outputs of a size");
         self.frames.extend(frame);
-        self.room += room;
-        self.add(TRANSACTION, size(frame.len()), size(room))
+        self.add(TRANSACTION, first, second)
     }
 
     /// One period of the 32,768 Hz clock.
@@ -55,16 +63,24 @@ impl Calls {
     }
 
     /// The hit words of a flight measurement, up and down.
+    ///
+    /// # Panics
+    /// Where either has 2^32 words or more; the list is as it was then.
     pub fn deliver_flight(&mut self, up: &[u32], down: &[u32]) -> &mut Calls {
+        let (first, second) = (size(up.len()), size(down.len()));
         self.hits.extend(up);
         self.hits.extend(down);
-        self.add(FLIGHT, size(up.len()), size(down.len()))
+        self.add(FLIGHT, first, second)
     }
 
     /// The words of a temperature measurement, T1 to T4.
+    ///
+    /// # Panics
+    /// Where they are 2^32 or more; the list is as it was then.
     pub fn deliver_temperature(&mut self, words: &[u32]) -> &mut Calls {
+        let first = size(words.len());
         self.hits.extend(words);
-        self.add(TEMPERATURE, size(words.len()), 0)
+        self.add(TEMPERATURE, first, 0)
     }
 
     /// How many calls.
@@ -73,6 +89,7 @@ impl Calls {
         self.calls.len() / CALL
     }
 
+    /// Whether there is none.
     #[must_use]
     pub fn is_empty(&self) -> bool {
         self.calls.is_empty()
@@ -90,9 +107,13 @@ impl Calls {
 /// The answer of an accepted call.
 #[derive(Clone, Copy, Debug, PartialEq, Eq)]
 pub enum Answer {
+    /// Of a transaction; its output stands beside the answer.
     Transaction(Started),
+    /// Of a tick.
     Tick(Ticked),
+    /// Of a stretch.
     Stretch(Stretched),
+    /// Of a delivery of either kind.
     Delivery(Delivered),
 }
 
@@ -105,6 +126,7 @@ pub struct Answers {
 }
 
 impl Answers {
+    /// No answers yet.
     #[must_use]
     pub fn new() -> Answers {
         Answers::default()
@@ -120,21 +142,51 @@ impl Answers {
     }
 
     /// Each call's answer or refusal, and its output, in the order of the calls.
-    pub fn iter(&self) -> impl Iterator<Item = (Result<Answer, Refusal>, &[u8])> + '_ {
-        let mut rest = &self.output[..];
-        let answers = self.words.chunks_exact(ANSWER);
-        self.calls
-            .chunks_exact(CALL)
-            .zip(answers)
-            .map(move |(call, words)| {
-                let room = if call[0] == TRANSACTION { call[2] } else { 0 };
-                let (output, after) = rest.split_at(room as usize);
-                rest = after;
-                let words = words.try_into().expect("five words");
-                (answer(call[0], words), output)
-            })
+    #[must_use]
+    pub fn iter(&self) -> AnswerIter<'_> {
+        AnswerIter {
+            calls: self.calls.chunks_exact(CALL),
+            words: self.words.chunks_exact(ANSWER),
+            output: &self.output,
+        }
     }
 }
+
+impl<'a> IntoIterator for &'a Answers {
+    type Item = (Result<Answer, Refusal>, &'a [u8]);
+    type IntoIter = AnswerIter<'a>;
+
+    fn into_iter(self) -> AnswerIter<'a> {
+        self.iter()
+    }
+}
+
+/// What [`Answers::iter`] goes through.
+#[derive(Clone, Debug)]
+pub struct AnswerIter<'a> {
+    calls: ChunksExact<'a, u32>,
+    words: ChunksExact<'a, u32>,
+    output: &'a [u8],
+}
+
+impl<'a> Iterator for AnswerIter<'a> {
+    type Item = (Result<Answer, Refusal>, &'a [u8]);
+
+    fn next(&mut self) -> Option<Self::Item> {
+        let (call, words) = (self.calls.next()?, self.words.next()?);
+        let room = if call[0] == TRANSACTION { call[2] } else { 0 };
+        let (output, after) = self.output.split_at(room as usize);
+        self.output = after;
+        let words = words.try_into().expect("five words");
+        Some((answer(call[0], words), output))
+    }
+
+    fn size_hint(&self) -> (usize, Option<usize>) {
+        self.calls.size_hint()
+    }
+}
+
+impl ExactSizeIterator for AnswerIter<'_> {}
 
 fn answer(kind: u32, words: [u32; ANSWER]) -> Result<Answer, Refusal> {
     let [code, a, b, c, d] = words;

@@ -17,6 +17,7 @@
 //! assert_eq!(again, model);
 //! # Ok::<(), Refusal>(())
 //! ```
+#![warn(missing_docs)]
 
 mod analysis;
 mod answer;
@@ -28,5 +29,5 @@ pub use analysis::{
     degrees, degrees_by, listing, nanoseconds, quietest, quietest_place, write_listing, Digits,
 };
 pub use answer::{Delivered, EventPlace, Refusal, Started, Stretched, Ticked};
-pub use calls::{Answer, Answers, Calls};
+pub use calls::{Answer, AnswerIter, Answers, Calls};
 pub use model::{Model, FLASH_SIZE, LONGEST_STRETCH, MODEL_SIZE};

@@ -1,7 +1,7 @@
 //! A model, and the calls on it.
 
 use crate::answer::{
-    accepted, delivered, Delivered, EventPlace, Refusal, Started, Stretched, Ticked,
+    accepted, delivered, ticks, Delivered, EventPlace, Refusal, Started, Stretched, Ticked,
 };
 use crate::calls::{Answers, Calls};
 use crate::ffi;
@@ -32,6 +32,22 @@ impl Default for Model {
     }
 }
 
+impl TryFrom<&[u8]> for Model {
+    type Error = Refusal;
+
+    /// As [`Model::from_bytes`].
+    fn try_from(bytes: &[u8]) -> Result<Model, Refusal> {
+        Model::from_bytes(bytes)
+    }
+}
+
+impl AsRef<[u8]> for Model {
+    /// As [`Model::as_bytes`].
+    fn as_ref(&self) -> &[u8] {
+        &self.bytes
+    }
+}
+
 type Question = unsafe extern "C" fn(*const u8, usize, *mut u32, usize) -> u32;
 
 impl Model {
@@ -52,9 +68,8 @@ impl Model {
     pub fn from_bytes(bytes: &[u8]) -> Result<Model, Refusal> {
         let bytes = bytes.try_into().map_err(|_| Refusal::Unsound)?;
         let model = Model { bytes };
-        model
-            .ask::<0>(ffi::max35101_interrupt_pending)
-            .map(|_| model.clone())
+        model.ask::<0>(ffi::max35101_interrupt_pending)?;
+        Ok(model)
     }
 
     /// The model's bytes, to keep it in a file.
@@ -64,7 +79,8 @@ impl Model {
     }
 
     /// One bus transaction: the bytes of a chip-enable window, the output of a read, and the user
-    /// flash of [`FLASH_SIZE`] bytes (an empty one where no flash frame is sent).
+    /// flash of [`FLASH_SIZE`] bytes (an empty one where no flash frame is sent; to one that is, a
+    /// user flash of another size is `Refusal::FlashAddress`).
     ///
     /// # Errors
     /// The refusal; nothing is changed then.
@@ -222,11 +238,13 @@ impl Model {
         self.tells(ffi::max35101_interrupt_pending)
     }
 
+    /// Whether a flight measurement is awaited.
     #[must_use]
     pub fn flight_awaited(&self) -> bool {
         self.tells(ffi::max35101_flight_awaited)
     }
 
+    /// Whether a temperature measurement is awaited.
     #[must_use]
     pub fn temperature_awaited(&self) -> bool {
         self.tells(ffi::max35101_temperature_awaited)
@@ -238,23 +256,24 @@ impl Model {
         self.tells(ffi::max35101_regulator_on)
     }
 
+    /// Whether the model is initialised.
     #[must_use]
     pub fn initialised(&self) -> bool {
         self.tells(ffi::max35101_initialised)
     }
 
-    /// In how many ticks the awaited flight measurement fails; 0 where none is awaited.
+    /// In how many ticks the awaited flight measurement fails; none where none is awaited.
     #[must_use]
-    pub fn flight_left(&self) -> u32 {
-        let [ticks] = self.told(ffi::max35101_flight_left);
-        ticks
+    pub fn flight_left(&self) -> Option<u32> {
+        let [left] = self.told(ffi::max35101_flight_left);
+        ticks(left)
     }
 
-    /// In how many ticks the awaited temperature measurement fails; 0 where none is awaited.
+    /// In how many ticks the awaited temperature measurement fails; none where none is awaited.
     #[must_use]
-    pub fn temperature_left(&self) -> u32 {
-        let [ticks] = self.told(ffi::max35101_temperature_left);
-        ticks
+    pub fn temperature_left(&self) -> Option<u32> {
+        let [left] = self.told(ffi::max35101_temperature_left);
+        ticks(left)
     }
 
     /// The place of the event of differences that runs.

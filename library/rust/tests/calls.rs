@@ -34,6 +34,7 @@ fn bytes_that_are_no_model() {
         bytes[place] = byte;
         let model = Model::from_bytes(&bytes).expect("a model");
         assert_eq!(model.as_bytes(), &bytes);
+        assert_eq!(Model::try_from(model.as_ref()), Ok(model));
     }
 }
 
@@ -50,7 +51,7 @@ fn a_stretch_that_is_too_long() {
 fn the_state_of_the_run() {
     let mut model = Model::fresh();
     assert!(!model.initialised());
-    assert_eq!((model.flight_left(), model.flight_place()), (0, None));
+    assert_eq!((model.flight_left(), model.flight_place()), (None, None));
     // One hit in each direction; three differences, one every half second; Initialize; EVTMG2.
     let frames: [&[u8]; 4] = [&[0x38, 0x10, 0x10], &[0x3F, 0x01, 0x00], &[0x05], &[0x08]];
     for frame in frames {
@@ -60,13 +61,14 @@ fn the_state_of_the_run() {
     }
     assert!(model.initialised());
     model.tick();
-    assert_eq!((model.flight_left(), model.temperature_left()), (8191, 0));
+    let left = (model.flight_left(), model.temperature_left());
+    assert_eq!(left, (Some(8191), None));
     let place = EventPlace {
         planned: 3,
         started: 1,
         settled: 0,
         good: 0,
-        next_start: 16_383,
+        next_start: Some(16_383),
         continuous: false,
     };
     assert_eq!(model.flight_place(), Some(place));
@@ -77,7 +79,15 @@ fn the_state_of_the_run() {
         ..place
     };
     assert_eq!(model.flight_place(), Some(settled));
-    assert_eq!((model.flight_left(), model.temperature_place()), (0, None));
+    assert_eq!(
+        (model.flight_left(), model.temperature_place()),
+        (None, None)
+    );
+    for _ in 0..2 {
+        model.stretch(LONGEST_STRETCH).expect("not too long");
+    }
+    let place = model.flight_place().expect("an event");
+    assert_eq!((place.started, place.next_start), (3, None));
 }
 
 #[test]
@@ -175,4 +185,32 @@ fn a_list_goes_on_after_a_refusal() {
     calls.clear();
     model.run(&calls, &mut [], &mut answers);
     assert!(calls.is_empty() && answers.iter().next().is_none() && model == before);
+}
+
+#[test]
+fn a_list_stays_as_it_was_after_a_panic() {
+    let mut calls = Calls::new();
+    calls.transaction(&[0x38, 0x10, 0x10], 0);
+    let too_long = std::panic::AssertUnwindSafe(|| {
+        calls.transaction(&[0x05], usize::MAX);
+    });
+    let hook = std::panic::take_hook();
+    std::panic::set_hook(Box::new(|_| {}));
+    let caught = std::panic::catch_unwind(too_long);
+    std::panic::set_hook(hook);
+    assert!(caught.is_err());
+    calls
+        .transaction(&[0x05], 0)
+        .transaction(&[0xB8, 0, 0], 2)
+        .tick();
+    assert_eq!(calls.len(), 4);
+    let (mut model, mut answers) = (Model::fresh(), Answers::new());
+    model.run(&calls, &mut [], &mut answers);
+    assert_eq!(answers.iter().len(), 4);
+    let mut outputs: Vec<u8> = Vec::new();
+    for (answer, output) in &answers {
+        assert!(answer.is_ok());
+        outputs.extend(output);
+    }
+    assert_eq!(outputs, [0x10, 0x10]);
 }

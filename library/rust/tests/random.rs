@@ -1,9 +1,10 @@
 //! A million random calls through the library and on the second model, in one process; the model is stored and loaded
-//! again between any two.
+//! again after each. Then the calls beside the model.
 
-use max35101::{Answer, Answers, Calls, Delivered, Model, FLASH_SIZE};
+use max35101::{Answer, Answers, Calls, Delivered, Digits, Model, FLASH_SIZE};
 use second_model::model::Outcome;
 use second_model::Model as Second;
+use second_model::{record, set_up_frames, thermometer};
 
 const CALLS: u64 = 1_000_000;
 const SEED: u64 = 0x1357_9BDF_0246_8ACE;
@@ -91,6 +92,7 @@ impl Pair {
                 second.temperature_failed,
             ];
             assert_eq!(said, second, "tick {tick}");
+            self.store_and_load();
         }
     }
 
@@ -137,7 +139,7 @@ impl Pair {
         number(&answer)
     }
 
-    /// What the registers and the questions say, and the bytes both ways.
+    /// What the registers, the questions and the set-up's frames say, and the user flash.
     fn compare(&mut self) {
         for address in 0xB0..=0xFF {
             let word = self.model.peek(address).expect("an address");
@@ -158,16 +160,21 @@ impl Pair {
                 temperature,
             ),
         ] {
-            assert_eq!(left != 0, kind.is_awaited());
-            assert!(left == 0 || kind.fails_at(now + i64::from(left)));
+            assert_eq!(left.is_some(), kind.is_awaited());
+            if let Some(left) = left {
+                assert!(kind.fails_at(now + i64::from(left)));
+            }
             assert_eq!(place.is_some(), !kind.is_finished());
             if let (Some(place), Some(series)) = (place, &kind.series) {
                 assert_eq!(i64::from(place.good), series.good());
-                let next = i64::from(place.next_start);
-                assert!(next == 0 || kind.starts_at(now + next));
-                assert!(next != 0 || place.started == place.planned);
+                match place.next_start {
+                    Some(next) => assert!(kind.starts_at(now + i64::from(next))),
+                    None => assert_eq!(place.started, place.planned),
+                }
             }
         }
+        let frames = set_up_frames::frames(&self.second.registers);
+        assert_eq!(self.model.setup_frames(), frames);
         assert_eq!(self.flash, self.second_flash);
     }
 
@@ -304,9 +311,9 @@ fn lists_are_single_calls() {
             .collect();
         assert_eq!(given, wanted);
         assert_eq!(model, single);
+        assert_eq!(flash, single_flash);
         done += wanted.len() as u64;
     }
-    assert_eq!(flash, single_flash);
     println!("{done} calls in lists, {refused} refused, no difference");
     assert!(refused * 5 < done * 4, "too few accepted calls");
 }
@@ -356,4 +363,139 @@ fn one(
             (answer.map(Answer::Delivery), Vec::new())
         }
     }
+}
+
+const BESIDE: u64 = 20_000;
+
+/// Set-ups of words that are often the factory's: the same frames, and they bring a fresh model to the set-up.
+#[test]
+fn set_ups_as_frames() {
+    let mut random = Random(SEED ^ 2);
+    let mut frames = 0;
+    for _ in 0..BESIDE {
+        let mut pair = Pair::fresh();
+        for _ in 0..random.below(6) {
+            // The alarm at 35h takes no random word.
+            let first = [0x34, 0x36 + random.byte() % 14][random.below(2) as usize];
+            let mut write = vec![first];
+            let most = if first == 0x34 {
+                1
+            } else {
+                0x44 - u64::from(first)
+            };
+            for _ in 0..=random.below(most) {
+                let word = [0, random.byte()][random.below(2) as usize];
+                write.extend([word & 0x0F, word]);
+            }
+            assert_eq!(pair.transaction(&write, 0), None, "{write:02X?}");
+        }
+        pair.compare();
+        let mut other = Pair::fresh();
+        for frame in pair.model.setup_frames() {
+            assert_eq!(other.transaction(&frame, 0), None, "{frame:02X?}");
+            frames += 1;
+        }
+        assert_eq!(other.model.setup_frames(), pair.model.setup_frames());
+        assert_eq!(other.model.as_bytes(), pair.model.as_bytes());
+    }
+    println!("{BESIDE} set-ups, {frames} frames, no difference");
+}
+
+/// A table that is often a good one.
+fn table(random: &mut Random) -> Vec<u32> {
+    let count = match random.below(4) {
+        0 => random.below(4),
+        1 => 510 + random.below(5),
+        _ => 2 + random.below(200),
+    };
+    let (mut entry, step) = (900_000 + random.below(200_000), 1 + random.below(4_000));
+    let mut table = Vec::new();
+    for _ in 0..count {
+        table.push(entry as u32);
+        entry += 1 + random.below(step);
+    }
+    if random.below(8) == 0 && count > 0 {
+        let place = random.below(count) as usize;
+        table[place] = [0, 10_000_000, 10_000_001][random.below(3) as usize];
+    }
+    table
+}
+
+/// The words of a probe, often of a resistance on the table or just off it, and of its reference.
+fn probe(random: &mut Random, table: &[u32]) -> (u32, u32) {
+    let reference = match random.below(16) {
+        0 => [0, 1, 1_000_000, u32::MAX][random.below(4) as usize],
+        _ => 1 + (random.next() as u32 >> 10),
+    };
+    let least = u64::from(*table.first().unwrap_or(&5)).max(2) - 2;
+    let largest = u64::from(*table.last().unwrap_or(&5)).max(least) + 2;
+    let milliohms = least + random.below(largest - least + 1);
+    let near = (u64::from(reference) * milliohms).div_ceil(1_000_000) as u32;
+    match random.below(16) {
+        0 => (u32::MAX, reference),
+        1 => (random.next() as u32, reference),
+        _ => (near, reference),
+    }
+}
+
+#[test]
+fn degrees() {
+    let mut random = Random(SEED ^ 3);
+    let pt1000 = thermometer::pt1000();
+    let mut refused = 0;
+    for _ in 0..BESIDE {
+        let (word, reference) = probe(&mut random, &pt1000);
+        let given = max35101::degrees(word, reference);
+        let wanted = thermometer::degrees(&pt1000, word, reference);
+        assert_eq!(number(&given), second_number(&wanted));
+        assert_eq!(given.ok(), wanted.ok(), "{word} {reference}");
+        refused += u64::from(given.is_err());
+        let own = table(&mut random);
+        let (word, reference) = probe(&mut random, &own);
+        let given = max35101::degrees_by(&own, word, reference);
+        let wanted = thermometer::degrees(&own, word, reference);
+        assert_eq!(number(&given), second_number(&wanted));
+        assert_eq!(given.ok(), wanted.ok(), "{own:?} {word} {reference}");
+        refused += u64::from(given.is_err());
+    }
+    println!("{} degrees, {refused} refused, no difference", 2 * BESIDE);
+    assert!(refused * 5 < 2 * BESIDE * 4, "too few accepted calls");
+}
+
+#[test]
+fn quiet_runs_and_listings() {
+    let mut random = Random(SEED ^ 4);
+    let mut refused = 0;
+    for _ in 0..BESIDE {
+        let wide = [0, 20, 28][random.below(3) as usize];
+        let differences: Vec<i32> = (0..random.below(60))
+            .map(|_| random.next() as i32 >> wide)
+            .collect();
+        let width = random.below(differences.len() as u64 + 3) as usize;
+        let given = max35101::quietest_place(&differences, width);
+        let wanted = record::quietest(&differences, width);
+        assert_eq!(number(&given), second_number(&wanted));
+        let place = wanted.map(|(place, _)| place).ok();
+        assert_eq!(given.ok(), place, "{differences:?} {width}");
+        let run = max35101::quietest(&differences, width).ok();
+        assert_eq!(run, place.map(|place| &differences[place..place + width]));
+        refused += u64::from(given.is_err());
+        for (digits, last) in [(Digits::Two, 0xFF), (Digits::Eight, u32::MAX)] {
+            let first = match random.below(3) {
+                0 => last - random.below(64) as u32,
+                1 => random.next() as u32,
+                _ => random.below(200) as u32,
+            };
+            let given = max35101::listing(digits, &differences, first);
+            let wanted = record::listing(&differences, first, digits as usize);
+            assert_eq!(number(&given), second_number(&wanted));
+            refused += u64::from(given.is_err());
+            assert_eq!(given.ok(), wanted.ok(), "{differences:?} {first}");
+        }
+    }
+    println!(
+        "{} runs and listings, {refused} refused, no difference",
+        3 * BESIDE
+    );
+    assert!(refused * 5 < 3 * BESIDE * 4, "too few accepted calls");
 }

@@ -14,12 +14,18 @@ pub mod flight;
 pub mod model;
 #[path = "../../../peer/src/opcode.rs"]
 pub mod opcode;
+#[path = "../../../peer/src/record.rs"]
+pub mod record;
 #[path = "../../../peer/src/refusal.rs"]
 pub mod refusal;
 #[path = "../../../peer/src/registers.rs"]
 pub mod registers;
+#[path = "../../../peer/src/set_up_frames.rs"]
+pub mod set_up_frames;
 #[path = "../../../peer/src/temperature.rs"]
 pub mod temperature;
+#[path = "../../../peer/src/thermometer.rs"]
+pub mod thermometer;
 #[path = "../../../peer/src/transaction.rs"]
 pub mod transaction;
 

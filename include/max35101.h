@@ -83,8 +83,8 @@ enum max35101_refusal {
 };
 
 /*
- * A fresh model, whatever the bytes were.
- * Refused: UNSOUND for a buffer of more or fewer bytes than MAX35101_MODEL_SIZE.
+ * A fresh model, in a buffer of just MAX35101_MODEL_SIZE bytes, whatever these
+ * were. Refused: UNSOUND for a buffer of more or fewer.
  */
 uint32_t max35101_fresh(uint8_t *model, size_t model_size);
 

@@ -136,7 +136,7 @@ class Stored:
 def stored_answers(text: str) -> list[str]:
     """The stored answers without pages."""
     kept, page = [], False
-    for line in text.splitlines():
+    for line in text.removesuffix("\n").split("\n"):
         page = page or line == "RTC AND WATCHDOG REGISTERS"
         if not page:
             kept.append(line)
@@ -152,7 +152,7 @@ def answers(replay: Replay, items: Path) -> list[str]:
 
 def compared(items: Path, stored: Path, replay: Replay) -> tuple[int, int]:
     """How many answers are stored, and how many of them differ."""
-    wanted, given = stored_answers(stored.read_text()), answers(replay, items)
+    wanted, given = stored_answers(stored.read_bytes().decode("latin-1")), answers(replay, items)
     differing = [n for n, (want, give) in enumerate(zip(wanted, given)) if want != give]
     for n in differing:
         print(f"{stored}: answer {n + 1}: stored {wanted[n]}, given {given[n]}")

@@ -166,6 +166,21 @@ static void calls_on(size_t size, size_t n, size_t m)
     free(frame), let_go(chip);
 }
 
+/* An event of three differences, the first of which has just started: the words that its place has room for. */
+static void asks_of_an_event(struct chip chip)
+{
+    static const uint32_t place[] = {1, 3, 1, 0, 0, 16384, 0};
+    expect(max35101_flight_place(chip.model, chip.size, chip.answer, chip.words) == MAX35101_ACCEPTED, "flight_place");
+    for (size_t i = 0; i < chip.words; ++i)
+        if (i < MAX35101_MOST_WORDS)
+            expect(chip.answer[i] == place[i], "a word of the event's place");
+    expect(chip.words < 8 || chip.answer[7] == 0x07070707u, "and no word behind it");
+    expect(max35101_flight_left(chip.model, chip.size, chip.answer, chip.words) == MAX35101_ACCEPTED, "flight_left");
+    expect(chip.words < 1 || chip.answer[0] == 8192, "ticks until the measurement fails");
+    expect(max35101_temperature_place(chip.model, chip.size, chip.answer, chip.words) == MAX35101_ACCEPTED, "no event");
+    expect(chip.words < 1 || chip.answer[0] == 0, "of temperatures");
+}
+
 /* Set-up, reads, starts, deliveries and flash frames, accepted where output and user flash have the room. */
 static void accepted_on(size_t room, size_t flash_size, size_t words)
 {
@@ -214,6 +229,9 @@ static void accepted_on(size_t room, size_t flash_size, size_t words)
     expect(room < 2 || flash != ok || (chip.output[0] == 0x12 && chip.output[1] == 0x34), "the word that was written");
     SENDS(chip, flash, "an erase", 0x13, 0x1F, 0x00);
     expect(flash != ok || chip.flash[0x1FFE] == 0xFF, "the block is erased");
+    SENDS(chip, ok, "a write of the event's timing", 0x3F, 0x01, 0x00);
+    SENDS(chip, ok, "an event of three differences", 0x08);
+    asks_of_an_event(chip);
     SENDS(chip, ok, "Reset", 0x04);
     let_go(chip);
 }
@@ -403,7 +421,7 @@ static void analysis_on(size_t n, size_t m)
 
 int main(void)
 {
-    static const size_t flashes[] = {0, 1, 8192, 100000}, rooms[] = {0, 1, 2, 16, 17, 100000}, words[] = {0, 1, 2, 4, 233};
+    static const size_t flashes[] = {0, 1, 8192, 100000}, rooms[] = {0, 1, 2, 16, 17, 100000}, words[] = {0, 1, 2, 4, 7, 233};
     for (int i = 0; i < LENGTHS; ++i)
         for (int j = 0; j < LENGTHS; ++j) {
             for (int k = 0; k < LENGTHS; ++k) {
@@ -415,7 +433,7 @@ int main(void)
         }
     for (int i = 0; i < 4; ++i) {
         for (int j = 0; j < 6; ++j)
-            for (int k = 0; k < 5; ++k)
+            for (int k = 0; k < 6; ++k)
                 accepted_on(rooms[j], flashes[i], words[k]);
         accepted_list_on(flashes[i], 1);
         accepted_list_on(flashes[i], 0);

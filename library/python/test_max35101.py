@@ -127,8 +127,10 @@ class Calls(unittest.TestCase):
         calls.transaction(b"\2").deliver_flight([0xFFFFFFFF], [1])
         *_, good, refused, _, failed = model.run(calls)
         self.assertEqual((good, refused, failed), (Delivered.GOOD, Refusal.NOT_AWAITED, Delivered.FAILED))
-        self.assertEqual((bool(good), bool(refused), bool(failed)), (True, False, False))
-        self.assertFalse(any(Refusal))
+        self.assertEqual((bool(good), bool(failed)), (True, False))
+        for refusal in (refused, *Refusal):
+            with self.assertRaises(TypeError):
+                bool(refusal)
         model.transaction(b"\2")
         self.assertIs(model.deliver_flight([0xFFFFFFFF], [1]), Delivered.FAILED)
 

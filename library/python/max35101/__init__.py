@@ -52,7 +52,7 @@ LONGEST_STRETCH = 16384
 
 
 class Refusal(IntEnum):
-    """Why a call was refused, by its number. None of them counts as true, as an answer of ``Model.run`` either."""
+    """Why a call was refused, by its number. It is neither true nor false, lest an answer of ``Model.run`` be misread."""
 
     UNSOUND = 0
     NO_FRAME = 1
@@ -79,7 +79,7 @@ class Refusal(IntEnum):
     DIGITS = 22
 
     def __bool__(self) -> bool:
-        return False
+        raise TypeError(f"{self.word}: a refusal is neither true nor false; compare it, or ask isinstance(answer, Refusal)")
 
     @property
     def word(self) -> str:
@@ -325,7 +325,7 @@ class Model:
         )
 
     def run(self, calls: Calls) -> list[Answer]:
-        """The calls of a list, one after the other: each one's answer, or the refusal, which is not raised."""
+        """The calls of a list, one after the other: what the call alone would return, or its ``Refusal``, which is not raised."""
         kept = tuple(calls._calls)
         list_ = _library.words(number for call in kept for number in call)
         frames, hits = _library.octets(calls._frames), _library.words(calls._hits)

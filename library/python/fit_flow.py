@@ -22,8 +22,6 @@ from typing import NamedTuple, Optional
 import max35101
 from max35101 import items
 
-PORTS = 0xE7  # T1 to T4, two registers each
-
 
 class Unfit(Exception):
     """Why there is no fit."""
@@ -49,13 +47,13 @@ class Point(NamedTuple):
 
 def replayed(path: Path) -> list[Capture]:
     """What each item of a file gave."""
-    replay = items.Replay(max35101.Model)
+    replay = items.Replay()
     captures = [Capture("", [], None)]
     for answer in replay.answers(items.lines(path.read_bytes())):
         if answer.line is None or answer.refusal is not None and not answer.announced:
-            raise Unfit(f"{path}:{answer.number}: {answer.text.removeprefix(f'line {answer.number}: ')}")
+            raise Unfit(f"{path}:{answer.number}: {answer.fault or answer.head}")
         if answer.differing:
-            print(f"{path}:{answer.number}: {answer.text.splitlines()[0]}", file=sys.stderr)
+            print(f"{path}:{answer.number}: {answer.head}", file=sys.stderr)
         capture = captures[-1]
         if answer.line.name == "item":
             captures.append(Capture(answer.text, [], None))

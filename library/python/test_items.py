@@ -84,7 +84,7 @@ class Replays(unittest.TestCase):
         self.assertEqual([answer.refusal for answer in said[4:6]], [Refusal.OPCODE, Refusal.NO_FRAME])
         self.assertEqual([answer.announced for answer in said[4:6]], [True, False])
         self.assertEqual([answer.line is None for answer in said[5:]], [False, True])
-        self.assertEqual(said[6].text, "line 8: bad number")
+        self.assertEqual((said[6].text, said[6].fault), ("line 8: bad number", "bad number"))
         self.assertEqual(replay.model.peek(0xE3), 0x63)
 
     def test_moments_count_from_the_last_start(self) -> None:

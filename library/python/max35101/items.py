@@ -291,12 +291,19 @@ class Answer(NamedTuple):
     """As the program writes it, of one line or more."""
     line: Optional[Line] = None
     """None for a bad line."""
+    fault: Optional[str] = None
+    """Why the line is bad."""
     refusal: Optional[Refusal] = None
     announced: bool = False
     """A refusal that the line expects."""
     delivered: Optional[Delivered] = None
     differing: int = 0
     """How many expectations differ."""
+
+    @property
+    def head(self) -> str:
+        """The first line of the text."""
+        return self.text.split("\n")[0]
 
 
 class Replay:
@@ -330,7 +337,7 @@ class Replay:
             said = None if line is None or line.name == "show" else self._said(line)
         except BadLine as bad:
             self.counts.bad_lines += 1
-            return Answer(self._number, f"line {self._number}: {bad}")
+            return Answer(self._number, f"line {self._number}: {bad}", fault=str(bad))
         return self._judged(line, said) if line and said else None
 
     def _said(self, line: Line) -> _Said:
@@ -355,7 +362,7 @@ class Replay:
         self.counts.refused += refused
         self.counts.unannounced += refused and not agrees
         text = "\n".join([first, *further])
-        return Answer(self._number, text, line, said.refusal, refused and agrees, said.delivered, differing)
+        return Answer(self._number, text, line, None, said.refusal, refused and agrees, said.delivered, differing)
 
     def _on_item(self, words: list[str]) -> str:
         self._begin()

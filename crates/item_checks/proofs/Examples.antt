@@ -104,3 +104,46 @@ before : (opened Content.UnknownWord (ascii "foo") (ascii "a") (file 0 0 0 0 0 "
     × (opened Content.Int (ascii "int") (ascii "a") (file 1 0 0 0 0 "...........") ≡ record { content = Content.Int; names = ascii "a"; log = file 1 1 5 0 5 "a:1: ......" })
 unfolding ascii lineCounted headed begun isItem named opened leftOf faultLog faultSaid isFault isPastOrFull trouble place counted fault why decimal decimalWidth widthFrom digits glyph overwrite nextPlace written putEach said added
 before = (refl, refl, refl)
+
+-- ---- tables
+
+-- Of the lines that can be read, `item` alone names an item.
+items-named : (isItem Content.Nothing ≡ false) × (isItem Content.TooLong ≡ false) × (isItem Content.UnknownWord ≡ false) × (isItem Content.BadNumber ≡ false)
+    × (isItem Content.WrongCount ≡ false) × (isItem Content.Item ≡ true) × (isItem (Content.Bus 1) ≡ false) × (isItem (Content.BusOut 2 1) ≡ false)
+    × (isItem (Content.Tick 5) ≡ false) × (isItem (Content.Flight 1 1) ≡ false) × (isItem (Content.Temperature 4) ≡ false) × (isItem Content.Int ≡ false)
+    × (isItem Content.Awaited ≡ false) × (isItem Content.Regs ≡ false) × (isItem (Content.Expect 176 1) ≡ false) × (isItem Content.Show ≡ false)
+    × (isItem (Content.Set 56 1) ≡ false) × (isItem (Content.At 5) ≡ false) × (isItem (Content.Stretch 5) ≡ false) × (isItem Content.Frames ≡ false)
+    × (isItem (Content.Probe 1) ≡ false) × (isItem Content.Degrees ≡ false) × (isItem (Content.Record 1) ≡ false) × (isItem (Content.Listing false 1) ≡ false)
+    × (isItem (Content.Quietest 1) ≡ false)
+unfolding isItem
+items-named =
+    (refl, refl, refl, refl, refl, refl, refl, refl, refl, refl, refl, refl, refl, refl, refl, refl, refl, refl, refl, refl, refl, refl, refl, refl, refl)
+
+-- Lines that can't be read are bad, and of the others none is on an item that has just begun.
+bad-at-once : (isFault Content.Nothing (counts 0 0 0) ≡ false) × (isFault Content.TooLong (counts 0 0 0) ≡ true) × (isFault Content.UnknownWord (counts 0 0 0) ≡ true)
+    × (isFault Content.BadNumber (counts 0 0 0) ≡ true) × (isFault Content.WrongCount (counts 0 0 0) ≡ true) × (isFault Content.Item (counts 0 0 0) ≡ false)
+    × (isFault (Content.Bus 1) (counts 0 0 0) ≡ false) × (isFault (Content.BusOut 2 1) (counts 0 0 0) ≡ false) × (isFault (Content.Tick 5) (counts 0 0 0) ≡ false)
+    × (isFault (Content.Flight 1 1) (counts 0 0 0) ≡ false) × (isFault (Content.Temperature 4) (counts 0 0 0) ≡ false) × (isFault Content.Int (counts 0 0 0) ≡ false)
+    × (isFault Content.Awaited (counts 0 0 0) ≡ false) × (isFault Content.Regs (counts 0 0 0) ≡ false) × (isFault (Content.Expect 176 1) (counts 0 0 0) ≡ false)
+    × (isFault Content.Show (counts 0 0 0) ≡ false) × (isFault (Content.Set 56 1) (counts 0 0 0) ≡ false) × (isFault (Content.At 5) (counts 0 0 0) ≡ false)
+    × (isFault (Content.Stretch 5) (counts 0 0 0) ≡ false) × (isFault Content.Frames (counts 0 0 0) ≡ false) × (isFault (Content.Probe 1) (counts 0 0 0) ≡ false)
+    × (isFault Content.Degrees (counts 0 0 0) ≡ false) × (isFault (Content.Record 1) (counts 0 0 0) ≡ false) × (isFault (Content.Listing false 1) (counts 0 0 0) ≡ false)
+    × (isFault (Content.Quietest 1) (counts 0 0 0) ≡ false)
+unfolding isFault isPastOrFull atLeastOne
+bad-at-once =
+    (refl, refl, refl, refl, refl, refl, refl, refl, refl, refl, refl, refl, refl, refl, refl, refl, refl, refl, refl, refl, refl, refl, refl, refl, refl)
+
+-- ---- counts
+
+abbrev counted-up : List ℕ
+counted-up = 100 ∷ 101 ∷ 102 ∷ 103 ∷ 104 ∷ 105 ∷ 106 ∷ 107 ∷ 108 ∷ 109 ∷ 110 ∷ 111 ∷ 112 ∷ 113 ∷ 114 ∷ 115 ∷ 116 ∷ 117 ∷ 118 ∷ 119 ∷ 120 ∷ 121 ∷ []
+
+-- A line more; kept are where the answers end, the refusals and the bad lines.
+line-more : lineCounted counted-up ≡ 100 ∷ 101 ∷ 103 ∷ 103 ∷ 104 ∷ 105 ∷ 106 ∷ 107 ∷ 108 ∷ 109 ∷ 110 ∷ 111 ∷ 100 ∷ 113 ∷ 114 ∷ 115 ∷ 116 ∷ 104 ∷ 106 ∷ 119 ∷ 120 ∷ 121 ∷ []
+unfolding lineCounted added
+line-more = refl
+
+-- What needs a look: 105 refusals that nothing announces, 106 bad lines, 108 expectations that differ.
+looks : trouble counted-up ≡ 319
+unfolding trouble
+looks = refl

@@ -171,3 +171,38 @@ heads : (joined (numbered (ascii "tick ") 70000) ≡ ascii "tick 70000") × (joi
     × (joined (listingHead 3) ≡ ascii "listing 3\n")
 unfolding joined numbered stretch stretched listingHead counted refusal refusalWord refusalWords decimal decimalWidth widthFrom digits glyph ascii
 heads = (refl, refl, refl)
+
+-- ---- in words
+
+-- the words of 0 to 21, and of any number past them
+words-of-refusals : (refusalWord 0 ≡ "record") × (refusalWord 1 ≡ "no frame") × (refusalWord 2 ≡ "opcode") × (refusalWord 3 ≡ "frame length") × (refusalWord 4 ≡ "address")
+    × (refusalWord 5 ≡ "short output") × (refusalWord 6 ≡ "busy") × (refusalWord 7 ≡ "calendar") × (refusalWord 8 ≡ "not initialised") × (refusalWord 9 ≡ "set-up")
+    × (refusalWord 10 ≡ "not awaited") × (refusalWord 11 ≡ "word count") × (refusalWord 12 ≡ "span") × (refusalWord 13 ≡ "off the table") × (refusalWord 14 ≡ "bad table")
+    × (refusalWord 15 ≡ "supply off") × (refusalWord 16 ≡ "flash address") × (refusalWord 17 ≡ "not erased") × (refusalWord 18 ≡ "width") × (refusalWord 19 ≡ "short buffer")
+    × (refusalWord 20 ≡ "capture number") × (refusalWord 21 ≡ "short output") × (refusalWord 22 ≡ "unknown") × (refusalWord 99 ≡ "unknown")
+unfolding refusalWord refusalWords
+words-of-refusals =
+    (refl, refl, refl, refl, refl, refl, refl, refl, refl, refl, refl, refl, refl, refl, refl, refl, refl, refl, refl, refl, refl, refl, refl, refl)
+
+-- Each thing that a single tick can report, by itself and with the others.
+single-ticks : (joined (single (Ticked (report true false) (report false false))) ≡ ascii "tick 1 failed-flight@1\n")
+    × (joined (single (Ticked (report false true) (report false false))) ≡ ascii "tick 1 started-flight@1\n")
+    × (joined (single (Ticked (report false false) (report true false))) ≡ ascii "tick 1 failed-temperature@1\n")
+    × (joined (single (Ticked (report false false) (report false true))) ≡ ascii "tick 1 started-temperature@1\n")
+    × (joined (single (Ticked (report true true) (report true true))) ≡ ascii "tick 1 failed-flight@1 started-flight@1 failed-temperature@1 started-temperature@1\n")
+unfolding joined single quiet ticked kindReports reportedWhere ascii
+single-ticks = (refl, refl, refl, refl, refl)
+
+-- whether a tick is quiet, of each of its four
+quiet-exactly : (quiet (report false false) (report false false) ≡ true) × (quiet (report false true) (report false false) ≡ false)
+    × (quiet (report true false) (report false false) ≡ false) × (quiet (report false false) (report false true) ≡ false)
+    × (quiet (report false false) (report true false) ≡ false)
+unfolding quiet
+quiet-exactly = (refl, refl, refl, refl, refl)
+
+-- a stretch that names its first ticks, one that names none, and four ticks one after the other, whatever their kind
+named-ticks : (joined (named (ticks 0 1) (ticks 0 2) 0) ≡ ascii " started-flight@1 started-temperature@2") × (joined (named (ticks 0 0) (ticks 0 0) 0) ≡ [])
+    × (joined (named (ticks 7 5) (ticks 3 9) 10) ≡ ascii " failed-temperature@13 started-flight@15 failed-flight@17 started-temperature@19")
+    × (joined (named (ticks 4 4) (ticks 4 4) 0) ≡ ascii " failed-flight@4 started-flight@4 failed-temperature@4 started-temperature@4")
+unfolding joined named laterNamed tickReports reportAt nextNamed sooner decimal decimalWidth widthFrom digits glyph ascii
+named-ticks = (refl, refl, refl, refl)

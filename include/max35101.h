@@ -57,7 +57,7 @@ extern "C" {
 
 /* What a call returns where it refuses. */
 enum max35101_refusal {
-    MAX35101_UNSOUND = 0,          /* the bytes are no model, or no room for one */
+    MAX35101_UNSOUND = 0,          /* the bytes are no model; of fresh, a buffer of another size */
     MAX35101_NO_FRAME = 1,         /* a transaction of no bytes */
     MAX35101_OPCODE = 2,           /* a first byte that the model does not carry */
     MAX35101_FRAME_LENGTH = 3,
@@ -174,7 +174,8 @@ size_t max35101_run(uint8_t *model, size_t model_size,
                     uint8_t *flash, size_t flash_size,
                     uint32_t *answers, size_t answer_words);
 
-/* Questions, which change nothing. answer: { 1 for yes, 0 for no }. Refused, as all down to the two places: UNSOUND. */
+/* Questions, which change nothing. answer: { 1 for yes, 0 for no }. Refused, as by all questions down
+   to max35101_temperature_place: UNSOUND. */
 uint32_t max35101_interrupt_pending(const uint8_t *model, size_t model_size,
                                     uint32_t *answer, size_t answer_count);
 uint32_t max35101_flight_awaited(const uint8_t *model, size_t model_size,

@@ -15,7 +15,7 @@ unfoldable pub named : List ℕ → List (List ℕ) → List (List ℕ)
 named [] names = names
 named (c ∷ cs) names = (c ∷ cs) ∷ names
 
--- "a name a line": of each line the first bytes, as many as a name has room for
+-- A name a line: of each line the first bytes, as many as a name has room for
 unfoldable pub namesIn : ℕ → List (List ℕ) → List (List ℕ)
 namesIn room [] = []
 namesIn room (l ∷ ls) = named (take room l) (namesIn room ls)

@@ -1,5 +1,5 @@
--- The code's own: rows 1 to 5 of the refusals once more, as a frame is taken apart. Nothing here is to be believed: device's
--- proofs/Decode.antt equates it with the table.
+-- The code's own: rows 1 to 5 of the refusals once more, as a frame is taken apart. Nothing here is to be believed:
+-- Decode.antt of reply_parts' proofs equates it with the table.
 use Prim.Native.Nat.{ℕ, _-_, _*_, _/_}
 use mathlib.Core.List.{List}
 use lib.ListN.{length, getD}

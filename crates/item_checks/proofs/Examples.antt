@@ -147,3 +147,20 @@ line-more = refl
 looks : trouble counted-up ≡ 319
 unfolding trouble
 looks = refl
+
+-- the first blank, and the end where there is none
+first-blank : (placeOf 32 (ascii "ab c d") ≡ 2) × (placeOf 32 (ascii "ab") ≡ 2) × (placeOf 32 [] ≡ 0)
+unfolding placeOf ascii
+first-blank = (refl, refl, refl)
+
+-- Only what came to need a look with this line is shown: one expectation differed before it, and none more does.
+none-more : looked (ascii "a") record {
+  counts = 14 ∷ 0 ∷ 3 ∷ 1 ∷ 0 ∷ 0 ∷ 0 ∷ 1 ∷ 1 ∷ 0 ∷ 0 ∷ 0 ∷ 1 ∷ 0 ∷ 1 ∷ 0 ∷ 1 ∷ 0 ∷ 0 ∷ 1 ∷ 6 ∷ 0 ∷ [];
+  answers = ascii "_a:3: int yes\n";
+}
+    ≡ record {
+      counts = 1 ∷ 0 ∷ 3 ∷ 1 ∷ 0 ∷ 0 ∷ 0 ∷ 1 ∷ 1 ∷ 0 ∷ 0 ∷ 0 ∷ 1 ∷ 0 ∷ 1 ∷ 0 ∷ 1 ∷ 0 ∷ 0 ∷ 1 ∷ 6 ∷ 0 ∷ [];
+      answers = ascii "_a:3: int yes\n";
+    }
+unfolding looked trouble
+none-more = refl

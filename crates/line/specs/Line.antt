@@ -218,7 +218,7 @@ keywordOf w =
     (cond (sameBytes w (ascii "flight")) Keyword.Flight
     (cond (sameBytes w (ascii "temperature")) Keyword.Temperature (otherKeyword w)))))
 
--- the lines of 02's calls; those of the other words are read by `keywordReading`, and do not come here
+-- the lines of 02's calls, and unknown words; those of the other words are read by `keywordReading` itself, and do not come here
 unfoldable pub laterReading : Keyword → List ℕ → List (List ℕ) → Reading
 laterReading Keyword.Set l ws = setReading l ws
 laterReading Keyword.At l ws = reading (decimalCall Counted.At ws) l

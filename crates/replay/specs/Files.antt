@@ -31,7 +31,7 @@ outcome o = record {
 abbrev pub notRead : Outcome
 notRead = record { whole = false; unannounced = 0; bad = 0; expected = 0; differ = 0 }
 
--- What a file of this name came to: it can't be opened, or it is that of a replay under the name.
+-- What a file of this name came to: that of a file that can't be opened, or that of a replay under the name.
 pub data Came (name : List ℕ) (check : Bool) (came : Outcome) : Type 0 where
   unread : came ≡ notRead → Came name check came
   replayed : (counted : Counted) → Replayed name check counted → came ≡ outcome counted → Came name check came
@@ -94,8 +94,8 @@ pub record Named (o : Options) (turns : List (Turn (o .check))) : Type 0 where
   pub arguments : turnPlaces given ≡ places (o .files) (o .first)
   pub found : allFound given ≡ true
 
--- A whole run: the files of its turns, in their order, and no others are collected, and the turns are one for each name. (So many turns
--- as the number below no run makes.)
+-- A whole run: the files of its turns, in their order, and no others are collected, and the turns are one for each name. (No run makes as
+-- many turns as the number below.)
 pub record Gathered (o : Options) (before after : Collection) : Type 0 where
   pub turns : List (Turn (o .check))
   pub all : after ≡ collected (filesOf turns) before

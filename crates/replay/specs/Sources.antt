@@ -16,7 +16,7 @@ isThere s = not (eqb (s .state) 3)
 abbrev pub unused : Source → List ℕ → List ℕ
 unused s part = drop (s .at) (take (s .end) part)
 
--- The place of the argument behind one.
+-- The place of the argument after this one; 2^64 − 1 is the last place.
 abbrev pub placeBehind : ℕ → ℕ
 placeBehind n = min (n + 1) 18446744073709551615
 
@@ -56,7 +56,7 @@ pub data Step (room next left : ℕ) (start bytes : List ℕ) (r : Source) (byte
   on : Stands next left true 0 r → (pieces : List (List ℕ)) (start′ : List ℕ) → Passed room start bytes pieces [] start′ bytes′
       → Begun path′ (r .length) start′ → Step room next left start bytes r bytes′ path′
 
--- So whatever line was begun whose first bytes the buffer holds.
+-- The same of every line that may have been begun: of each whose first bytes the buffer holds.
 abbrev pub StepFrom : List ℕ → ℕ → ℕ → ℕ → List ℕ → Source → List ℕ → List ℕ → Type 0
 StepFrom path n next left bytes r bytes′ path′ =
     (start : List ℕ) → Begun path n start → Step (length path) next left start bytes r bytes′ path′

@@ -1,5 +1,5 @@
 -- What the last line of a text counts, from line to line: "`end C calls, R refused, U unannounced, B bad lines, E expectations, X differ`".
--- Each line is looked at on the page before it. What stands in quotation marks is that of docs/ITEMS.md. Assumes nothing.
+-- Each line is judged by the `Page` that the lines before it left. What stands in quotation marks is that of docs/ITEMS.md. Assumes nothing.
 use Prim.Native.Nat.{ℕ, _+_}
 use mathlib.Core.Bool.{Bool, true, false, cond}
 use mathlib.Core.List.{List, [], _∷_}
@@ -133,12 +133,12 @@ wordsDiffer (Content.Record n) numbers m = 0
 wordsDiffer (Content.Listing old first) numbers m = 0
 wordsDiffer (Content.Quietest n) numbers m = 0
 
--- "the `=>`": a line has one at most, and what stands behind it is the one text of a list
+-- "the `=>`": a line has at most one; the list has what stands behind it as its only text, and is empty where there is none
 abbrev pub marks : List (List ℕ) → ℕ
 marks [] = 0
 marks (wanted ∷ others) = 1
 
--- whether an answer begins with the words behind it, and how many `=>` differ, 0 or 1
+-- whether an answer begins with the words behind the `=>`, and how many `=>` differ, 0 or 1
 abbrev pub beginsSo : List (List ℕ) → List ℕ → Bool
 beginsSo [] answer = false
 beginsSo (wanted ∷ others) answer = beginsWith wanted answer

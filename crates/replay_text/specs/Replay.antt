@@ -2,7 +2,7 @@
 -- the input is in it. What stands in quotation marks is that of docs/ITEMS.md. Assumes nothing.
 --
 -- The names are a list of 5,120 places: the file's path from the first on, the item's name from the place 4,096 on. The program hands
--- over no path of more than 4,096 bytes; the item's name would stand on the rest of a longer one.
+-- over no path of more than 4,096 bytes; of a longer one, the item's name would take the places from 4,096 on.
 --
 -- The counts by their places: 2 lines, 3 calls, 4 refusals, 5 those that are not announced, 6 bad lines, 7 expectations, 8 those that
 -- differ, 9 ticks since the last start, 10 differences in the record, 11 entries of the probe table, 14 not 0 in a check, 15 and 16 where
@@ -93,8 +93,8 @@ ticksDone t s = record {
 
 -- ---- any line
 
--- What a line tells: its ticks as a whole, or what any other line tells. (A line that is answered in parts, as the code does, is in
--- `lineTold`; such a line does not come there from here.)
+-- What a line tells: its ticks as a whole, or what any other line tells. (`lineTold` also has lines of ticks in the
+-- parts in which the code answers them; none is handed to it here.)
 unfoldable pub toldBy : List TickLine → Content → List ℕ → State → List ℕ → Told
 toldBy [] content numbers s counts = lineTold content numbers (bare s counts) (s .differences) (s .probes)
 toldBy (t ∷ ts) content numbers s counts = ticksTold t (s .model)

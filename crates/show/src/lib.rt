@@ -2,7 +2,7 @@
 // name in the data sheet, its words and what they mean; then the state of the run, and what
 // commands would be answered. No line has more than 80 characters.
 //
-// `page` of specs/Page.antt has the rows. Each file puts those of one part of the page, and `row`
+// `page` in specs/Page.antt of the crate `page` has the rows. Each file puts those of one part of the page, and `row`
 // what several rows share. What puts a row, or rows, puts their line feeds too.
 //
 // No public function has a `requires`. Where the buffer has no room for the whole page, the answer

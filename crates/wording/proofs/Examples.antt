@@ -206,3 +206,9 @@ named-ticks : (joined (named (ticks 0 1) (ticks 0 2) 0) ≡ ascii " started-flig
     × (joined (named (ticks 4 4) (ticks 4 4) 0) ≡ ascii " failed-flight@4 started-flight@4 failed-temperature@4 started-temperature@4")
 unfolding joined named laterNamed tickReports reportAt nextNamed sooner decimal decimalWidth widthFrom digits glyph ascii
 named-ticks = (refl, refl, refl, refl)
+
+-- the six texts of bad lines
+reasons : (why Content.TooLong ≡ ": too long\n") × (why Content.UnknownWord ≡ ": unknown word\n") × (why Content.BadNumber ≡ ": bad number\n")
+    × (why Content.WrongCount ≡ ": wrong count\n") × (why (Content.At 5) ≡ ": past\n") × (why (Content.Probe 1) ≡ ": no room\n") × (why (Content.Record 1) ≡ ": no room\n")
+unfolding why
+reasons = (refl, refl, refl, refl, refl, refl, refl)

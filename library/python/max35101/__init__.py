@@ -83,7 +83,7 @@ class Refusal(IntEnum):
 
     @property
     def word(self) -> str:
-        """The trade's word for it."""
+        """Its name in words; for 1 to 18 and 20 the word of docs/ITEMS.md."""
         return "set-up" if self is Refusal.SET_UP else self.name.lower().replace("_", " ")
 
 

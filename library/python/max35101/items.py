@@ -11,7 +11,7 @@ line 5: bad number
 >>> print(replay.counts)
 3 calls, 1 refused, 1 unannounced, 1 bad lines, 1 expectations, 0 differ
 
-Every line has its answer but ``show``, whose page is the program's and which is passed over.
+Every line that is not empty or a comment has its answer but ``show``, whose page is the program's and which is passed over.
 """
 
 from __future__ import annotations
@@ -318,7 +318,7 @@ class Replay:
 
     def _begin(self) -> None:
         self.model = self._fresh()
-        self._since = 0  # ticks since the last start, or the item's own
+        self._since = 0  # ticks since the last transaction that started a measurement, or since the item's start
         self._differences: list[int] = []
         self._table: list[int] = []
 

@@ -87,7 +87,7 @@ impl Refusal {
         u32::from(self as u8)
     }
 
-    /// The trade's word for it.
+    /// Its name in words; for 1 to 18 and 20 the word of `docs/ITEMS.md`.
     #[must_use]
     pub fn word(self) -> &'static str {
         REFUSALS[self as usize].1

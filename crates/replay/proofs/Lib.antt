@@ -1,3 +1,1 @@
-pub mod SourceLaws
-pub mod Along
-pub mod Run
+pub mod Handed

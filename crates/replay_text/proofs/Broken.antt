@@ -9,7 +9,7 @@ use native.Mathlib.Omega.{arith}
 use lib.ListN.{length, getD}
 use borrow.Author.Tests.{eqb-false, ltb-false}
 use Rattle.line_buffer.specs.Lines.{hasLine, linesIn, wholeText, eachLine}
-use Rattle.session.specs.declared.ends.Outcome.{Outcome}
+use Rattle.collection.specs.declared.Outcome.{Outcome}
 use Rattle.session.specs.Flush.{writtenNow}
 use Rattle.session.specs.Input.{goesOn, wasWhole}
 use Rattle.session.specs.Ends.{lastSaid, outcomeOf}

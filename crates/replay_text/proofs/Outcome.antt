@@ -11,7 +11,7 @@ use borrow.Author.Tests.{eqb-true}
 use Rattle.unit.proofs.Cases.{by-test}
 use Rattle.line_buffer.specs.Lines.{hasLine, linesIn, restIn, wholeText, eachLine}
 use Rattle.line_buffer.proofs.Pieces.{all-rest, none-taken}
-use Rattle.session.specs.declared.ends.Outcome.{Outcome}
+use Rattle.collection.specs.declared.Outcome.{Outcome}
 use Rattle.session.specs.Flush.{writtenNow, lineEnding}
 use Rattle.session.specs.Input.{goesOn, wasWhole}
 use Rattle.session.specs.Ends.{lastSaid, outcomeOf}

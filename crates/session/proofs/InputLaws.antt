@@ -1,22 +1,22 @@
 -- Bytes of the buffer that are held, ended and read on. Assumes nothing.
-use Prim.Native.Nat.{ℕ, suc, _+_, _-_, _^_, _≤_, _<_, min}
+use Prim.Native.Nat.{ℕ, zero, suc, _+_, _-_, _≤_, _<_, min}
 use mathlib.Core.Bool.{Bool, true, false, true≢false}
 use mathlib.Core.List.{List, [], _∷_, _++_}
-use mathlib.Core.Path.{_≡_, refl, sym, ap, _∙_}
+use mathlib.Core.Path.{_≡_, refl, sym, ap, subst, _∙_}
 use native.Mathlib.Decide.{decLe}
 use native.Mathlib.Numerals.{add-one}
 use native.Mathlib.Omega.{arith}
-use lib.Dec.{ltb}
-use lib.IntN.{pos, negsuc}
+use lib.IntN.{ℤ, pos, negsuc}
 use lib.Signed.{ltZ}
+use borrow.Author.Tests.{ltb-true}
 use mir.Syntax.{w64}
-use mir.Val.{bits, hbits, sel, toZ}
+use mir.Val.{ofZ, toZ}
 use lib.ListN.{length, set, take, drop, length-take, length-drop, take-append-drop}
 use lib.Seq.{length-take-le, take-all, take-take, take-add, take-suc-set, drop-at}
 use Rattle.io.specs.Counts.{clamped}
 use Rattle.line_buffer.specs.Lines.{hasLine}
 use Rattle.session.specs.Flush.{lineEnding}
-use Rattle.session.specs.Input.{overFrom, ReadOn, WentOn}
+use Rattle.session.specs.Input.{stateAfter, bytesAfter, overFrom, ReadOn, WentOn}
 
 -- ---- a line feed behind bytes that are held
 
@@ -36,7 +36,7 @@ ended-some part held room some =
 
 -- ---- bytes behind those that are held
 
-pub read-behind : (part part′ : List ℕ) (held n : ℕ) → held ≤ length part → take held part′ ≡ take held part
+read-behind : (part part′ : List ℕ) (held n : ℕ) → held ≤ length part → take held part′ ≡ take held part
     → take (held + n) part′ ≡ take held part ++ drop (length (take held part)) (take (held + n) part′)
 read-behind part part′ held n room same =
     let first : take held (take (held + n) part′) ≡ take held part = take-take held (held + n) part′ (omega arith) ∙ same in
@@ -49,16 +49,37 @@ read-room part part′ held k n room same less =
     let long : length (take held part′) ≡ length (take held part) = ap length same in
     omega (arith, length-take held part′, length-take held part, length-take k (drop held part′), length-drop held part′)
 
--- Where the system tells neither that nothing was read nor a failure, a byte was read at least.
-pub some-read : (got room n : ℕ) → n ≡ clamped (toZ w64 got) room → ¬ (got ≡ 0) → ltZ (toZ w64 got) (pos 0) ≡ false → 0 < room → 0 < n
-some-read got room n = go (ltb got (2 ^ hbits w64))
+-- What the system told, by the tests of the code: a failure,
+pub told-failed : (got : ℤ) (held : ℕ) (part : List ℕ) → toZ w64 (ofZ w64 got) ≡ got → ltZ (toZ w64 (ofZ w64 got)) (pos 0) ≡ true
+    → (2 ≡ stateAfter got) × ([] ≡ bytesAfter got held part)
+unfolding stateAfter bytesAfter
+told-failed got held part same low = go got (subst (λ (z : ℤ). ltZ z (pos 0) ≡ true) same low)
   where
-    go : (t : Bool) → n ≡ clamped (sel t (pos got) (negsuc (2 ^ bits w64 - suc got))) room → ¬ (got ≡ 0)
-        → ltZ (sel t (pos got) (negsuc (2 ^ bits w64 - suc got))) (pos 0) ≡ false → 0 < room → 0 < n
-    go true count other low some = omega (arith, count, other, some)
-    go false count other low some = absurd (true≢false low)
+    go : (z : ℤ) → ltZ z (pos 0) ≡ true → (2 ≡ stateAfter z) × ([] ≡ bytesAfter z held part)
+    go (pos n) low = absurd (omega (arith, ltb-true n 0 low))
+    go (negsuc n) low = (refl, refl)
 
-pub read-longer : (part part′ : List ℕ) (held n : ℕ) → held ≤ length part → held + n ≤ length part′ → 0 < n
+-- the end,
+pub told-ended : (got : ℤ) (held : ℕ) (part : List ℕ) → toZ w64 (ofZ w64 got) ≡ got → ofZ w64 got ≡ 0
+    → (1 ≡ stateAfter got) × (lineEnding (take held part) ≡ bytesAfter got held part)
+unfolding stateAfter bytesAfter
+told-ended got held part same none =
+    let zero : got ≡ pos 0 = sym same ∙ ap (toZ w64) none in rw zero (refl, refl)
+
+-- or some bytes.
+pub told-more : (got : ℤ) (held n k : ℕ) (part : List ℕ) → toZ w64 (ofZ w64 got) ≡ got → ¬ (ofZ w64 got ≡ 0) → ltZ (toZ w64 (ofZ w64 got)) (pos 0) ≡ false
+    → n ≡ clamped (toZ w64 (ofZ w64 got)) k → k ≡ length part - held → (0 ≡ stateAfter got) × (take (held + n) part ≡ bytesAfter got held part)
+unfolding stateAfter bytesAfter
+told-more got held n k part same some low count long =
+    go got some (subst (λ (z : ℤ). ltZ z (pos 0) ≡ false) same low) (count ∙ (ap (λ (z : ℤ). clamped z k) same ∙ ap (clamped got) long))
+  where
+    go : (z : ℤ) → ¬ (ofZ w64 z ≡ 0) → ltZ z (pos 0) ≡ false → n ≡ clamped z (length part - held)
+        → (0 ≡ stateAfter z) × (take (held + n) part ≡ bytesAfter z held part)
+    go (pos zero) some low count = absurd (some refl)
+    go (pos (suc m)) some low count = (refl, rw count)
+    go (negsuc m) some low count = absurd (true≢false low)
+
+read-longer : (part part′ : List ℕ) (held n : ℕ) → held ≤ length part → held + n ≤ length part′ → 0 < n
     → length (take held part) < length (take (held + n) part′)
 read-longer part part′ held n room room′ some =
     omega (arith, length-take-le held part room, length-take-le (held + n) part′ room′, some)
@@ -95,17 +116,28 @@ line-known part from end a b known is = rw (← a, ← b) (sym known ∙ is)
 
 -- ---- the cases of what is done between two turns
 
-pub read-failed : (held : List ℕ) → ReadOn held 2 []
+read-failed : (held : List ℕ) → ReadOn held 2 []
 read-failed held =
     record { known = omega arith; more = λ e. absurd (omega arith); some = λ e. absurd (omega arith); ended = λ e. absurd (omega arith); failed = λ e. refl }
 
-pub read-ended : (held bytes : List ℕ) → bytes ≡ lineEnding held → ReadOn held 1 bytes
+read-ended : (held bytes : List ℕ) → bytes ≡ lineEnding held → ReadOn held 1 bytes
 read-ended held bytes all =
     record { known = omega arith; more = λ e. absurd (omega arith); some = λ e. absurd (omega arith); ended = λ e. all; failed = λ e. absurd (omega arith) }
 
-pub read-more : (held bytes : List ℕ) → bytes ≡ held ++ drop (length held) bytes → length held < length bytes → ReadOn held 0 bytes
+read-more : (held bytes : List ℕ) → bytes ≡ held ++ drop (length held) bytes → length held < length bytes → ReadOn held 0 bytes
 read-more held bytes all long =
     record { known = omega arith; more = λ e. all; some = λ e. long; ended = λ e. absurd (omega arith); failed = λ e. absurd (omega arith) }
+
+-- whatever the system tells, and whatever it put behind the bytes that are held
+pub read-on : (got : ℤ) (part part′ : List ℕ) (held : ℕ) → held < length part → length part′ ≡ length part → take held part′ ≡ take held part
+    → ReadOn (take held part) (stateAfter got) (bytesAfter got held part′)
+unfolding stateAfter bytesAfter
+read-on (negsuc k) part part′ held room long same = read-failed (take held part)
+read-on (pos zero) part part′ held room long same = read-ended (take held part) (lineEnding (take held part′)) (ap lineEnding same)
+read-on (pos (suc n)) part part′ held room long same =
+    let more = min (suc n) (length part′ - held) in
+    read-more (take held part) (take (held + more) part′) (read-behind part part′ held more (omega (arith, room)) same)
+    (read-longer part part′ held more (omega (arith, room)) (omega (arith, room, long)) (omega (arith, room, long)))
 
 pub went-line : (left : List ℕ) (state : ℕ) → hasLine left ≡ true → WentOn left state state left
 went-line left state some = record {

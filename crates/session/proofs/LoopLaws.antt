@@ -17,7 +17,7 @@ use Rattle.session.specs.Feed.{Fed, fed}
 use Rattle.session.specs.Flush.{afterWriting}
 use Rattle.session.specs.Input.{goesOn, wasWhole, overFrom, ReadOn, WentOn}
 use Rattle.session.specs.Ends.{namesBegun, countsBegun, outcomeOf}
-use Rattle.session.specs.declared.ends.Outcome.{Outcome}
+use Rattle.collection.specs.declared.Outcome.{Outcome}
 use Rattle.session.specs.Turns.{Turned, flushed, turned, withBytes, start, turnedOn, reading, leftOver, Reached, begun, line, read, ended, failed, done, broken, ReachedBy, Replayed}
 use Rattle.session.proofs.FeedLaws.{left-last}
 

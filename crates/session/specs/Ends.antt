@@ -10,7 +10,7 @@ use lib.ListN.{getD, set}
 use Rattle.numeral.specs.Place.{nextPlace, written}
 use Rattle.wording.specs.Wording.{Texts, calls, faults}
 use Rattle.item_state.specs.Log.{Log, said}
-use Rattle.session.specs.declared.ends.Outcome.{Outcome}
+use Rattle.collection.specs.declared.Outcome.{Outcome}
 
 -- ---- before the first line
 

@@ -2,11 +2,12 @@
 --
 -- How far reading has come: 0 the file may have more bytes, 1 it has none, 2 it can't be read; and with nothing left to answer either,
 -- 3 of a file that was read to its end, 4 of one that was not.
-use Prim.Native.Nat.{ℕ, _≤_, _<_}
+use Prim.Native.Nat.{ℕ, zero, suc, _+_, _-_, _≤_, _<_, min}
 use mathlib.Core.Bool.{Bool, true, false, cond}
 use mathlib.Core.List.{List, [], _++_}
 use mathlib.Core.Path.{_≡_}
 use lib.Dec.{eqb, ltb}
+use lib.IntN.{ℤ, pos, negsuc}
 use lib.ListN.{length, take, drop}
 use Rattle.line_buffer.specs.Lines.{hasLine}
 use Rattle.session.specs.Flush.{lineEnding}
@@ -16,6 +17,19 @@ abbrev pub toAnswer : ℕ → ℕ → List ℕ → List ℕ
 toAnswer from end part = drop from (take end part)
 
 -- ---- reading on
+
+-- The operating system tells how many bytes it put behind those that are held, 0 at the end of the file, or −1 where it can't be read: how
+-- far reading has come,
+unfoldable pub stateAfter : ℤ → ℕ
+stateAfter (negsuc k) = 2
+stateAfter (pos zero) = 1
+stateAfter (pos (suc n)) = 0
+
+-- and what is to be answered: those that are held and those behind them; the last line, which gets a line feed; nothing.
+unfoldable pub bytesAfter : ℤ → ℕ → List ℕ → List ℕ
+bytesAfter (negsuc k) held part = []
+bytesAfter (pos zero) held part = lineEnding (take held part)
+bytesAfter (pos (suc n)) held part = take (held + min (suc n) (length part - held)) part
 
 -- Behind bytes that are held others are read, one at least, which the operating system puts there; at the end of the file none are, and bytes that are
 -- held get a line feed; of a file that can't be read nothing is left.

@@ -12,8 +12,8 @@ use Rattle.session.specs.Line.{withLog}
 use Rattle.session.specs.Feed.{Fed, fed}
 use Rattle.session.specs.Flush.{writtenNow, afterWriting, lineEnding}
 use Rattle.session.specs.Input.{goesOn, wasWhole}
-use Rattle.session.specs.Ends.{namesBegun, countsBegun, outcomeOf}
-use Rattle.session.specs.declared.ends.Outcome.{Outcome}
+use Rattle.session.specs.Ends.{namesBegun, countsBegun, lastSaid, outcomeOf}
+use Rattle.collection.specs.declared.Outcome.{Outcome}
 
 -- ---- one turn
 
@@ -117,3 +117,7 @@ pub record Replayed (path : List ℕ) (check : Bool) (outcome : Outcome) : Type 
   pub reached : Reached path check turns pieces state last
   pub over : goesOn state ≡ true → turns ≡ 18446744073709551615
   pub told : outcome ≡ outcomeOf (wasWhole state) (last .fed .replay .state .log .counts)
+
+-- All that these turns write, and behind them the last line of a file that was read to its end.
+abbrev pub writtenBy : {path : List ℕ} {check : Bool} {outcome : Outcome} → Replayed path check outcome → List ℕ
+writtenBy r = r .last .text ++ writtenNow (lastSaid (wasWhole (r .state)) (r .last .fed .replay .state .log))

@@ -3,6 +3,7 @@ ghost use mathlib.Core.Bool.{true};
 ghost use mathlib.Core.Path.{_≡_};
 ghost use Rattle.session.specs.Ends.{namesBegun, countsBegun, lastSaid, outcomeOf};
 use crate::flush::flush;
+use collection::Outcome;
 use item_state::counts::BAD;
 use item_state::counts::CALLS;
 use item_state::counts::CHECK;
@@ -12,15 +13,6 @@ use item_state::counts::PATH;
 use item_state::counts::REFUSED;
 use item_state::counts::UNANNOUNCED;
 use item_state::counts::USED;
-
-// How a replay ended: whether all of the file was read, and what its last line counts.
-pub struct Outcome {
-    pub whole: bool,
-    pub unannounced: usize,
-    pub bad: usize,
-    pub expected: usize,
-    pub differ: usize,
-}
 
 // The file's name, and whether it is a check.
 pub fn begin(path: &[u8], check: bool, counts: &mut [usize; 22], names: &mut [u8])

@@ -7,7 +7,6 @@ ghost use lib.ListN.{length, getD};
 ghost use Rattle.line_buffer.specs.Lines.{lineEnd};
 ghost use Rattle.session.specs.Feed.{hasRoom, fed};
 ghost use Rattle.session.specs.Turns.{Replayed};
-use crate::ends::Outcome;
 use crate::ends::begin;
 use crate::ends::end;
 use crate::flush::flush;
@@ -17,6 +16,7 @@ use crate::input::go_on;
 use crate::input::is_going;
 use crate::input::is_whole;
 use crate::lines::answer_line;
+use collection::Outcome;
 use device::Model;
 use item_state::counts::LEFT;
 use item_state::counts::USED;
@@ -32,11 +32,12 @@ struct Progress {
 }
 
 // Replays what a file has, to its end. With `check`, only what needs a look is written, by the file's
-// name and the line.
+// name and the line. Among the names the item's stands behind 4,096 places for the file's.
 //
 // Each turn answers lines of what was read, writes the answers, and reads on where no line is left. Nothing says that the input ends, so
 // the loop counts its turns down, from a number that no run uses up.
 pub fn replay(fd: i32, path: &[u8], check: bool) -> Outcome
+    requires { ⌜ length (now path) ≤ 4096 ⌝ }
     ensures { λ r. ⌜ Replayed (now (path .entry)) check r ⌝ }
 {
     let mut numbers = [0u32; 512];

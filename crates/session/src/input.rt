@@ -3,7 +3,7 @@ ghost use mathlib.Core.Path.{_≡_};
 ghost use Prim.Native.Nat.{_-_, _≤_, _<_};
 ghost use lib.ListN.{length, take, drop};
 ghost use Rattle.session.specs.Flush.{lineEnding};
-ghost use Rattle.session.specs.Input.{toAnswer, goesOn, wasWhole, overFrom, ReadOn, WentOn};
+ghost use Rattle.session.specs.Input.{toAnswer, stateAfter, bytesAfter, goesOn, wasWhole, overFrom, ReadOn, WentOn};
 use item_state::output::bytes_from;
 use item_state::output::first_bytes;
 use line_buffer::has_line;
@@ -76,12 +76,21 @@ fn over(state: u8) -> u8
     }
 }
 
-// Reads on behind the bytes that are held. A last line without a line feed gets one.
+// Reads on behind the bytes that are held.
 fn read_more(fd: i32, path: &[u8], part: &mut [u8], held: usize) -> Input
     requires { ⌜ held < length (now part) ⌝ }
     ensures { λ r. ⌜ ReadOn (take held (now (part .entry))) (r .state) (toAnswer (r .from) (r .end) (now (part .exit))) × (r .end ≤ length (now (part .exit))) ⌝ }
 {
     let got = libc::read(fd, &mut part[held..]);
+    after_read(got, path, part, held)
+}
+
+// What is to be answered once the system has told how many bytes it put behind those that are held: none at the end of the file, and -1
+// where it can't be read. A last line without a line feed gets one.
+fn after_read(got: isize, path: &[u8], part: &mut [u8], held: usize) -> Input
+    requires { ⌜ held < length (now part) ⌝ }
+    ensures { λ r. ⌜ (r .state ≡ stateAfter got) × (toAnswer (r .from) (r .end) (now (part .exit)) ≡ bytesAfter got held (now (part .entry))) × (r .end ≤ length (now (part .exit))) ⌝ }
+{
     if got < 0 {
         os::fail(path);
         return Input {

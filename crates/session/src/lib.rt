@@ -11,5 +11,4 @@ mod flush;
 mod input;
 mod lines;
 
-pub use ends::Outcome;
 pub use feed::replay;

@@ -1,0 +1,4 @@
+pub mod SourceLaws
+pub mod Along
+pub mod Run
+pub mod SingleLaws

@@ -6,12 +6,13 @@ use mathlib.Core.List.{List, [], _∷_, map}
 use native.Mathlib.Omega.{arith}
 use lib.Dec.{eqb, ltb}
 use lib.IntN.{ℤ}
-use lib.ListN.{length, getD, set, length-set}
+use lib.ListN.{length, getD, set, take, length-set}
 use Rattle.device.specs.declared.Model.{Model}
 use Rattle.device.specs.Model.{isSound, freshModel}
 use Rattle.device.specs.Call.{Call}
 use Rattle.device.specs.Reply.{reply}
 use Rattle.device.proofs.Sound.{fresh-sound, keeps-sound}
+use Rattle.register_words.specs.Words.{CallFits}
 use Rattle.difference.specs.Difference.{signedOf}
 use Rattle.line.specs.declared.Content.{Content}
 use Rattle.line.specs.Line.{lineReading}
@@ -26,18 +27,19 @@ use Rattle.session.specs.Line.{State, Replay, withLog, lineDone, lineBegun, lin
 use Rattle.line_room.specs.Form.{Waits, InForm}
 use Rattle.line_room.proofs.Alike.{Alike, alike-then, begun-kept, begun-names, done-alike, ended-alike}
 use Rattle.line_room.proofs.Waits.{fresh-waits, keeps-waits}
+use Rattle.line_room.proofs.Frames.{low-bytes, write-bytes}
 
 -- ---- the model
 
--- What holds of a fresh model, and every call keeps, every line keeps.
-module _ (P : Model → Type 0) (fresh : P freshModel) (kept : (m : Model) (c : Call) → P m → P (reply m c .model)) where
-  ticked-keeps : (turns n before : ℕ) (m : Model) → P m → P (ticked turns n before m .model)
+-- What holds of a fresh model, and every call keeps whose frame is one of bytes (`CallFits`), every line keeps.
+module _ (P : Model → Type 0) (fresh : P freshModel) (kept : (m : Model) (c : Call) → CallFits c → P m → P (reply m c .model)) where
+  pub ticked-keeps : (turns n before : ℕ) (m : Model) → P m → P (ticked turns n before m .model)
   unfolding ticked onward
   ticked-keeps zero n before m h = h
   ticked-keeps (suc turns) n before m h =
       let span = min n 16384 in
       let next = reply m (Call.stretch span) .model in
-      go (eqb n 0) (ticked-keeps turns (n - span) (before + span) next (kept m (Call.stretch span) h))
+      go (eqb n 0) (ticked-keeps turns (n - span) (before + span) next (kept m (Call.stretch span) tt h))
     where
       go : (t : Bool) → P (ticked turns (n - min n 16384) (before + min n 16384) (reply m (Call.stretch (min n 16384)) .model) .model)
           → P (cond t record { model = m; texts = [] }
@@ -57,10 +59,10 @@ module _ (P : Model → Type 0) (fresh : P freshModel) (kept : (m : Model) (c : 
   tick-keeps n m l h = go (eqb n 1)
     where
       go : (t : Bool) → P (cond t (singleLine m l) (ticksPart n m (ticksBegun n l)) .model)
-      go true = kept m Call.tick h
+      go true = kept m Call.tick tt h
       go false = part-keeps n m (ticksBegun n l) h
 
-  line-keeps : (content : Content) (numbers : List ℕ) (s : WithFlash) → P (s .model) → P (callLine content numbers s .model)
+  pub line-keeps : (content : Content) (numbers : List ℕ) (s : WithFlash) → P (s .model) → P (callLine content numbers s .model)
   unfolding callLine timedLine beside itemLine busLine setLine transacted atLine stretchLine flightLine temperatureLine told
   line-keeps Content.Nothing numbers s h = h
   line-keeps Content.TooLong numbers s h = h
@@ -68,19 +70,19 @@ module _ (P : Model → Type 0) (fresh : P freshModel) (kept : (m : Model) (c : 
   line-keeps Content.BadNumber numbers s h = h
   line-keeps Content.WrongCount numbers s h = h
   line-keeps Content.Item numbers s h = fresh
-  line-keeps (Content.Bus n) numbers s h = kept (s .model) _ h
-  line-keeps (Content.BusOut size n) numbers s h = kept (s .model) _ h
+  line-keeps (Content.Bus n) numbers s h = kept (s .model) _ (low-bytes (take n numbers)) h
+  line-keeps (Content.BusOut size n) numbers s h = kept (s .model) _ (low-bytes (take n numbers)) h
   line-keeps (Content.Tick n) numbers s h = tick-keeps n (s .model) (s .log) h
-  line-keeps (Content.Flight up down) numbers s h = kept (s .model) _ h
-  line-keeps (Content.Temperature n) numbers s h = kept (s .model) _ h
+  line-keeps (Content.Flight up down) numbers s h = kept (s .model) _ tt h
+  line-keeps (Content.Temperature n) numbers s h = kept (s .model) _ tt h
   line-keeps Content.Int numbers s h = h
   line-keeps Content.Awaited numbers s h = h
   line-keeps Content.Regs numbers s h = h
   line-keeps (Content.Expect a n) numbers s h = h
   line-keeps Content.Show numbers s h = h
-  line-keeps (Content.Set a n) numbers s h = kept (s .model) _ h
+  line-keeps (Content.Set a n) numbers s h = kept (s .model) _ (write-bytes a (take n numbers)) h
   line-keeps (Content.At t) numbers s h = part-keeps t (s .model) (atBegun t (s .log)) h
-  line-keeps (Content.Stretch n) numbers s h = kept (s .model) (Call.stretch n) h
+  line-keeps (Content.Stretch n) numbers s h = kept (s .model) (Call.stretch n) tt h
   line-keeps Content.Frames numbers s h = h
   line-keeps (Content.Probe n) numbers s h = h
   line-keeps Content.Degrees numbers s h = h
@@ -165,8 +167,8 @@ module _ (content : Content) (expected : List (List ℕ)) (text numbers : List �
     counts = whole .counts ∙ i .counts;
     places = whole .answers ∙ i .places;
     names = begun-names content text (r .names) (r .state .log) ∙ i .names;
-    sound = line-keeps (λ (m : Model). isSound m ≡ true) fresh-sound keeps-sound left numbers _ (i .sound);
-    waits = line-keeps Waits fresh-waits keeps-waits left numbers _ (i .waits);
+    sound = line-keeps (λ (m : Model). isSound m ≡ true) fresh-sound (λ m c _. keeps-sound m c) left numbers _ (i .sound);
+    waits = line-keeps Waits fresh-waits (λ m c _. keeps-waits m c) left numbers _ (i .waits);
     many = analysis-long left numbers _ _ ∙ i .many;
     fit = analysis-fits left numbers _ _ (i .fit);
   }

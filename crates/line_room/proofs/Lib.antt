@@ -5,6 +5,8 @@ pub mod Whole
 pub mod Parts
 pub mod Waits
 pub mod Alike
+pub mod Frames
 pub mod Kept
+pub mod RegisterWords
 pub mod Start
 pub mod Examples

@@ -21,6 +21,7 @@ pub mod Counts
 pub mod Bad
 pub mod Text
 pub mod Sound
+pub mod Words
 pub mod Refusals
 pub mod Gains
 pub mod Order

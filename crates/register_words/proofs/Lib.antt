@@ -1,0 +1,4 @@
+pub mod Arrays
+pub mod Kept
+pub mod Registers
+pub mod Examples

@@ -28,7 +28,7 @@ use Rattle.line_text.specs.Text.{begunTold, faultTold, itemTold, namesAfter, he
 use Rattle.line_text.proofs.Told.{fault-same}
 use Rattle.line_text.proofs.Apart.{count-elsewhere}
 use Rattle.replay_text.specs.Replay.{TickLine, tickLines, toldBy, doneBy, opening, ownWhole, doneWhole, Page, contentPage, pageLine}
-use Rattle.replay_text.specs.LastLine.{countsOf, isBad}
+use Rattle.replay_text.specs.LastLine.{countsOf, readOn, lineOwn, isBad}
 use Rattle.replay_text.proofs.Numbers.{SameNumbers, SameReading, reading-alike}
 use Rattle.replay_text.proofs.Alike.{SameTold, SameState, own-same, done-same, closed-same}
 use Rattle.replay_text.proofs.Counts.{AlikeCounts, alike-self, alike-back, alike-on, alike-set, WithinLine, within-same, within-kept, within-call, begun-alike, begun-refused, begun-before, begun-bad, begun-line, begun-fault, no-head, heads-within, elsewhere-alike}
@@ -184,7 +184,14 @@ module _ (content : Content) (line numbers : List ℕ) (p : Page) (counting : Co
         (alike-set 6 _ refl (countsOf p) (head .counts) (begun-alike (p .replay .names) (countsOf p) (counting .long))));
   }
 
+  number-bad : getD (countsOf p) 2 0 < 18446744073709551615 → getD more 2 0 ≡ getD (countsOf p) 2 0 + 1
+  number-bad lines = more-left 2 (λ e. omega arith) ∙ (begun-line (p .replay .names) (countsOf p) (counting .long) ∙ omega (arith, lines))
+
   -- "the answer is `line L: ` and one of six texts, L being the line's number"
+  own-texts-bad : getD (countsOf p) 2 0 < 18446744073709551615
+      → ownWhole content line numbers (p .replay .names) (p .replay .state) (head .counts) .texts ≡ fault (getD (countsOf p) 2 0 + 1) content
+  own-texts-bad lines = rw (own-bad, number-bad lines)
+
   bad-adds : (expected : List (List ℕ)) → getD (countsOf p) 14 0 ≡ 0 → getD (countsOf p) 2 0 < 18446744073709551615
       → contentAdds content expected line numbers p ≡ joined (fault (getD (countsOf p) 2 0 + 1) content)
   unfolding contentAdds toldText closedText shownAnswer joined
@@ -192,9 +199,7 @@ module _ (content : Content) (line numbers : List ℕ) (p : Page) (counting : Co
       let answer = shownAnswer more (joined (fault (getD more 2 0) content)) in
       let there : getD more 14 0 ≡ 0
       = more-left 14 (λ e. omega arith) ∙ (sym (begun-alike (p .replay .names) (countsOf p) (counting .long) .each 14 refl) ∙ outside) in
-      let number : getD more 2 0 ≡ getD (countsOf p) 2 0 + 1
-      = more-left 2 (λ e. omega arith) ∙ (begun-line (p .replay .names) (countsOf p) (counting .long) ∙ omega (arith, lines)) in
-      rw (own-bad, closed-bad expected answer, judged-bad expected answer, eq-eqb (getD more 14 0) 0 there, no-head (p .replay .names) (countsOf p) (counting .long) outside, number)
+      rw (own-bad, closed-bad expected answer, judged-bad expected answer, eq-eqb (getD more 14 0) 0 there, no-head (p .replay .names) (countsOf p) (counting .long) outside, number-bad lines)
 
   bad-counted : (expected : List (List ℕ))
       → (getD (countsOf (after expected)) 2 0 ≡ min (getD (countsOf p) 2 0 + 1) 18446744073709551615)
@@ -228,7 +233,12 @@ module _ (line : List ℕ) (p : Page) (counting : Counting p) (bad : isBad line 
   unfolding pageLine
   bad-line-counted = bad-counted (read .content) line (read .numbers) p counting bad-read (expectedOf line)
 
-  -- and, outside a check, adds its number and the reason.
+  -- and tells its number and the reason, in a check too;
+  pub bad-line-own : getD (countsOf p) 2 0 < 18446744073709551615 → lineOwn line p .texts ≡ fault (getD (countsOf p) 2 0 + 1) (lineReading (p .numbers) line .content)
+  unfolding lineOwn
+  bad-line-own lines = own-texts-bad (read .content) line (read .numbers) p counting bad-read lines
+
+  -- outside a check it adds no more than that.
   pub bad-line-text : getD (countsOf p) 14 0 ≡ 0 → getD (countsOf p) 2 0 < 18446744073709551615
       → lineAdds line p ≡ joined (fault (getD (countsOf p) 2 0 + 1) (lineReading (p .numbers) line .content))
   unfolding lineAdds
@@ -254,11 +264,6 @@ done-log : (content : Content) (line numbers names : List ℕ) (s : State) (l : 
     → doneWhole content line numbers names (withLog s l) c ≡ doneWhole content line numbers names s c
 unfolding doneWhole
 done-log content line numbers names s l c = refl
-
-judged-text : (expected : List (List ℕ)) (c c′ answer : List ℕ) → isNotBad c ≡ isNotBad c′ → judgedText expected c answer ≡ judgedText expected c′ answer
-unfolding judgedText
-judged-text [] c c′ answer e = refl
-judged-text (wanted ∷ others) c c′ answer e = rw e
 
 module _ (content : Content) (expected : List (List ℕ)) (line numbers numbers′ : List ℕ) (p : Page) (text buffer : List ℕ) (l : Log)
     (alike : SameNumbers content numbers numbers′) (a : AlikeCounts (countsOf p) (l .counts)) (good : isFault content (countsOf p) ≡ false) where
@@ -338,18 +343,6 @@ module _ (content : Content) (expected : List (List ℕ)) (line numbers numbers�
             (elsewhere-alike x y (closed .counts));
       })
 
-  judged-same : judgedText expected (own .counts) answer ≡ judgedText expected (own′ .counts) answer
-  judged-same = judged-text expected (own .counts) (own′ .counts) answer (within-call check (own .counts) (own′ .counts) (told .1))
-
-  good-adds : check ≡ 0 → contentAdds content expected line numbers p ≡ contentAdds content expected line numbers′ other
-  unfolding contentAdds toldText closedText
-  good-adds outside =
-      let x = closedCounts expected (own .counts) answer in
-      let y = closedCounts expected (own′ .counts) answer in
-      let here : getD x 14 0 ≡ 0 = closed .checked ∙ outside in
-      let there : getD y 14 0 ≡ 0 = sym (closed .counts .each 14 refl) ∙ here in
-      rw (own-log content line numbers′ (p .replay .names) (p .replay .state) l (second .counts), shown, eq-eqb (getD x 14 0) 0 here, eq-eqb (getD y 14 0) 0 there, no-head (p .replay .names) (countsOf p) (a .long) outside, no-head (p .replay .names) (l .counts) (a .long′) (sym (a .each 14 refl) ∙ outside), judged-same)
-
 -- The other page is the first with another text, other numbers before it, and its own counts.
 other-is : (p q : Page) → AlikeButLines p q
     → record { text = q .text; numbers = q .numbers; replay = record { state = withLog (p .replay .state) (q .replay .state .log); names = p .replay .names } } ≡ q
@@ -375,7 +368,14 @@ module _ (line : List ℕ) (p q : Page) (a : AlikeButLines p q) where
   abbrev answeredOn : Content → Page → Page
   answeredOn content o = contentPage content (expectedOf line) line (yours .numbers) o
 
-  -- It is a bad line on both or on none.
+  -- It is read alike,
+  pub content-same : readOn line q .content ≡ readOn line p .content
+  content-same = sym (both .content)
+
+  pub numbers-same : SameNumbers (readOn line p .content) (readOn line p .numbers) (readOn line q .numbers)
+  numbers-same = both .numbers
+
+  -- and is a bad line on both or on none.
   pub bad-same : isBad line q ≡ isBad line p
   unfolding isBad
   bad-same =
@@ -387,7 +387,19 @@ module _ (line : List ℕ) (p q : Page) (a : AlikeButLines p q) where
     unfolding isBad
     good-read = good
 
-    -- A line that is not bad leaves such pages alike,
+    -- A line that is not bad tells the same of itself on such pages,
+    pub own-alike : lineOwn line p .texts ≡ lineOwn line q .texts
+    unfolding lineOwn
+    own-alike =
+        let l = q .replay .state .log in
+        let counts = headOf (twin .replay) .counts in
+        told (mine .content) (expectedOf line) line (mine .numbers) (yours .numbers) p (q .text) (q .numbers) l (both .numbers) (a .counts) good-read .0
+        ∙ (ap (λ (t : Told). t .texts) (sym (own-log (mine .content) line (yours .numbers) (p .replay .names) (p .replay .state) l counts))
+        ∙ (ap (λ (k : Content). ownWhole k line (yours .numbers) (p .replay .names) (twin .replay .state) counts .texts) (both .content)
+        ∙ ap (λ (o : Page). ownWhole (yours .content) line (yours .numbers) (o .replay .names) (o .replay .state) (headOf (o .replay) .counts) .texts)
+        (other-is p q a)))
+
+    -- and leaves them alike.
     pub line-alike : AlikeButLines (pageLine line p) (pageLine line q)
     unfolding pageLine
     line-alike =
@@ -396,16 +408,7 @@ module _ (line : List ℕ) (p q : Page) (a : AlikeButLines p q) where
         (good-alike (mine .content) (expectedOf line) line (mine .numbers) (yours .numbers) p (q .text) (q .numbers) (q .replay .state .log)
         (both .numbers) (a .counts) good-read))
 
-    -- and, outside a check, adds the same text to both.
-    pub line-same : getD (countsOf p) 14 0 ≡ 0 → lineAdds line p ≡ lineAdds line q
-    unfolding lineAdds
-    line-same outside =
-        good-adds (mine .content) (expectedOf line) line (mine .numbers) (yours .numbers) p (q .text) (q .numbers) (q .replay .state .log)
-        (both .numbers) (a .counts) good-read outside
-        ∙ (ap (λ (k : Content). contentAdds k (expectedOf line) line (yours .numbers) twin) (both .content)
-        ∙ ap (contentAdds (yours .content) (expectedOf line) line (yours .numbers)) (other-is p q a))
-
-  -- So does every line, bad ones too.
+  -- Every line leaves them alike, bad ones too.
   pub any-line-alike : Counting p → Counting q → AlikeButLines (pageLine line p) (pageLine line q)
   any-line-alike counting counting′ =
       by-test (isBad line p)

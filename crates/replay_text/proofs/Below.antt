@@ -20,11 +20,11 @@ pub record Below (lines : ℕ) (p : Page) : Type 0 where
   pub refused : getD (countsOf p) 4 0 ≤ lines
   pub bad : getD (countsOf p) 6 0 ≤ lines
 
-at-most-one : (t : Bool) → cond t 1 0 ≤ 1
+pub at-most-one : (t : Bool) → cond t 1 0 ≤ 1
 at-most-one true = omega arith
 at-most-one false = omega arith
 
-below-next : (m : ℕ) (line : List ℕ) (p : Page) → Below m p → Below (m + 1) (pageLine line p)
+pub below-next : (m : ℕ) (line : List ℕ) (p : Page) → Below m p → Below (m + 1) (pageLine line p)
 below-next m line p b =
     let o = b .order in
     record {
@@ -32,6 +32,13 @@ below-next m line p b =
       refused = omega (arith, b .refused, line-adds-to 4 (omega arith) (omega arith) line p o .1, own-alone 4 refl refl refl line p ∙ own-refused line p o, at-most-one (answeredNo line p));
       bad = omega (arith, b .bad, line-adds-to 6 (omega arith) (omega arith) line p o .1, own-alone 6 refl refl refl line p ∙ own-bad line p, at-most-one (isBad line p));
     }
+
+pub below-first : (path : List ℕ) (check : Bool) → Below 0 (firstPage path check)
+below-first path check = record {
+  order = order-first path check;
+  refused = omega (arith, first-zero path check 4 (omega arith) (omega arith));
+  bad = omega (arith, first-zero path check 6 (omega arith) (omega arith));
+}
 
 -- A count of the last line is the sum of what each line counts.
 pub text-counts-below : (k : ℕ) (some : 2 < k) (low : k < 9) (each : List ℕ → Page → ℕ)
@@ -42,8 +49,4 @@ text-counts-below k some low each exact path check text few =
     sum-is k some low each path check text
     (over-same 18446744073709551615 Below (inLine k) each (λ m line p before b. (exact m line p before b, below-next m line p b))
     (textLines text) 0 (firstPage path check) (omega (arith, few))
-    record {
-      order = order-first path check;
-      refused = omega (arith, first-zero path check 4 (omega arith) (omega arith));
-      bad = omega (arith, first-zero path check 6 (omega arith) (omega arith));
-    })
+    (below-first path check))

@@ -198,6 +198,26 @@ no-head names c long outside =
     let there : getD (lineCounted c) 14 0 ≡ 0 = sym (counted-alike names c long .each 14 refl) ∙ outside in
     rw (eq-eqb (getD (lineCounted c) 14 0) 0 there)
 
+-- In a check it has the file's name and the line's number, and what needed a look before the line is kept.
+pub head-in-check : (names c : List ℕ) → length c ≡ 22 → eqb (getD c 14 0) 0 ≡ false
+    → (begunTold names c .texts ≡ place (take (getD c 16 0) names) (min (getD c 2 0 + 1) 18446744073709551615))
+    × (getD (begunTold names c .counts) 19 0 ≡ trouble c)
+unfolding begunTold headTold trouble added
+head-in-check names c long inside =
+    let a = counted-alike names c long in
+    let l = lineCounted c in
+    let there : eqb (getD l 14 0) 0 ≡ false = ap (λ (n : ℕ). eqb n 0) (sym (a .each 14 refl)) ∙ inside in
+    let name : getD (set l 19 (trouble l)) 16 0 ≡ getD c 16 0 = getD-set-other l 19 16 (trouble l) 0 (λ e. omega arith) ∙ sym (a .each 16 refl) in
+    let number : getD (set l 19 (trouble l)) 2 0 ≡ min (getD c 2 0 + 1) 18446744073709551615
+    = getD-set-other l 19 2 (trouble l) 0 (λ e. omega arith)
+    ∙ (counted-left names c long 2 (λ e. omega arith) (λ e. omega arith) (λ e. omega arith) ∙ getD-set-same c 2 _ 0 (rw long (omega arith))) in
+    let bad : getD l 6 0 ≡ getD c 6 0
+    = counted-left names c long 6 (λ e. omega arith) (λ e. omega arith) (λ e. omega arith) ∙ getD-set-other c 2 6 _ 0 (λ e. omega arith) in
+    let kept : trouble l ≡ trouble c = rw (bad, a .each 5 refl, a .each 8 refl) in (
+      rw (there, name, number),
+      rw there (getD-set-other (set l 19 (trouble l)) 20 19 _ 0 (λ e. omega arith) ∙ (getD-set-same l 19 (trouble l) 0 (rw (a .long′) (omega arith)) ∙ kept)),
+    )
+
 -- Behind the heads of two lines.
 pub heads-within : (names c c′ : List ℕ) → AlikeCounts c c′ → WithinLine (getD c 14 0) (begunTold names c .counts) (begunTold names c′ .counts)
 heads-within names c c′ a =

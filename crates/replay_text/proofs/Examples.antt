@@ -23,7 +23,7 @@ use Rattle.line.specs.Mark.{takesMark, beforeMark, behindMark, isMark}
 use Rattle.line.specs.Line.{alone, numbered as numberedLine, decimalWith, decimalCall, keywordOf, keywordReading, laterReading, wordsReading, wordsExpected, contentLength, lineReading, lineExpected}
 use Rattle.line_buffer.specs.Lines.{hasLine, withFirst, linesIn, restIn, lastLine, textLines, eachLine}
 use Rattle.numeral.specs.Ascii.{ascii}
-use Rattle.wording.specs.Wording.{lineFeed, numbered, counted, calls, faults, nextNamed, sooner, why, fault}
+use Rattle.wording.specs.Wording.{lineFeed, numbered, counted, calls, faults, nextNamed, sooner, why, fault, place}
 use Rattle.item_state.specs.Log.{added, callCounted}
 use Rattle.item_state.specs.Told.{toldValue}
 use Rattle.item_calls.specs.Lines.{moved, ticked, onward, stretchReports, callLine, timedLine, beside}
@@ -31,12 +31,12 @@ use Rattle.item_questions.specs.Answers.{awaited, questionLine}
 use Rattle.item_analysis.specs.Lines.{analysisLine}
 use Rattle.item_checks.specs.Fault.{isPastOrFull, isFault, leftOf}
 use Rattle.item_checks.specs.Open.{lineCounted, isItem}
-use Rattle.item_checks.specs.Close.{expectedOf, refusalCounted, isAnnounced}
+use Rattle.item_checks.specs.Close.{placeOf, expectedOf, refusalCounted, isAnnounced, briefly, trouble, tail}
 use Rattle.answer_text.specs.Texts.{callTold, questionTold, analysisTold}
 use Rattle.answer_text.specs.Line.{lineTold, lineLeft}
 use Rattle.session.specs.Line.{lineDone}
 use Rattle.session.specs.Ends.{namesBegun, countsBegun, lastTexts}
-use Rattle.line_text.specs.Text.{headTold, begunTold, faultTold, itemTold, namesAfter, judgedText, judgedCounts, closedCounts, closedText}
+use Rattle.line_text.specs.Text.{headTold, begunTold, faultTold, itemTold, namesAfter, judgedText, judgedCounts, closedCounts, lookedText, closedText}
 use Rattle.line_text.specs.Text.{shownAnswer, toldText, toldCounts}
 use Rattle.replay_text.specs.Replay.{TickLine, tickLines, ticksTold, ticksDone, toldBy, doneBy, opening, ownWhole, doneWhole, Page, contentPage, pageLine, firstPage, lastPage, lastText, replayText}
 
@@ -150,11 +150,64 @@ module _ (flash : List ℕ) (differences : List ℤ) (probes numbers names : Lis
   awaited-line text = rw fresh-awaited
 
   -- `tick 5` behind that
-  ticks-line : (text : List ℕ)
-      → pageLine (ascii "tick 5") (page freshModel text (lineCounts 0 2 1 1 0))
+  ticks-line : (before : ℕ) (text : List ℕ)
+      → pageLine (ascii "tick 5") (page freshModel text (lineCounts 0 2 1 before 0))
       ≡ page (ticked 5 5 0 freshModel .model) (text ++ ascii "tick 5\n") (lineCounts 1 3 1 1 5)
   unfolding pageLine contentPage ownWhole doneWhole opening toldBy doneBy tickLines ticksTold ticksDone toldText toldCounts shownAnswer lineReading wordsReading contentLength words wordsAfter ended isBlank keywordOf sameBytes keywordReading laterReading decimalCall decimalWith alone numberedLine readDecimal valueIn valueOf areDigits digitOf takesMark beforeMark behindMark isMark lineExpected wordsExpected expectedOf leftOf isFault isPastOrFull faultTold itemTold namesAfter isItem lineTold callTold questionTold analysisTold lineDone lineLeft callLine timedLine beside questionLine analysisLine begunTold headTold lineCounted added callCounted moved numbered closedText closedCounts judgedText judgedCounts isAnnounced refusalCounted decimal decimalWidth widthFrom digits glyph joined ascii
-  ticks-line text = rw quiet-ticks
+  ticks-line before text = rw quiet-ticks
+
+  -- `awaited` as the first line, a word that none has as the second, another as the second or the third, and `tick 5` behind that
+  awaited-first : (text : List ℕ)
+      → pageLine (ascii "awaited") (page freshModel text (lineCounts 0 0 0 0 0))
+      ≡ page freshModel (text ++ ascii "awaited 0 0\n") (lineCounts 0 1 0 0 0)
+  unfolding pageLine contentPage ownWhole doneWhole opening toldBy doneBy tickLines toldText toldCounts shownAnswer lineReading wordsReading contentLength words wordsAfter ended isBlank keywordOf sameBytes keywordReading laterReading alone takesMark beforeMark behindMark isMark lineExpected wordsExpected expectedOf leftOf isFault isPastOrFull faultTold itemTold namesAfter isItem lineTold callTold questionTold analysisTold lineDone lineLeft callLine timedLine beside questionLine analysisLine begunTold headTold lineCounted added closedText closedCounts judgedText judgedCounts isAnnounced refusalCounted decimal decimalWidth widthFrom digits glyph joined ascii
+  awaited-first text = rw fresh-awaited
+
+  what-second : (m : Model) (text : List ℕ)
+      → pageLine (ascii "what") (page m text (lineCounts 0 1 0 0 0)) ≡ page m (text ++ ascii "line 2: unknown word\n") (lineCounts 0 2 1 0 0)
+  unfolding pageLine contentPage ownWhole doneWhole opening toldBy doneBy tickLines toldText toldCounts shownAnswer lineReading wordsReading contentLength words wordsAfter ended isBlank keywordOf sameBytes keywordReading laterReading takesMark beforeMark behindMark isMark lineExpected wordsExpected expectedOf leftOf isFault faultTold fault why itemTold namesAfter isItem lineTold callTold questionTold analysisTold lineDone lineLeft callLine timedLine beside questionLine analysisLine begunTold headTold lineCounted added closedText closedCounts judgedText judgedCounts isAnnounced refusalCounted decimal decimalWidth widthFrom digits glyph joined ascii
+  what-second m text = refl
+
+  unknown-second : (m : Model) (text : List ℕ)
+      → pageLine (ascii "x") (page m text (lineCounts 0 1 0 0 0)) ≡ page m (text ++ ascii "line 2: unknown word\n") (lineCounts 0 2 1 0 0)
+  unfolding pageLine contentPage ownWhole doneWhole opening toldBy doneBy tickLines toldText toldCounts shownAnswer lineReading wordsReading contentLength words wordsAfter ended isBlank keywordOf sameBytes keywordReading laterReading takesMark beforeMark behindMark isMark lineExpected wordsExpected expectedOf leftOf isFault faultTold fault why itemTold namesAfter isItem lineTold callTold questionTold analysisTold lineDone lineLeft callLine timedLine beside questionLine analysisLine begunTold headTold lineCounted added closedText closedCounts judgedText judgedCounts isAnnounced refusalCounted decimal decimalWidth widthFrom digits glyph joined ascii
+  unknown-second m text = refl
+
+  unknown-third : (m : Model) (text : List ℕ)
+      → pageLine (ascii "x") (page m text (lineCounts 0 2 1 0 0)) ≡ page m (text ++ ascii "line 3: unknown word\n") (lineCounts 0 3 2 1 0)
+  unfolding pageLine contentPage ownWhole doneWhole opening toldBy doneBy tickLines toldText toldCounts shownAnswer lineReading wordsReading contentLength words wordsAfter ended isBlank keywordOf sameBytes keywordReading laterReading takesMark beforeMark behindMark isMark lineExpected wordsExpected expectedOf leftOf isFault faultTold fault why itemTold namesAfter isItem lineTold callTold questionTold analysisTold lineDone lineLeft callLine timedLine beside questionLine analysisLine begunTold headTold lineCounted added closedText closedCounts judgedText judgedCounts isAnnounced refusalCounted decimal decimalWidth widthFrom digits glyph joined ascii
+  unknown-third m text = refl
+
+  ticks-fourth : (text : List ℕ)
+      → pageLine (ascii "tick 5") (page freshModel text (lineCounts 0 3 2 1 0))
+      ≡ page (ticked 5 5 0 freshModel .model) (text ++ ascii "tick 5\n") (lineCounts 1 4 2 2 5)
+  unfolding pageLine contentPage ownWhole doneWhole opening toldBy doneBy tickLines ticksTold ticksDone toldText toldCounts shownAnswer lineReading wordsReading contentLength words wordsAfter ended isBlank keywordOf sameBytes keywordReading laterReading decimalCall decimalWith alone numberedLine readDecimal valueIn valueOf areDigits digitOf takesMark beforeMark behindMark isMark lineExpected wordsExpected expectedOf leftOf isFault isPastOrFull faultTold itemTold namesAfter isItem lineTold callTold questionTold analysisTold lineDone lineLeft callLine timedLine beside questionLine analysisLine begunTold headTold lineCounted added callCounted moved numbered closedText closedCounts judgedText judgedCounts isAnnounced refusalCounted decimal decimalWidth widthFrom digits glyph joined ascii
+  ticks-fourth text = rw quiet-ticks
+
+-- In a check of the file `f`
+module _ (flash : List ℕ) (differences : List ℤ) (probes numbers rest : List ℕ) where
+  -- The lines, the bad ones, those before this line, and what needed a look before it
+  abbrev checkCounts : ℕ → ℕ → ℕ → ℕ → List ℕ
+  checkCounts lines bad before troubles =
+      0 ∷ 0 ∷ lines ∷ 0 ∷ 0 ∷ 0 ∷ bad ∷ 0 ∷ 0 ∷ 0 ∷ 0 ∷ 0 ∷ 0 ∷ 0 ∷ 1 ∷ 0 ∷ 1 ∷ 0 ∷ before ∷ troubles ∷ 0 ∷ 0 ∷ []
+
+  abbrev checkPage : Model → List ℕ → List ℕ → Page
+  checkPage = page flash differences probes numbers (102 ∷ rest)
+
+  what-checked : (m : Model) (text : List ℕ)
+      → pageLine (ascii "what") (checkPage m text (checkCounts 0 0 0 0)) ≡ checkPage m (text ++ ascii "f:1: line 1: unknown word\n") (checkCounts 1 1 0 0)
+  unfolding pageLine contentPage ownWhole doneWhole opening toldBy doneBy tickLines toldText toldCounts shownAnswer lineReading wordsReading contentLength words wordsAfter ended isBlank keywordOf sameBytes keywordReading laterReading takesMark beforeMark behindMark isMark lineExpected wordsExpected expectedOf leftOf isFault faultTold fault why itemTold namesAfter isItem lineTold callTold questionTold analysisTold lineDone lineLeft callLine timedLine beside questionLine analysisLine begunTold headTold lineCounted added closedText closedCounts judgedText judgedCounts isAnnounced refusalCounted lookedText trouble tail placeOf briefly place counted decimal decimalWidth widthFrom digits glyph joined ascii
+  what-checked m text = refl
+
+  unknown-checked : (m : Model) (text : List ℕ)
+      → pageLine (ascii "x") (checkPage m text (checkCounts 0 0 0 0)) ≡ checkPage m (text ++ ascii "f:1: line 1: unknown word\n") (checkCounts 1 1 0 0)
+  unfolding pageLine contentPage ownWhole doneWhole opening toldBy doneBy tickLines toldText toldCounts shownAnswer lineReading wordsReading contentLength words wordsAfter ended isBlank keywordOf sameBytes keywordReading laterReading takesMark beforeMark behindMark isMark lineExpected wordsExpected expectedOf leftOf isFault faultTold fault why itemTold namesAfter isItem lineTold callTold questionTold analysisTold lineDone lineLeft callLine timedLine beside questionLine analysisLine begunTold headTold lineCounted added closedText closedCounts judgedText judgedCounts isAnnounced refusalCounted lookedText trouble tail placeOf briefly place counted decimal decimalWidth widthFrom digits glyph joined ascii
+  unknown-checked m text = refl
+
+  second-checked : (m : Model) (text : List ℕ)
+      → pageLine (ascii "x") (checkPage m text (checkCounts 1 1 0 0)) ≡ checkPage m (text ++ ascii "f:2: line 2: unknown word\n") (checkCounts 2 2 1 1)
+  unfolding pageLine contentPage ownWhole doneWhole opening toldBy doneBy tickLines toldText toldCounts shownAnswer lineReading wordsReading contentLength words wordsAfter ended isBlank keywordOf sameBytes keywordReading laterReading takesMark beforeMark behindMark isMark lineExpected wordsExpected expectedOf leftOf isFault faultTold fault why itemTold namesAfter isItem lineTold callTold questionTold analysisTold lineDone lineLeft callLine timedLine beside questionLine analysisLine begunTold headTold lineCounted added closedText closedCounts judgedText judgedCounts isAnnounced refusalCounted lookedText trouble tail placeOf briefly place counted decimal decimalWidth widthFrom digits glyph joined ascii
+  second-checked m text = refl
 
 -- A text of these three lines.
 three-lines : replayText [] false (ascii "x\nawaited\ntick 5\n")
@@ -166,4 +219,39 @@ three-lines =
     let probes = replicate {A = ℕ} 1024 0 in
     let numbers = replicate {A = ℕ} 512 0 in
     let names = namesBegun (replicate 5120 0) [] in
-    rw (unknown-word flash differences probes numbers names freshModel [], awaited-line flash differences probes numbers names (ascii "line 1: unknown word\n"), ticks-line flash differences probes numbers names (ascii "line 1: unknown word\nawaited 0 0\n"))
+    rw (unknown-word flash differences probes numbers names freshModel [], awaited-line flash differences probes numbers names (ascii "line 1: unknown word\n"), ticks-line flash differences probes numbers names 1 (ascii "line 1: unknown word\nawaited 0 0\n"))
+
+-- A text with the bad line `what` in it, and the text without it: `tick 5` is answered alike, the bad line `x` has another number, and the
+-- last line one bad line less.
+bad-line-there : (replayText [] false (ascii "awaited\nwhat\nx\ntick 5\n")
+    ≡ ascii "awaited 0 0\nline 2: unknown word\nline 3: unknown word\ntick 5\nend 1 calls, 0 refused, 0 unannounced, 2 bad lines, 0 expectations, 0 differ\n")
+    × (replayText [] false (ascii "awaited\nx\ntick 5\n")
+    ≡ ascii "awaited 0 0\nline 2: unknown word\ntick 5\nend 1 calls, 0 refused, 0 unannounced, 1 bad lines, 0 expectations, 0 differ\n")
+unfolding replayText lastPage textLines linesIn withFirst restIn hasLine lastLine eachLine firstPage countsBegun nextPlace lastText lastTexts calls faults counted decimal decimalWidth widthFrom digits glyph joined ascii
+bad-line-there =
+    let flash = replicate {A = ℕ} 8192 0xFF in
+    let differences = replicate {A = ℤ} 4096 (pos 0) in
+    let probes = replicate {A = ℕ} 1024 0 in
+    let numbers = replicate {A = ℕ} 512 0 in
+    let names = namesBegun (replicate 5120 0) [] in
+    let one = ascii "awaited 0 0\n" in
+    let two = ascii "awaited 0 0\nline 2: unknown word\n" in
+    let three = ascii "awaited 0 0\nline 2: unknown word\nline 3: unknown word\n" in
+    rw (awaited-first flash differences probes numbers names []) (
+      rw (what-second flash differences probes numbers names freshModel one, unknown-third flash differences probes numbers names freshModel two, ticks-fourth flash differences probes numbers names three),
+      rw (unknown-second flash differences probes numbers names freshModel one, ticks-line flash differences probes numbers names 0 two),
+    )
+
+-- In a check the heads have other numbers too, and there is no last line.
+bad-line-checked : (replayText (ascii "f") true (ascii "what\nx\n") ≡ ascii "f:1: line 1: unknown word\nf:2: line 2: unknown word\n")
+    × (replayText (ascii "f") true (ascii "x\n") ≡ ascii "f:1: line 1: unknown word\n")
+unfolding replayText lastPage textLines linesIn withFirst restIn hasLine lastLine eachLine firstPage namesBegun written overwrite countsBegun nextPlace lastText ascii
+bad-line-checked =
+    let flash = replicate {A = ℕ} 8192 0xFF in
+    let differences = replicate {A = ℤ} 4096 (pos 0) in
+    let probes = replicate {A = ℕ} 1024 0 in
+    let numbers = replicate {A = ℕ} 512 0 in
+    let rest = replicate {A = ℕ} 5119 0 in (
+      rw (what-checked flash differences probes numbers rest freshModel [], second-checked flash differences probes numbers rest freshModel (ascii "f:1: line 1: unknown word\n")),
+      rw (unknown-checked flash differences probes numbers rest freshModel []),
+    )

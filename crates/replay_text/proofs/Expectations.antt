@@ -97,17 +97,17 @@ module _ (m : ℕ) (line : List ℕ) (p : Page) (few : m < 18446744073709551615)
   before-four = own-left line p long 17 refl (λ e. omega arith) ∙ begun-refused (p .replay .names) c long
 
   -- "A bad line has no expectation"
-  bad-none : isBad line p ≡ true → isNotBad own ≡ false
+  pub bad-none : isBad line p ≡ true → isNotBad own ≡ false
   bad-none bad =
       let more : getD own 6 0 ≡ getD c 6 0 + 1 = rw bad at six in
       ne-eqb (getD own 6 0) (getD own 18 0) (λ e. omega (arith, more, before-six, e))
 
-  good-some : isBad line p ≡ false → isNotBad own ≡ true
+  pub good-some : isBad line p ≡ false → isNotBad own ≡ true
   good-some good =
       let same : getD own 6 0 ≡ getD c 6 0 + 0 = rw good at six in
       eq-eqb (getD own 6 0) (getD own 18 0) (omega (arith, same, before-six))
 
-  shown-is : answer ≡ answerShown line p
+  pub shown-is : answer ≡ answerShown line p
   unfolding shownAnswer
   shown-is =
       let same : getD own 14 0 ≡ getD c 14 0
@@ -143,7 +143,7 @@ module _ (m : ℕ) (line : List ℕ) (p : Page) (few : m < 18446744073709551615)
       (λ call. rw (good, call, call-words (read .content) (read .numbers) (p .replay .state .model) call .0))
       (λ other. rw (good, other) (omega arith))))
 
-  line-differences : inLine 8 line p ≡ differences line p
+  pub line-differences : inLine 8 line p ≡ differences line p
   unfolding inLine inOwn differences
   line-differences =
       let read = readOn line p in
@@ -212,7 +212,7 @@ module _ (m : ℕ) (line : List ℕ) (p : Page) (few : m < 18446744073709551615)
           none true false = refl
           none false u = refl
 
-  line-unannounced : inLine 5 line p ≡ cond (isUnannounced line p) 1 0
+  pub line-unannounced : inLine 5 line p ≡ cond (isUnannounced line p) 1 0
   unfolding inLine
   line-unannounced = rw (none-own, refusal-counted) (omega arith)
 

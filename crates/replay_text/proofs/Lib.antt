@@ -32,4 +32,6 @@ pub mod BadLines
 pub mod Below
 pub mod Expectations
 pub mod LastLine
+pub mod Added
+pub mod BadAside
 pub mod Examples

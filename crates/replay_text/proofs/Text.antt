@@ -1,8 +1,8 @@
--- A text with a bad line in it. Assumes nothing.
-use Prim.Native.Nat.{ℕ, _+_, _≤_, _<_, min}
+-- What a line adds to a text and to its counts, bad or not. Assumes nothing.
+use Prim.Native.Nat.{ℕ, _+_, min}
 use mathlib.Core.Path.{_≡_, refl, sym, ap, _∙_}
-use mathlib.Core.Bool.{Bool, true, false, cond}
-use mathlib.Core.List.{List, [], _∷_, _++_}
+use mathlib.Core.Bool.{true, false, cond}
+use mathlib.Core.List.{List}
 use native.Mathlib.Omega.{arith}
 use lib.ListN.{length, getD, set}
 use lib.Seq.{getD-set-other}
@@ -11,23 +11,19 @@ use Rattle.unit.proofs.Cases.{by-test}
 use Rattle.numeral.specs.Place.{joined}
 use Rattle.line.specs.declared.Content.{Content}
 use Rattle.line.specs.Line.{Reading, lineReading}
-use Rattle.line_buffer.specs.Lines.{eachLine}
-use Rattle.line_buffer.proofs.Pieces.{each-append}
-use Rattle.wording.specs.Wording.{fault}
 use Rattle.item_state.specs.Log.{added}
 use Rattle.item_checks.specs.Fault.{isFault, leftOf}
 use Rattle.item_checks.specs.Open.{isItem}
 use Rattle.item_checks.specs.Close.{expectedOf, isNotBad}
 use Rattle.answer_text.specs.Texts.{callTold, questionTold, analysisTold}
 use Rattle.answer_text.specs.Line.{lineTold}
-use Rattle.session.specs.Ends.{countsBegun}
 use Rattle.line_text.specs.Text.{headOf, faultTold, itemTold, closedCounts, judgedText, shownAnswer, closedText, toldText, toldCounts}
 use Rattle.line_text.proofs.Apart.{count-elsewhere}
-use Rattle.replay_text.specs.Replay.{tickLines, toldBy, opening, ownWhole, Page, contentPage, pageLine, firstPage}
+use Rattle.replay_text.specs.Replay.{tickLines, toldBy, opening, ownWhole, Page, contentPage, pageLine}
 use Rattle.replay_text.specs.LastLine.{countsOf, lineOwn, isBad}
 use Rattle.replay_text.proofs.Alike.{isCounted, own-same, closed-same}
 use Rattle.replay_text.proofs.Counts.{alike-self, counted-apart, begun-alike, begun-line, begun-bad, begun-fault, no-head}
-use Rattle.replay_text.proofs.Bad.{contentAdds, lineAdds, linesAdd, lines-add, AlikeButLines, Counting, bad-line-alike, bad-line-counted, bad-line-text, line-alike, line-same}
+use Rattle.replay_text.proofs.Bad.{contentAdds, lineAdds, AlikeButLines, Counting, bad-line-alike, bad-line-counted, line-alike}
 
 -- ---- what a line that is not bad leaves of the counts
 
@@ -59,7 +55,7 @@ module _ (n v : ℕ) (other : isCounted n ≡ false) where
       } (p .replay .state)
       (headOf (p .replay) .counts) (headOf (p .replay) .counts) (refl, e) good good .1
 
-  closed-keeps : (expected : List (List ℕ)) (c answer : List ℕ) → getD c n 0 ≡ v → getD (closedCounts expected c answer) n 0 ≡ v
+  pub closed-keeps : (expected : List (List ℕ)) (c answer : List ℕ) → getD c n 0 ≡ v → getD (closedCounts expected c answer) n 0 ≡ v
   closed-keeps expected c answer e =
       closed-same Keeps keeps-same keeps-set (λ c c′ r. ap isNotBad (r .0)) (λ c c′ r. ap (λ (l : List ℕ). getD l 17 0) (r .0)) expected c c answer (refl, e) .1
 
@@ -158,91 +154,3 @@ line-counted line p counting =
     let same = line-alike line p p (page-self line p (counting .long)) good in
     let more = good-counted line p (counting .long) good in
     record { long = same .counts .long; lines = more .0; bad = rw good (omega (arith, more .1)); check = more .2 })
-
--- ---- lines that are not bad
-
-abbrev pub NoneBad : List (List ℕ) → Page → Type 0
-NoneBad [] p = Unit
-NoneBad (l ∷ ls) p = (isBad l p ≡ false) × NoneBad ls (pageLine l p)
-
--- They leave pages alike that are so but for the lines before them, and outside a check they add the same text.
-pub lines-alike : (ls : List (List ℕ)) (p q : Page) → AlikeButLines p q → NoneBad ls p → AlikeButLines (eachLine pageLine ls p) (eachLine pageLine ls q)
-unfolding eachLine
-lines-alike [] p q a none = a
-lines-alike (l ∷ ls) p q a none = lines-alike ls (pageLine l p) (pageLine l q) (line-alike l p q a (none .0)) (none .1)
-
-pub lines-same : (ls : List (List ℕ)) (p q : Page) → AlikeButLines p q → getD (countsOf p) 14 0 ≡ 0 → NoneBad ls p → linesAdd ls p ≡ linesAdd ls q
-unfolding linesAdd
-lines-same [] p q a outside none = refl
-lines-same (l ∷ ls) p q a outside none =
-    let first = line-same l p q a (none .0) outside in
-    let still : getD (countsOf (pageLine l p)) 14 0 ≡ 0 = good-counted l p (a .counts .long) (none .0) .2 ∙ outside in
-    let rest = lines-same ls (pageLine l p) (pageLine l q) (line-alike l p q a (none .0)) still (none .1) in
-    rw (first, rest)
-
--- ---- a bad line and lines behind it
-
--- What lines that are not bad add behind a bad one is what they add without it.
-pub behind-bad-line : (line : List ℕ) (ls : List (List ℕ)) (p : Page) → Counting p → getD (countsOf p) 14 0 ≡ 0
-    → getD (countsOf p) 2 0 < 18446744073709551615 → isBad line p ≡ true → NoneBad ls p
-    → linesAdd (line ∷ ls) p ≡ joined (fault (getD (countsOf p) 2 0 + 1) (lineReading (p .numbers) line .content)) ++ linesAdd ls p
-unfolding linesAdd
-behind-bad-line line ls p counting outside few bad none =
-    rw (bad-line-text line p counting bad outside few, lines-same ls p (pageLine line p) (bad-line-alike line p counting bad) outside none)
-
--- ---- a whole text
-
--- After some lines of a text: their number, no more bad ones than that, and no check.
-record Reached (k : ℕ) (p : Page) : Type 0 where
-  long : length (countsOf p) ≡ 22
-  lines : getD (countsOf p) 2 0 ≡ k
-  bad : getD (countsOf p) 6 0 ≤ k
-  check : getD (countsOf p) 14 0 ≡ 0
-
-at-most-one : (t : Bool) → cond t 1 0 ≤ 1
-at-most-one true = omega arith
-at-most-one false = omega arith
-
-reached-next : (k : ℕ) (line : List ℕ) (p : Page) → k < 18446744073709551615 → Reached k p → Reached (k + 1) (pageLine line p)
-reached-next k line p few r =
-    let counting : Counting p = record { long = r .long; few = omega (arith, r .bad) } in
-    let c = line-counted line p counting in
-    record {
-      long = c .long;
-      lines = c .lines ∙ omega (arith, r .lines);
-      bad = omega (arith, c .bad, r .bad, at-most-one (isBad line p));
-      check = c .check ∙ r .check;
-    }
-
-reached-all : (ls : List (List ℕ)) (k : ℕ) (p : Page) → k + length ls < 18446744073709551615 → Reached k p → Reached (k + length ls) (eachLine pageLine ls p)
-unfolding eachLine
-reached-all [] k p few r = let e : k + 0 ≡ k = omega arith in rw e r
-reached-all (l ∷ ls) k p few r =
-    let e : k + length (l ∷ ls) ≡ k + 1 + length ls = omega arith in
-    rw e (reached-all ls (k + 1) (pageLine l p) (omega (arith, few)) (reached-next k l p (omega (arith, few)) r))
-
-first-reached : (path : List ℕ) → Reached 0 (firstPage path false)
-unfolding firstPage countsBegun
-first-reached path = record { long = refl; lines = refl; bad = omega arith; check = refl }
-
--- A text of some lines, a bad line and lines that are not bad is answered as without the bad line, but for its number and the reason in
--- between.
-pub bad-line-aside : (path : List ℕ) (before : List (List ℕ)) (line : List ℕ) (after : List (List ℕ)) → length before < 18446744073709551615
-    → let start = firstPage path false in
-    let p = eachLine pageLine before start in
-    isBad line p ≡ true → NoneBad after p
-    → (eachLine pageLine (before ++ after) start .text ≡ p .text ++ linesAdd after p)
-    × (eachLine pageLine (before ++ (line ∷ after)) start .text
-    ≡ p .text ++ (joined (fault (length before + 1) (lineReading (p .numbers) line .content)) ++ linesAdd after p))
-bad-line-aside path before line after few bad none =
-    let start = firstPage path false in
-    let p = eachLine pageLine before start in
-    let r = reached-all before 0 start (omega (arith, few)) (first-reached path) in
-    let number : getD (countsOf p) 2 0 ≡ length before = r .lines ∙ omega arith in
-    let counting : Counting p = record { long = r .long; few = omega (arith, r .bad, few) } in (
-      ap (λ (q : Page). q .text) (each-append pageLine before after start) ∙ lines-add after p,
-      ap (λ (q : Page). q .text) (each-append pageLine before (line ∷ after) start)
-          ∙ (lines-add (line ∷ after) p
-          ∙ (ap (λ (t : List ℕ). p .text ++ t) (behind-bad-line line after p counting (r .check) (omega (arith, number, few)) bad none)
-          ∙ ap (λ (k : ℕ). p .text ++ (joined (fault (k + 1) (lineReading (p .numbers) line .content)) ++ linesAdd after p)) number)),
-    )

@@ -1,12 +1,11 @@
 -- What the page's digits mean: they read back as what the registers hold, as the time, and as the date. Assumes nothing.
-use Prim.Native.Nat.{ℕ, _+_, _-_, _*_, _/_, _%_, _^_, _≤_, _<_}
+use Prim.Native.Nat.{ℕ, _+_, _*_, _/_, _%_, _^_, _≤_, _<_}
 use mathlib.Core.Bool.{true, false, cond}
 use mathlib.Core.List.{List, [], _∷_, _++_, map}
 use mathlib.Core.Path.{_≡_, refl, _∙_}
 use native.Mathlib.Omega.{arith}
 use lib.Dec.{ltb}
-use lib.ListN.{length, take, drop, getD, replicate, length-replicate}
-use lib.Seq.{drop-at}
+use lib.ListN.{length, take, getD}
 use borrow.Author.Tests.{le-ltb, eq-eqb, ne-eqb}
 use Rattle.unit.specs.Bits.{bits}
 use Rattle.unit.proofs.Cases.{by-test, by-ltb}
@@ -19,11 +18,10 @@ use Rattle.numeral.specs.declared.Number.the-variants.{Value}
 use Rattle.numeral.specs.Digit.{digits, glyph, valueOf}
 use Rattle.numeral.specs.Place.{joined, overwrite, putEach}
 use Rattle.numeral.specs.Read.{readHex, readDecimal}
-use Rattle.numeral.specs.Print.{decimal, tenThousandths, nanoseconds, signedNanoseconds, Nearest}
+use Rattle.numeral.specs.Print.{decimal, tenThousandths, Nearest}
 use Rattle.numeral.proofs.DigitLaws.{hex-reads-back}
 use Rattle.numeral.proofs.PlaceLaws.{put-each}
 use Rattle.numeral.proofs.PrintLaws.{decimal-reads-back, rounded, four-decimals-value}
-use Rattle.listing.specs.Listing.{rightJustified}
 use Rattle.device.specs.declared.Model.{Model}
 use Rattle.device.specs.Model.{isSound}
 use Rattle.device.specs.Registers.{calendarWord, registerWord}
@@ -35,7 +33,7 @@ use Rattle.item_state.specs.Told.{toldValue, readWord}
 use Rattle.page.specs.Row.{registerRow, pairRow, storedRow, absentRow, absentPair, plural}
 use Rattle.page.specs.Clock.{seconds, hours, timeOfDay, halfDay, secondsRow, timeRow, dayRow, monthRow, dateTexts, clockRow, alarmRow, clockRows}
 use Rattle.page.specs.Setup.{tof1Row, tof2Row, timing1Row, timing2Row, controlRow, oscillatorRow, setupRows, moreSetupRows}
-use Rattle.page.specs.Results.{pairWord, time, signedTime, resultRow, portRow, differenceRow, meanRow, countRow, upRows, downRows, differenceRows, portRows, takesTwo, statusRows, lastRows}
+use Rattle.page.specs.Results.{pairWord, resultRow, portRow, differenceRow, meanRow, countRow, upRows, downRows, differenceRows, portRows, takesTwo, statusRows, lastRows}
 use Rattle.page.specs.Page.{page, pageTexts}
 
 -- Where the buffer has room for the page, its bytes stand there as one, from the place on, and nothing else is touched.
@@ -58,17 +56,17 @@ pair-back label w meaning h = (
 )
 
 -- The rows of single registers, from 0, and their addresses, but for those behind the status, which takes one row or two.
-abbrev rowsOfOne : List ℕ
+abbrev pub rowsOfOne : List ℕ
 rowsOfOne = 1 ∷ 2 ∷ 3 ∷ 4 ∷ 6 ∷ 7 ∷ 9 ∷ 10 ∷ 11 ∷ 12 ∷ 13 ∷ 14 ∷ 15 ∷ 16 ∷ 17 ∷ 18 ∷ 19 ∷ 20 ∷ 21 ∷ 22 ∷ 24 ∷ 32 ∷ 41 ∷ 47 ∷ []
 
-abbrev addressesOfOne : List ℕ
+abbrev pub addressesOfOne : List ℕ
 addressesOfOne = 0xB0 ∷ 0xB1 ∷ 0xB2 ∷ 0xB3 ∷ 0xB4 ∷ 0xB5 ∷ 0xB6 ∷ 0xB7 ∷ 0xB8 ∷ 0xB9 ∷ 0xBA ∷ 0xBB ∷ 0xBC ∷ 0xBD ∷ 0xBE ∷ 0xBF ∷ 0xC0 ∷ 0xC1 ∷ 0xC2 ∷ 0xC3 ∷ 0xC4 ∷ 0xD3 ∷ 0xE4 ∷ 0xEF ∷ []
 
 -- The rows of pairs, and the addresses of their Int registers.
-abbrev rowsOfTwo : List ℕ
+abbrev pub rowsOfTwo : List ℕ
 rowsOfTwo = 25 ∷ 26 ∷ 27 ∷ 28 ∷ 29 ∷ 30 ∷ 31 ∷ 33 ∷ 34 ∷ 35 ∷ 36 ∷ 37 ∷ 38 ∷ 39 ∷ 40 ∷ 42 ∷ 43 ∷ 44 ∷ 45 ∷ 46 ∷ 48 ∷ 49 ∷ 50 ∷ 51 ∷ 52 ∷ 53 ∷ 54 ∷ []
 
-abbrev addressesOfTwo : List ℕ
+abbrev pub addressesOfTwo : List ℕ
 addressesOfTwo = 0xC5 ∷ 0xC7 ∷ 0xC9 ∷ 0xCB ∷ 0xCD ∷ 0xCF ∷ 0xD1 ∷ 0xD4 ∷ 0xD6 ∷ 0xD8 ∷ 0xDA ∷ 0xDC ∷ 0xDE ∷ 0xE0 ∷ 0xE2 ∷ 0xE5 ∷ 0xE7 ∷ 0xE9 ∷ 0xEB ∷ 0xED ∷ 0xF0 ∷ 0xF2 ∷ 0xF4 ∷ 0xF6 ∷ 0xF8 ∷ 0xFA ∷ 0xFC ∷ []
 
 -- Each begins with its address, or its two addresses,
@@ -108,16 +106,7 @@ word-read m a s h k = rw (s, le-ltb a 0xB0 h, le-ltb 0xFF a k)
 
 -- ---- times
 
--- Behind its blanks a time is the number of nanoseconds,
-pub time-text : (w : ℕ) → drop (14 - length (nanoseconds w)) (getD (time w) 0 []) ≡ nanoseconds w
-unfolding time rightJustified
-time-text w = drop-at (replicate (14 - length (nanoseconds w)) 32) (nanoseconds w) (14 - length (nanoseconds w)) (length-replicate (14 - length (nanoseconds w)) 32)
-
-pub signed-text : (w : ℕ) → drop (14 - length (signedNanoseconds w)) (getD (signedTime w) 0 []) ≡ signedNanoseconds w
-unfolding signedTime rightJustified
-signed-text w = drop-at (replicate (14 - length (signedNanoseconds w)) 32) (signedNanoseconds w) (14 - length (signedNanoseconds w)) (length-replicate (14 - length (signedNanoseconds w)) 32)
-
--- whose digits around the point are ten-thousandths, the nearest number of them.
+-- The digits of a time around the point are ten-thousandths of a nanosecond, the nearest number of them.
 pub time-back : (w : ℕ) → w < 4294967296
     → (valueOf 10 0 (decimal (tenThousandths w / 10000) ++ digits 10 4 (tenThousandths w % 10000)) ≡ tenThousandths w) × Nearest w (tenThousandths w)
 unfolding tenThousandths
@@ -139,7 +128,7 @@ low-parts h t o x p q e =
     let whole : x / 16 ≡ h * 16 + t = omega arith in
     (rw whole (omega arith), omega arith)
 
-high-part : (b l x : ℕ) → l < 256 → x ≡ b * 256 + l → x / 256 ≡ b
+pub high-part : (b l x : ℕ) → l < 256 → x ≡ b * 256 + l → x / 256 ≡ b
 high-part b l x h e = omega arith
 
 full-parts : (b l x : ℕ) → l < 64 → x ≡ b * 256 + l → (x % 64 ≡ l) × (x / 64 % 2 ≡ 0) × (x / 32 % 4 ≤ 1)
@@ -155,14 +144,14 @@ half-parts b p d x h k e =
     (omega arith, rw quarter (omega arith), rw eighth (omega arith))
 
 -- a byte of BCD prints as the number's digits
-two-of : (h n x : ℕ) → n ≤ 99 → x ≡ h * 256 + (n / 10 * 16 + n % 10) → digits 16 2 x ≡ two n
+pub two-of : (h n x : ℕ) → n ≤ 99 → x ≡ h * 256 + (n / 10 * 16 + n % 10) → digits 16 2 x ≡ two n
 two-of h n x few e =
     let tens : n / 10 ≡ n / 10 % 10 = omega arith in
     let parts = low-parts h (n / 10) (n % 10) x (omega arith) (omega arith) e in
     same-digits x n (parts .0 ∙ tens) (parts .1)
 
 -- so does the high byte
-two-above : (n l x : ℕ) → n ≤ 99 → l < 256 → x ≡ (n / 10 * 16 + n % 10) * 256 + l → digits 16 2 (x / 256) ≡ two n
+pub two-above : (n l x : ℕ) → n ≤ 99 → l < 256 → x ≡ (n / 10 * 16 + n % 10) * 256 + l → digits 16 2 (x / 256) ≡ two n
 two-above n l x few h e = two-of 0 n (x / 256) few (high-part (n / 10 * 16 + n % 10) l x h e ∙ omega arith)
 
 nothing-above : (x : ℕ) → x ≡ 0 * 256 + x
@@ -185,7 +174,7 @@ half-byte h k = omega arith
 
 -- The words of a valid clock, c.
 module _ (c : Clock) (v : clockValid c ≡ true) where
-  seconds-text : seconds (word30 c) ≡ two (c .second) ∷ ascii "." ∷ two (c .ticks .0 * 100 / 32768) ∷ []
+  pub seconds-text : seconds (word30 c) ≡ two (c .second) ∷ ascii "." ∷ two (c .ticks .0 * 100 / 32768) ∷ []
   unfolding seconds
   seconds-text =
       let b = bounds c v in
@@ -193,7 +182,7 @@ module _ (c : Clock) (v : clockValid c ≡ true) where
       let h : ℕ = c .ticks .0 * 100 / 32768 in
       rw (two-of (bcdOf h) (c .second) (word30 c) (omega arith) (omega arith), two-above h (bcdOf (c .second)) (word30 c) (omega arith) (omega arith) (omega arith))
 
-  date-text : dateTexts (word32 c) (word33 c) ≡ ascii "20" ∷ two (c .year) ∷ ascii "-" ∷ two (c .month) ∷ ascii "-" ∷ two (c .date) ∷ ascii " " ∷ []
+  pub date-text : dateTexts (word32 c) (word33 c) ≡ ascii "20" ∷ two (c .year) ∷ ascii "-" ∷ two (c .month) ∷ ascii "-" ∷ two (c .date) ∷ ascii " " ∷ []
   unfolding dateTexts
   date-text =
       let b = bounds c v in
@@ -212,7 +201,7 @@ module _ (c : Clock) (v : clockValid c ≡ true) where
       let whole = high-part (bcdOf (c .minute)) l (word31 c) h e in
       two-of 0 (c .minute) (bits 14 8 (word31 c)) (omega arith) (rw whole (omega arith))
 
-  full-time-text : c .twelve ≡ false → (timeOfDay (word31 c) ≡ two (c .hour) ∷ ascii ":" ∷ two (c .minute) ∷ []) × (halfDay (word31 c) ≡ [])
+  pub full-time-text : c .twelve ≡ false → (timeOfDay (word31 c) ≡ two (c .hour) ∷ ascii ":" ∷ two (c .minute) ∷ []) × (halfDay (word31 c) ≡ [])
   unfolding timeOfDay halfDay hours twelveIn
   full-time-text form =
       let b = bounds c v in
@@ -227,7 +216,7 @@ module _ (c : Clock) (v : clockValid c ≡ true) where
         rw (ne-eqb (bits 6 5 (word31 c)) 2 (λ h. omega (arith, parts .2)), ne-eqb (bits 6 5 (word31 c)) 3 (λ h. omega (arith, parts .2))),
       )
 
-  half-time-text :
+  pub half-time-text :
       c .twelve ≡ true →
       (timeOfDay (word31 c) ≡ two ((c .hour + 11) % 12 + 1) ∷ ascii ":" ∷ two (c .minute) ∷ []) ×
       (halfDay (word31 c) ≡ cond (ltb (c .hour) 12) (ascii " AM") (ascii " PM") ∷ [])

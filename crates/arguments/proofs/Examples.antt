@@ -10,7 +10,7 @@ use Rattle.numeral.specs.Read.{readDecimal, valueIn}
 use Rattle.line.specs.Words.{sameBytes}
 use Rattle.arguments.specs.declared.Options.{Options}
 use Rattle.arguments.specs.declared.Reading.{Reading}
-use Rattle.arguments.specs.Arguments.{begins, firstNumber, fromFirst, fromDashes, fromFiles, fromOf, optionsOf}
+use Rattle.arguments.specs.Arguments.{begins, firstNumber, fromFirst, fromDashes, fromFiles, fromOf, optionsOf, isSeveral}
 use Rattle.arguments.specs.Reading.{begun, filesRead, ofRead, checkRead, readEach, isOpen, asked}
 
 unfoldable words : List String → List (List ℕ)
@@ -165,3 +165,16 @@ one-by-one : (asked (read ("--check" ∷ "--of" ∷ "12" ∷ "--files" ∷ "l" �
     × (asked (read ("a" ∷ [])) 6 ≡ asks false 0 0 1 5)
 unfolding read asked
 one-by-one = (refl, refl, refl)
+
+-- ---- several files
+
+-- One file by itself and standard input have no summary; two files have one, and so has a list, and every check.
+several : (isSeveral (asks false 0 0 1 0) ≡ false)
+    × (isSeveral (asks false 0 0 1 1) ≡ false)
+    × (isSeveral (asks false 0 0 1 2) ≡ true)
+    × (isSeveral (asks false 0 2 3 0) ≡ true)
+    × (isSeveral (asks false 12 2 3 1) ≡ true)
+    × (isSeveral (asks true 0 0 2 0) ≡ true)
+    × (isSeveral (asks true 0 0 2 1) ≡ true)
+unfolding isSeveral
+several = (refl, refl, refl, refl, refl, refl, refl)

@@ -7,6 +7,7 @@
 use Prim.Native.Nat.{ℕ, _+_}
 use mathlib.Core.Bool.{Bool, true, false, cond}
 use mathlib.Core.List.{List, [], _∷_}
+use lib.Dec.{eqb, ltb}
 use lib.ListN.{length, drop}
 use Rattle.numeral.specs.declared.Number.{Number}
 use Rattle.numeral.specs.declared.Number.the-variants.{Value, Bad}
@@ -55,3 +56,8 @@ fromOf check place ws = cond (begins (ascii "--of") ws) (fromFiles check (firstN
 -- Before that `--check` may stand, as the first word.
 unfoldable pub optionsOf : List (List ℕ) → Options
 optionsOf ws = cond (begins (ascii "--check") ws) (fromOf true 2 (drop 1 ws)) (fromOf false 1 ws)
+
+-- "Of several files, .. and with `--check` .. a summary closes the run"; of a list of files too. One file by itself, and standard input where
+-- no file is named, have neither heading nor summary.
+unfoldable pub isSeveral : Options → Bool
+isSeveral o = cond (o .check) true (cond (eqb (o .list) 0) (ltb 1 (o .files)) true)

@@ -8,6 +8,7 @@ mod places;
 mod words;
 
 pub use places::asked;
+pub use places::is_several;
 pub use words::begin;
 pub use words::is_open;
 pub use words::next;

@@ -5,6 +5,7 @@ use crate::Reading;
 ghost use Prim.Native.Nat.{_-_, _≤_};
 ghost use mathlib.Core.Path.{_≡_};
 ghost use Rattle.arguments.specs.Reading.{asked as Reading·asked, taken, filesPlace, listPlace, firstPlace};
+ghost use Rattle.arguments.specs.Arguments.{isSeveral};
 
 // What the words that were read ask for, where there are n arguments, the program's name among them.
 pub fn asked(r: Reading, n: usize) -> Options
@@ -31,6 +32,19 @@ fn list_place(f: Found) -> usize
     ensures { λ r. ⌜ r ≡ listPlace f ⌝ }
 {
     if f.listed { files_place(f) + 1 } else { 0 }
+}
+
+// Whether headings and a summary are asked for.
+pub fn is_several(o: Options) -> bool
+    ensures { λ r. ⌜ r ≡ isSeveral o ⌝ }
+{
+    if o.check {
+        return true;
+    }
+    if o.list != 0 {
+        return true;
+    }
+    1 < o.files
 }
 
 // The place at which `--files` stands, if it is there.

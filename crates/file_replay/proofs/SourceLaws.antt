@@ -1,18 +1,23 @@
 -- Names that are sought in a list, step by step. Assumes nothing.
 use Prim.Native.Nat.{ℕ, zero, suc, _+_, _-_, _<_}
-use mathlib.Core.Bool.{true, false, cond}
+use mathlib.Core.Bool.{true, false, cond, true≢false}
 use mathlib.Core.List.{List, [], _∷_, _++_}
-use mathlib.Core.Path.{_≡_, refl, _∙_}
+use mathlib.Core.Path.{_≡_, refl, sym, ap, subst, _∙_}
 use native.Mathlib.Omega.{arith}
 use lib.Dec.{eqb}
+use lib.IntN.{ℤ, pos, negsuc}
+use lib.Signed.{ltZ}
+use mir.Syntax.{w64}
+use mir.Val.{ofZ, toZ}
 use lib.ListN.{length, take, drop}
-use borrow.Author.Tests.{eq-eqb, ne-eqb}
+use borrow.Author.Tests.{eq-eqb, ne-eqb, ltb-true}
+use Rattle.io.specs.Counts.{clamped}
 use Rattle.unit.proofs.Cases.{by-eqb}
 use Rattle.line_buffer.specs.Lines.{hasLine}
 use Rattle.file_names.specs.Names.{Passed, Begun, Sought}
 use Rattle.file_names.proofs.Laws.{passed-none, passed-then, passed-piece, none-held, some-held, begun-none}
 use Rattle.file_replay.specs.declared.names.Source.{Source}
-use Rattle.file_replay.specs.Sources.{unused, NextArgument, Stands, FromList, line, last, ended, broken, Step, over, on, StepFrom, Ended}
+use Rattle.file_replay.specs.Sources.{unused, NextArgument, Stands, FromList, line, last, ended, broken, Step, over, on, StepFrom, Ended, AfterRead}
 
 -- ---- one behind the other
 
@@ -58,6 +63,44 @@ module _ {path : List ℕ} {n : ℕ} {start : List ℕ} (begun : Begun path n st
   pub step-read : {next left : ℕ} {r : Source} (bytes′ : List ℕ) → Stands next left true 0 r → r .length ≡ n
       → Step (length path) next left start [] r bytes′ path
   step-read bytes′ s long = on s (bytes′ ∷ []) start (passed-piece nothing bytes′) (rw long begun)
+
+-- Whatever the system tells of more bytes.
+pub step-after : (got : ℤ) (room : ℕ) {path : List ℕ} {held next left : ℕ} {r : Source} (bytes′ : List ℕ) {path′ : List ℕ}
+    → AfterRead got next left held room path r path′ → StepFrom path held next left [] r bytes′ path′
+unfolding AfterRead
+step-after (negsuc k) room bytes′ a start begun = step-broken begun a
+step-after (pos zero) room bytes′ a start begun = step-ended begun a
+step-after (pos (suc n)) room bytes′ a start begun =
+    rw (a .4) (step-read begun bytes′ (a .0) (a .3))
+
+-- By the tests of the code it told a failure,
+pub after-failed : (got : ℤ) {next left : ℕ} {r : Source} (held room : ℕ) (path path′ : List ℕ) → toZ w64 (ofZ w64 got) ≡ got
+    → ltZ (toZ w64 (ofZ w64 got)) (pos 0) ≡ true → Stands next left false 2 r → AfterRead got next left held room path r path′
+unfolding AfterRead
+after-failed got {next} {left} {r} held room path path′ same low s = go got (subst (λ (z : ℤ). ltZ z (pos 0) ≡ true) same low)
+  where
+    go : (z : ℤ) → ltZ z (pos 0) ≡ true → AfterRead z next left held room path r path′
+    go (pos n) low = absurd (omega (arith, ltb-true n 0 low))
+    go (negsuc n) low = s
+
+-- the end,
+pub after-ended : (got : ℤ) {next left held : ℕ} {r : Source} (room : ℕ) {path path′ : List ℕ} → toZ w64 (ofZ w64 got) ≡ got → ofZ w64 got ≡ 0
+    → Ended next left held path r path′ → AfterRead got next left held room path r path′
+unfolding AfterRead
+after-ended got room same none e = let zero : got ≡ pos 0 = sym same ∙ ap (toZ w64) none in rw zero e
+
+-- or some bytes.
+pub after-more : (got : ℤ) {next left held : ℕ} (n room : ℕ) {r : Source} (path : List ℕ) → toZ w64 (ofZ w64 got) ≡ got → ¬ (ofZ w64 got ≡ 0)
+    → ltZ (toZ w64 (ofZ w64 got)) (pos 0) ≡ false → n ≡ clamped (toZ w64 (ofZ w64 got)) room → Stands next left true 0 r → r .at ≡ 0 → r .end ≡ n
+    → r .length ≡ held → AfterRead got next left held room path r path
+unfolding AfterRead
+after-more got {next} {left} {held} n room {r} path same some low count s at end long =
+    go got some (subst (λ (z : ℤ). ltZ z (pos 0) ≡ false) same low) (count ∙ ap (λ (z : ℤ). clamped z room) same)
+  where
+    go : (z : ℤ) → ¬ (ofZ w64 z ≡ 0) → ltZ z (pos 0) ≡ false → n ≡ clamped z room → AfterRead z next left held room path r path
+    go (pos zero) some low count = absurd (some refl)
+    go (pos (suc m)) some low count = (s, at, end ∙ count, long, refl)
+    go (negsuc m) some low count = absurd (true≢false low)
 
 -- All bytes are used without a name.
 module _ {start first path′ : List ℕ} {n room : ℕ} (s : Source) (part : List ℕ) (e : first ≡ take (s .end) part)

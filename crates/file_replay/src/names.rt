@@ -10,7 +10,7 @@ ghost use lib.ListN.{length};
 ghost use mathlib.Core.Bool.{true, false};
 ghost use mathlib.Core.List.{[]};
 ghost use mathlib.Core.Path.{_≡_};
-ghost use Rattle.file_replay.specs.Sources.{isThere, unused, Stands, NextArgument, FromList, StepFrom, Ended};
+ghost use Rattle.file_replay.specs.Sources.{isThere, unused, Stands, NextArgument, FromList, StepFrom, Ended, AfterRead};
 
 // Where the next name comes from, and the one that was found last.
 pub struct Source {
@@ -198,6 +198,14 @@ fn read_on(s: Source, length: usize, part: &mut [u8], path: &mut [u8]) -> Source
     ensures { λ r. ⌜ StepFrom (now (path .entry)) length (s .next) (s .left) [] r (unused r (now (part .exit))) (now (path .exit)) ⌝ }
 {
     let got = libc::read(s.fd, part);
+    after_read(s, got, length, part, path)
+}
+
+// The source once the system has told how many bytes of the list it put into the buffer: none at its end, and -1 where it can't be
+// read. So many bytes of a name are held.
+fn after_read(s: Source, got: isize, held: usize, part: &[u8], path: &mut [u8]) -> Source
+    ensures { λ r. ⌜ AfterRead got (s .next) (s .left) held (length (now (part .entry))) (now (path .entry)) r (now (path .exit)) ⌝ }
+{
     if got < 0 {
         os::fail(b"--files");
         libc::close(s.fd);
@@ -205,9 +213,9 @@ fn read_on(s: Source, length: usize, part: &mut [u8], path: &mut [u8]) -> Source
     }
     if got == 0 {
         libc::close(s.fd);
-        return list_ended(s, length, path);
+        return list_ended(s, held, path);
     }
-    in_list(s, 0, io::count(got, part), SEEKING, length)
+    in_list(s, 0, io::count(got, part), SEEKING, held)
 }
 
 // The list's last name may lack the line feed.

@@ -1,10 +1,10 @@
 // Several files: each is replayed, and a summary closes the run.
 use crate::names;
 use crate::names::Source;
-use arguments::Options;
 use crate::progress;
 use crate::single::not_read;
 use crate::single::replay_file;
+use arguments::Options;
 use collection::Outcome;
 use collection::Tally;
 use item_state::output::first_bytes;

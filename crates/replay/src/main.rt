@@ -10,13 +10,8 @@
 mod options;
 
 fn main() {
-    let n = os::arg_count();
-    let o = options::given(n);
-    if o.check {
-        file_replay::replay_several(o);
-        return;
-    }
-    if o.list != 0 {
+    let o = options::given(os::arg_count());
+    if arguments::is_several(o) {
         file_replay::replay_several(o);
         return;
     }
@@ -24,9 +19,5 @@ fn main() {
         file_replay::replay_input();
         return;
     }
-    if o.files == 1 {
-        file_replay::replay_argument(o.first);
-        return;
-    }
-    file_replay::replay_several(o);
+    file_replay::replay_argument(o.first);
 }

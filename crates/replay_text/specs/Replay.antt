@@ -1,5 +1,6 @@
--- A replay: from the text that is read to the text that is written, by the rules of docs/ITEMS.md. No buffer of answers and no piece of
--- the input is in it. What stands in quotation marks is that of docs/ITEMS.md. Assumes nothing.
+-- A replay: from the text that is read to the text that is written, by the rules of docs/ITEMS.md. No piece of the input is in it, and
+-- what is written goes through no buffer of answers. (What a line leaves of the model and beside it is `lineDone` of session, which also puts
+-- the line's answer into a buffer: here into one without places, of which nothing is used.) What stands in quotation marks is that of docs/ITEMS.md. Assumes nothing.
 --
 -- The names are a list of 5,120 places: the file's path from the first on, the item's name from the place 4,096 on. The program hands
 -- over no path of more than 4,096 bytes; of a longer one, the item's name would take the places from 4,096 on.

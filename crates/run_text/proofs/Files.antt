@@ -58,13 +58,18 @@ module _ (name : List ℕ) (check : Bool) {came : Outcome} (r : Replayed name ch
       (λ all. written-so all ∙ rw all (replay-written name check r all))
       (λ part. written-so part ∙ rw (part, append-nil (eachLine pageLine (linesIn (wholeText (r .pieces))) (firstPage name check) .text)) (replay-broken-written name check r few part))
 
+  abbrev countedAs : Bool → Outcome
+  countedAs t =
+      let bytes = wholeText (r .pieces) in
+      outcomeOf t (eachLine pageLine (cond t (textLines bytes) (linesIn bytes)) (firstPage name check) .replay .state .log .counts)
+
   -- and it comes to what the definition counts.
   pub replay-counts : came ≡ outcomeOf (came .whole) (pageOf check read .replay .state .log .counts)
   unfolding pageOf linesRead lastPage
   replay-counts =
       by-test (came .whole)
-      (λ all. rw all (replay-told name check r all))
-      (λ part. rw part (replay-broken name check r few part))
+      (λ all. replay-told name check r all ∙ ap countedAs (sym all))
+      (λ part. replay-broken name check r few part ∙ ap countedAs (sym part))
 
 -- ---- one file, opened or not
 

@@ -22,7 +22,7 @@ inputsOf (t ∷ ts) = inputOf t ∷ inputsOf ts
 
 -- Less than 4,500 terabytes were read of each.
 unfoldable pub AllFew : {check : Bool} → List (Turn check) → Type 0
-AllFew [] = ⊤
+AllFew [] = Unit {0}
 AllFew (t ∷ ts) = Few (inputOf t) × AllFew ts
 
 turns-written : {check : Bool} (ts : List (Turn check)) → AllFew ts → turnsWritten ts ≡ textsOf check (inputsOf ts)

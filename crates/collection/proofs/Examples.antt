@@ -13,7 +13,7 @@ use Rattle.collection.specs.declared.Kinds.{Kinds}
 use Rattle.collection.specs.declared.Group.{Group}
 use Rattle.collection.specs.declared.Tally.{Tally}
 use Rattle.collection.specs.Kind.{kinds, agreeing}
-use Rattle.collection.specs.Group.{nameTexts, Members, joined}
+use Rattle.collection.specs.Group.{oneMore, nameTexts, Members, joined}
 use Rattle.collection.specs.Tally.{none, Collection, collection, tallyOf, agreed, after, File, collected}
 use Rattle.collection.specs.Summary.{headingTexts, headTexts, moreTexts, groupTexts, groupsTexts, firstCounts, lastCounts, summaryTexts}
 
@@ -59,6 +59,10 @@ grouped : (joined true (ascii "a") (members 0 0 0 "........") ≡ members 1 1 4 
     × (joined true (ascii "b") (members 5 1 4 "  a\n....") ≡ members 6 2 8 "  a\n  b\n") × (joined false (ascii "b") (members 1 1 4 "  a\n....") ≡ members 1 1 4 "  a\n....")
 unfolding joined nameTexts putEach written nextPlace overwrite ascii
 grouped = (refl, refl, refl, refl)
+
+-- The largest number is reached, and stays.
+most : (oneMore 18446744073709551614 ≡ 18446744073709551615) × (oneMore 18446744073709551615 ≡ 18446744073709551615)
+most = (refl, refl)
 
 -- `  and 3 more`, and nothing where all are named
 more-told : (text (moreTexts (group 5 2 8)) ≡ ascii "  and 3 more\n") × (moreTexts (group 2 2 8) ≡ [])

@@ -1,9 +1,11 @@
 -- Names, in plain numbers. Assumes nothing.
 use Prim.Native.Nat.{ℕ}
+use mathlib.Core.Bool.{true, false}
 use mathlib.Core.List.{List, [], _∷_}
 use mathlib.Core.Path.{_≡_, refl}
 use Rattle.line_buffer.specs.Lines.{hasLine, withFirst, linesIn, restIn, lastLine, textLines, wholeText}
-use Rattle.file_names.specs.Names.{named, namesIn, namesOf, endedNames}
+use Rattle.file_names.specs.Held.{heldBytes, heldCount}
+use Rattle.file_names.specs.Names.{named, namesIn, namesOf, endedNames, endsName}
 
 -- `a`, an empty line, `bc`, and `d` without a line feed.
 abbrev text : List ℕ
@@ -36,3 +38,15 @@ none = (refl, refl)
 two-pieces : wholeText ((97 ∷ 10 ∷ 10 ∷ 98 ∷ []) ∷ (99 ∷ 10 ∷ 100 ∷ []) ∷ []) ≡ text
 unfolding wholeText
 two-pieces = refl
+
+-- A line feed ends a name that has bytes; no other byte does.
+ends-a-name : (endsName 10 1 ≡ true) × (endsName 10 2 ≡ true) × (endsName 10 0 ≡ false) × (endsName 0 1 ≡ false) × (endsName 9 1 ≡ false)
+    × (endsName 11 1 ≡ false)
+unfolding endsName
+ends-a-name = (refl, refl, refl, refl, refl, refl)
+
+-- A byte behind the two that a buffer of three holds, and none behind three.
+one-more : (heldBytes (97 ∷ 98 ∷ 0 ∷ []) 2 99 ≡ 97 ∷ 98 ∷ 99 ∷ []) × (heldCount (97 ∷ 98 ∷ 0 ∷ []) 2 ≡ 3) × (heldBytes (97 ∷ 98 ∷ 99 ∷ []) 3 100 ≡ 97 ∷ 98 ∷ 99 ∷ [])
+    × (heldCount (97 ∷ 98 ∷ 99 ∷ []) 3 ≡ 3)
+unfolding heldBytes heldCount
+one-more = (refl, refl, refl, refl)

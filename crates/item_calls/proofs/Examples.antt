@@ -26,6 +26,12 @@ buffers : (bufferSize (0xB0 ∷ 0 ∷ 0 ∷ 0 ∷ 0 ∷ []) ≡ 4) × (bufferSiz
 unfolding bufferSize
 buffers = (refl, refl, refl, refl, refl)
 
+-- Beside these: FFh is a read, AFh is none, and no byte next to 90h is it.
+buffers-beside : (bufferSize (0xFF ∷ 0 ∷ 0 ∷ []) ≡ 2) × (bufferSize (0xAF ∷ 0 ∷ 0 ∷ []) ≡ 0) × (bufferSize (0x8F ∷ 0 ∷ 0 ∷ []) ≡ 0) × (bufferSize (0x91 ∷ 0 ∷ 0 ∷ []) ≡ 0)
+    × (bufferSize (0 ∷ 0 ∷ 0 ∷ []) ≡ 0)
+unfolding bufferSize
+buffers-beside = (refl, refl, refl, refl, refl)
+
 abbrev counts : List ℕ
 counts = 0 ∷ 1 ∷ 2 ∷ 3 ∷ 4 ∷ 5 ∷ 6 ∷ 7 ∷ 8 ∷ 9 ∷ 10 ∷ 11 ∷ 12 ∷ []
 

@@ -1,9 +1,10 @@
 -- Lines in plain numbers and words. Assumes nothing.
 use Prim.Native.Nat.{ℕ}
 use mathlib.Core.Bool.{true, false}
-use mathlib.Core.List.{List, [], _∷_}
+use mathlib.Core.List.{List, [], _∷_, _++_}
 use mathlib.Core.Path.{_≡_, refl}
 use Prim.Native.String.{String}
+use lib.ListN.{replicate}
 use Rattle.numeral.specs.Digit.{glyph, digits}
 use Rattle.numeral.specs.Print.{widthFrom, decimalWidth, decimal}
 use Rattle.numeral.specs.Place.{overwrite, nextPlace, written, putEach, joined}
@@ -12,11 +13,11 @@ use Rattle.line.specs.Line.{contentLength}
 use Rattle.line.specs.Words.{isBlank, ended, wordsAfter, words}
 use Rattle.line.specs.Spaced.{blanked, spaced}
 use Rattle.numeral.specs.Ascii.{ascii}
-use Rattle.wording.specs.Wording.{counted, why, fault, place, expected}
+use Rattle.wording.specs.Wording.{counted, why, fault, place, expected, itemName}
 use Rattle.item_state.specs.Log.{Log, added, said}
 use Rattle.item_checks.specs.Fault.{atLeastOne, isPastOrFull, isFault, leftOf, faultSaid, faultLog}
-use Rattle.item_checks.specs.Close.{lineWords, placeOf, firstEnd, startsWith, beginsWith, wantedIn, within, inserted, compared, expectedFrom, judgedLog, isAnnounced, refusalCounted, trouble, tail, shortened, looked, closed}
-use Rattle.item_checks.specs.Open.{lineCounted, headed, begun, isItem, named, opened}
+use Rattle.item_checks.specs.Close.{lineWords, placeOf, firstEnd, startsWith, beginsWith, wantedIn, within, inserted, compared, expectedFrom, isNotBad, judgedLog, isAnnounced, refusalCounted, trouble, tail, shortened, looked, closed}
+use Rattle.item_checks.specs.Open.{lineCounted, headed, begun, isItem, itemNamed, named, opened}
 
 -- The moment, the differences in the record, and the entries of the probe table.
 abbrev counts : ℕ → ℕ → ℕ → List ℕ
@@ -164,3 +165,26 @@ none-more : looked (ascii "a") record {
     }
 unfolding looked trouble
 none-more = refl
+
+-- A line is bad where there are more bad lines than before it: none more when it has just been counted.
+bad-or-not : (isNotBad (lineCounted counted-up) ≡ true) × (isNotBad counted-up ≡ false)
+unfolding lineCounted added
+bad-or-not = (refl, refl)
+
+-- ---- names
+
+-- `item A`: the name stands from the place 4,096 on, and ends at 4,102; a line that needs a look ends with it.
+abbrev names : String → List ℕ
+names text = replicate 4096 46 ++ ascii text
+
+item-kept : itemNamed (ascii "item A\r") (names "........") (file 0 3 1 0 0 "_.......")
+    ≡ record {
+      names = names "item A..";
+      log = record { counts = 8 ∷ 0 ∷ 3 ∷ 0 ∷ 0 ∷ 0 ∷ 0 ∷ 0 ∷ 0 ∷ 0 ∷ 0 ∷ 0 ∷ 0 ∷ 0 ∷ 0 ∷ 4102 ∷ 1 ∷ 0 ∷ 0 ∷ 0 ∷ 0 ∷ 0 ∷ []; answers = ascii "_item A\n" };
+    }
+unfolding itemNamed lineWords contentLength words wordsAfter ended isBlank spaced blanked said putEach written nextPlace overwrite ascii
+item-kept = refl
+
+item-told : joined (tail (names "item A..") (0 ∷ 0 ∷ 0 ∷ 0 ∷ 0 ∷ 0 ∷ 0 ∷ 0 ∷ 0 ∷ 0 ∷ 0 ∷ 0 ∷ 0 ∷ 0 ∷ 1 ∷ 4102 ∷ [])) ≡ ascii " (item A)\n"
+unfolding tail itemName joined ascii
+item-told = refl

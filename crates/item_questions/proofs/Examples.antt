@@ -1,6 +1,7 @@
 -- Answers of questions in plain words and numbers. Assumes nothing.
 use Prim.Native.Nat.{ℕ}
 use Prim.Native.String.{String}
+use mathlib.Core.Bool.{false}
 use mathlib.Core.List.{List, [], _∷_}
 use mathlib.Core.Path.{_≡_, refl}
 use Rattle.numeral.specs.Ascii.{ascii}
@@ -8,11 +9,12 @@ use Rattle.numeral.specs.Digit.{digits, glyph}
 use Rattle.numeral.specs.Place.{joined, overwrite, nextPlace, written, putEach}
 use Rattle.numeral.specs.Print.{widthFrom, decimalWidth, decimal}
 use Rattle.device.specs.declared.Model.{Model}
+use Rattle.device.specs.Model.{isSound}
 use Rattle.device.specs.Question.{interruptPending, awaitedTold}
-use Rattle.wording.specs.Wording.{counted as Wording·counted, head, pair}
+use Rattle.wording.specs.Wording.{counted as Wording·counted, head, pair, refusalWords, refusalWord, refusal, refused}
 use Rattle.item_state.specs.Log.{Log, added, callCounted, counted, called}
 use Rattle.item_state.specs.Told.{toldValue, readWord}
-use Rattle.item_questions.specs.Answers.{interrupt, awaited, byteTexts, frameTexts, frameLines, framesTold, differing, pairs, expectation, expectLine}
+use Rattle.item_questions.specs.Answers.{interrupt, awaited, next, byteTexts, frameTexts, frameLines, framesTold, framesLine, differing, pairs, expectation, expectLine}
 
 -- the first nine counts, and the answers
 abbrev log : ℕ → ℕ → ℕ → ℕ → String → Log
@@ -35,7 +37,17 @@ module _ (m : Model) where
   unfolding expectLine expectation differing pairs head pair putEach written nextPlace overwrite added digits glyph ascii
   one-differs a b = rw (a, b) refl
 
+-- the address behind E2h, and behind the largest of 32 bits
+addresses : (next 0xE2 ≡ 0xE3) × (next 4294967295 ≡ 0)
+addresses = (refl, refl)
+
 -- two frames
 frames-listed : framesTold 2 ((0x38 ∷ 0x10 ∷ 0x10 ∷ []) ∷ (0x42 ∷ 0x02 ∷ 0x00 ∷ []) ∷ []) (log 1 7 5 1 "..............................................") ≡ log 40 8 5 1 ".frames 2\nframe 38 10 10\nframe 42 02 00\n......"
 unfolding framesTold frameLines frameTexts byteTexts Wording·counted called counted callCounted added putEach written nextPlace overwrite decimal decimalWidth widthFrom digits glyph ascii
 frames-listed = refl
+
+-- an unsound model, which no item has: number 0, a call and a refusal more
+no-frames : (m : Model) → isSound m ≡ false
+    → framesLine m (log 1 7 5 1 ".....................") ≡ record { counts = 20 ∷ 0 ∷ 0 ∷ 8 ∷ 4 ∷ 0 ∷ 0 ∷ 5 ∷ 1 ∷ []; answers = ascii ".frames no 0 record\n." }
+unfolding framesLine called counted callCounted added refused refusal refusalWord refusalWords putEach written nextPlace overwrite decimal decimalWidth widthFrom digits glyph ascii
+no-frames m e = rw e refl

@@ -7,7 +7,9 @@ use lib.ListN.{replicate}
 use Rattle.device.specs.declared.Answer.the-variants.{Refused, Accepted, Good, Failed}
 use Rattle.device.specs.declared.Told.the-variants.{Value, Refused as Untold}
 use Rattle.device.specs.Reply.{numberIn}
-use Rattle.item_state.specs.Log.{added, callCounted, counted, refusals}
+use Rattle.numeral.specs.Ascii.{ascii}
+use Rattle.numeral.specs.Place.{overwrite, nextPlace, written, putEach}
+use Rattle.item_state.specs.Log.{added, said, callCounted, counted, called, refusals}
 use Rattle.item_state.specs.Told.{toldValue}
 
 abbrev zeros : List ℕ
@@ -37,3 +39,14 @@ most = refl
 told : (toldValue (Value 7) ≡ 7) × (toldValue (Untold 4) ≡ 0)
 unfolding toldValue
 told = (refl, refl)
+
+-- Two texts behind the two bytes before them, and the first count is where they end; every other count stays.
+two-texts : said (ascii "ab" ∷ ascii "c" ∷ []) record { counts = 2 ∷ 6 ∷ 7 ∷ []; answers = ascii "xy......" } ≡ record { counts = 5 ∷ 6 ∷ 7 ∷ []; answers = ascii "xyabc..." }
+unfolding said putEach written nextPlace overwrite ascii
+two-texts = refl
+
+-- A call that is refused, answered so.
+told-call : called 1 (ascii "ab" ∷ ascii "c" ∷ []) record { counts = 2 ∷ 6 ∷ 7 ∷ 8 ∷ 9 ∷ 1 ∷ []; answers = ascii "xy......" }
+    ≡ record { counts = 5 ∷ 6 ∷ 7 ∷ 9 ∷ 10 ∷ 1 ∷ []; answers = ascii "xyabc..." }
+unfolding called counted callCounted added putEach written nextPlace overwrite ascii
+told-call = refl

@@ -3,6 +3,7 @@ use mathlib.Core.Bool.{true, false}
 use mathlib.Core.List.{List, [], _∷_}
 use mathlib.Core.Path.{_≡_, refl}
 use Prim.Native.Nat.{ℕ}
+use lib.ListN.{replicate}
 use Rattle.line_buffer.specs.Lines.{hasLine, lineOf, behindLine, lineEnd, withFirst, linesIn, restIn, lastLine, textLines, wholeText, Reading, eachLine, pieceRead, piecesRead}
 
 -- `a`, a line feed, `bc`, a line feed, `d`.
@@ -39,3 +40,8 @@ cut-in-two = refl
 as-one : wholeText ((97 ∷ 10 ∷ 98 ∷ []) ∷ (99 ∷ 10 ∷ 100 ∷ []) ∷ []) ≡ text
 unfolding wholeText
 as-one = refl
+
+-- Of 1,003 bytes of a line that goes on, 1,002 are held.
+held-most : pieceRead keep (replicate 1003 97) record { state = []; held = [] } ≡ record { state = []; held = replicate 1002 97 }
+unfolding pieceRead eachLine linesIn withFirst restIn hasLine
+held-most = refl

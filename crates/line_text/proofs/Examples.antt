@@ -25,7 +25,7 @@ use Rattle.item_checks.proofs.Briefly.{briefly-long}
 use Rattle.answer_text.specs.Texts.{callTold, questionTold, analysisTold}
 use Rattle.answer_text.specs.Line.{lineTold}
 use Rattle.session.specs.Line.{Replay}
-use Rattle.line_text.specs.Text.{headTold, begunTold, faultTold, itemTold, namesAfter, ownTold, differingText, judgedText, judgedCounts, shownAnswer, closedCounts, lookedText, closedText, toldText, lineText}
+use Rattle.line_text.specs.Text.{headTold, begunTold, faultTold, itemTold, namesAfter, ownTold, differingText, judgedText, judgedCounts, shownAnswer, closedCounts, lookedText, closedText, toldText, lineText, elsewhere}
 use Rattle.line_text.proofs.Text.{Whole}
 
 -- Four lines were read before; in a check the count 14 is 1, and the file's name has one byte.
@@ -81,3 +81,12 @@ short-buffer model flash differences probes fit = record {
   before = refl;
   after = refl;
 }
+
+-- ---- counts
+
+abbrev counted-up : List ℕ
+counted-up = 100 ∷ 101 ∷ 102 ∷ 103 ∷ 104 ∷ 105 ∷ 106 ∷ 107 ∷ 108 ∷ 109 ∷ 110 ∷ 111 ∷ 112 ∷ 113 ∷ 114 ∷ 115 ∷ 116 ∷ 117 ∷ 118 ∷ 119 ∷ 120 ∷ 121 ∷ []
+
+-- the four places of the buffer
+four-places : elsewhere 1 2 3 4 counted-up ≡ 1 ∷ 101 ∷ 102 ∷ 103 ∷ 104 ∷ 105 ∷ 106 ∷ 107 ∷ 108 ∷ 109 ∷ 110 ∷ 111 ∷ 2 ∷ 3 ∷ 114 ∷ 115 ∷ 116 ∷ 117 ∷ 118 ∷ 119 ∷ 4 ∷ 121 ∷ []
+four-places = refl

@@ -35,3 +35,4 @@ pub mod LastLine
 pub mod Added
 pub mod BadAside
 pub mod Examples
+pub mod Pinned

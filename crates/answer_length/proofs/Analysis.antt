@@ -20,8 +20,8 @@ use Rattle.difference.specs.Spread.{spreadOf}
 use Rattle.listing.specs.Listing.{captureDigits, lineLength, lines, lastAbove}
 use Rattle.listing.proofs.Meaning.{Fit, lines-length}
 use Rattle.numeral.specs.Ascii.{ascii}
-use Rattle.wording.specs.Wording.{lineFeed, probe, degrees, refusalWords, refusalWord, refusal, refused, difference, listingHead, quietest}
-use Rattle.item_analysis.specs.Lines.{differenceTexts, recordTexts, recordWords, widthOf}
+use Rattle.wording.specs.Wording.{lineFeed, probe, degrees, refusalWords, refusalWord, refusal, refused, difference, listingHead, quietest, differenceTexts, recordTexts}
+use Rattle.item_analysis.specs.Lines.{recordWords, widthOf}
 use Rattle.answer_text.specs.Texts.{toldOfProbe, toldInDegrees, toldOfDegrees, toldOfRecord, toldOfListing, toldOfPlace, toldOfQuietest}
 use Rattle.answer_length.proofs.Sizes.{size, size-append, take-most, signed-most, thousandths-most, counted-size, refused-size}
 

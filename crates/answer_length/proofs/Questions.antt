@@ -12,9 +12,9 @@ use Rattle.device.specs.Model.{isSound}
 use Rattle.device.specs.Question.{interruptPending, awaitedTold}
 use Rattle.setup_frames.specs.Frames.{differs, starts, runLength, bytesOf, frameAt, framesFrom, frames}
 use Rattle.numeral.specs.Ascii.{ascii}
-use Rattle.wording.specs.Wording.{lineFeed, head, pair}
+use Rattle.wording.specs.Wording.{lineFeed, head, pair, blankWord, wordTexts, rowTexts, byteTexts, frameTexts, frameLines}
 use Rattle.item_state.specs.Told.{toldValue, readWord}
-use Rattle.item_questions.specs.Answers.{interrupt, awaited, next, blankWord, rowWords, row, rows, registers, differing, pairs, expectation, byteTexts, frameTexts, frameLines}
+use Rattle.item_questions.specs.Answers.{interrupt, awaited, next, rowWords, row, rows, registers, differing, pairs, expectation}
 use Rattle.answer_text.specs.Texts.{toldOfExpect, toldOfFrames}
 use Rattle.answer_length.proofs.Sizes.{size, size-append, cond-size, take-most, decimal-most, counted-size, refused-size}
 
@@ -33,15 +33,19 @@ awaited-size m =
 
 -- ---- `regs`
 
-words-size : (m : Model) (a n : ℕ) → size (rowWords m a n) ≡ 5 * n
-unfolding size rowWords blankWord ascii
-words-size m a zero = omega arith
-words-size m a (suc n) =
-    rw size-append (omega (arith, length-digits 16 4 (readWord m a), words-size m (next a) n))
+words-size : (ws : List ℕ) → size (wordTexts ws) ≡ 5 * length ws
+unfolding size wordTexts blankWord ascii
+words-size [] = omega arith
+words-size (w ∷ ws) = rw size-append (omega (arith, length-digits 16 4 w, words-size ws))
+
+words-many : (m : Model) (a n : ℕ) → length (rowWords m a n) ≡ n
+unfolding rowWords
+words-many m a zero = omega arith
+words-many m a (suc n) = omega (arith, words-many m (next a) n)
 
 row-size : (m : Model) (a : ℕ) → size (row m a) ≡ 43
-unfolding size row
-row-size m a = rw size-append (omega (arith, length-digits 16 2 a, words-size m a 8))
+unfolding size row rowTexts
+row-size m a = rw size-append (omega (arith, length-digits 16 2 a, words-size (rowWords m a 8), words-many m a 8))
 
 rows-size : (m : Model) (a n : ℕ) → size (rows m a n) ≡ 43 * n
 unfolding size rows

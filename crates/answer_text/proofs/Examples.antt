@@ -20,12 +20,12 @@ use Rattle.difference.specs.Spread.{raised, least, greatest, range, spreadOf}
 use Rattle.listing.specs.Listing.{sign, rightJustified, line, lines, lastAbove}
 use Rattle.line.specs.declared.Content.{Content}
 use Rattle.numeral.specs.Ascii.{ascii}
-use Rattle.wording.specs.Wording.{busAnswer, outputBuffer, bus, counted, numbered, difference, refusalWords, refusalWord, refusal, refused, probe, degrees, listingHead, quietest}
+use Rattle.wording.specs.Wording.{busAnswer, outputBuffer, bus, counted, numbered, difference, differenceTexts, recordTexts, refusalWords, refusalWord, refusal, refused, probe, degrees, listingHead, quietest}
 use Rattle.item_state.specs.Log.{Log, added, callCounted, refusals}
 use Rattle.item_calls.specs.Lines.{startMoment, moved, ticked}
 use Rattle.item_questions.specs.Answers.{differing}
 use Rattle.item_analysis.specs.Kept.{keptOne, keptEach}
-use Rattle.item_analysis.specs.Lines.{ItemKept, degreesOf, differenceTexts, recordTexts, recordWords}
+use Rattle.item_analysis.specs.Lines.{ItemKept, degreesOf, recordWords}
 use Rattle.answer_text.specs.Texts.{onPage, toldOfTransaction, toldOfBus, toldOfHead, endTexts, toldOfPart, toldOfTicks, toldOfTick, toldOfAt, toldOfExpect, toldOfFrames, toldOfProbe, toldInDegrees, toldOfDegrees, toldOfRecord, toldOfListing, toldOfPlace, recorded, analysisTold, isListing}
 
 -- Where the answers end, the calls, the moment, the differences in the record, and the ticks that are left.

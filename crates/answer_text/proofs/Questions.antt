@@ -9,9 +9,9 @@ use Rattle.device.specs.Model.{isSound}
 use Rattle.setup_frames.specs.Frames.{frames}
 use Rattle.line.specs.declared.Content.{Content}
 use Rattle.numeral.specs.Ascii.{ascii}
-use Rattle.wording.specs.Wording.{Texts, lineFeed, refused, counted}
+use Rattle.wording.specs.Wording.{Texts, lineFeed, refused, counted, frameLines}
 use Rattle.item_state.specs.Log.{Log, added, said, called}
-use Rattle.item_questions.specs.Answers.{frameLines, framesTold, framesLine, expectLine, questionLine}
+use Rattle.item_questions.specs.Answers.{framesTold, framesLine, expectLine, questionLine}
 use Rattle.answer_text.specs.Texts.{onPage, answered, asked, toldOfExpect, toldOfFrames, questionTold}
 use Rattle.answer_text.proofs.Page.{silent-page, called-page}
 use Rattle.answer_text.proofs.Aside.{Aside, first-left, silent-aside, asked-aside, answered-aside}

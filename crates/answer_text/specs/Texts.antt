@@ -24,14 +24,14 @@ use Rattle.listing.specs.Listing.{captureDigits, lines, lastAbove}
 use Rattle.setup_frames.specs.Frames.{frames}
 use Rattle.page.specs.Page.{pageTexts}
 use Rattle.line.specs.declared.Content.{Content}
-use Rattle.numeral.specs.Ascii.{ascii}
-use Rattle.wording.specs.Wording.{Texts, lineFeed, bus, set as setTexts, delivery, numbered, single, stretch, counted, probe, degrees, refused, listingHead, quietest}
+use Rattle.wording.specs.Wording.{Texts, lineFeed, bus, set as setTexts, tickHead, atHead, single, stretch, flightKind, temperatureKind, delivery, frameLines, framesHead, framesRefused}
+use Rattle.wording.specs.Wording.{probe, degrees, degreesRefused, recordTexts, listingHead, listingRefused, quietest, quietestRefused}
 use Rattle.item_state.specs.Log.{Log, added, put, callCounted, refusals}
 use Rattle.item_calls.specs.Lines.{WithFlash, itemCounts, startMoment, writeBytes, moved, movedBy, ticked}
 use Rattle.item_calls.specs.Buffer.{bufferSize}
-use Rattle.item_questions.specs.Answers.{interrupt, awaited, registers, differing, expectation, frameLines}
+use Rattle.item_questions.specs.Answers.{interrupt, awaited, registers, differing, expectation}
 use Rattle.item_analysis.specs.Kept.{keptEach}
-use Rattle.item_analysis.specs.Lines.{ItemKept, degreesOf, recordTexts, recordWords, widthOf}
+use Rattle.item_analysis.specs.Lines.{ItemKept, degreesOf, recordWords, widthOf}
 
 -- What a line tells: the texts of its answer, and the counts after it, but for the first, which is left as it was.
 pub record Told : Type 0 where
@@ -109,7 +109,7 @@ toldOfPart total m counts =
 
 -- "`tick N`"
 unfoldable pub toldOfTicks : ℕ → Model → List ℕ → Told
-toldOfTicks n m counts = behind (toldOfHead (numbered (ascii "tick ") n) n (moved n counts) counts) (toldOfPart n m)
+toldOfTicks n m counts = behind (toldOfHead (tickHead n) n (moved n counts) counts) (toldOfPart n m)
 
 unfoldable pub toldOfTick : ℕ → Model → List ℕ → Told
 toldOfTick n m counts = cond (eqb n 1) (toldOfSingle m counts) (toldOfTicks n m counts)
@@ -117,7 +117,7 @@ toldOfTick n m counts = cond (eqb n 1) (toldOfSingle m counts) (toldOfTicks n m 
 -- "`at T`"
 unfoldable pub toldOfAt : ℕ → Model → List ℕ → Told
 toldOfAt t m counts =
-    behind (toldOfHead (numbered (ascii "at ") t) (t - getD counts 9 0) (set counts 9 t) counts) (toldOfPart t m)
+    behind (toldOfHead (atHead t) (t - getD counts 9 0) (set counts 9 t) counts) (toldOfPart t m)
 
 -- "one stretch of N ticks"
 unfoldable pub toldOfStretch : ℕ → Model → List ℕ → Told
@@ -140,9 +140,9 @@ callTold (Content.Bus n) numbers s = toldOfBus (lowBytes (take n numbers)) (buff
 callTold (Content.BusOut size n) numbers s = toldOfBus (lowBytes (take n numbers)) size s
 callTold (Content.Tick n) numbers s = toldOfTick n (s .model) (s .log .counts)
 callTold (Content.Flight up down) numbers s =
-    toldOfDelivery (ascii "flight") (Call.flight (take up numbers) (take down (drop up numbers))) (s .model) (s .log .counts)
+    toldOfDelivery flightKind (Call.flight (take up numbers) (take down (drop up numbers))) (s .model) (s .log .counts)
 callTold (Content.Temperature n) numbers s =
-    toldOfDelivery (ascii "temperature") (Call.temperature (take n numbers)) (s .model) (s .log .counts)
+    toldOfDelivery temperatureKind (Call.temperature (take n numbers)) (s .model) (s .log .counts)
 callTold Content.Int numbers s = silent (s .log .counts)
 callTold Content.Awaited numbers s = silent (s .log .counts)
 callTold Content.Regs numbers s = silent (s .log .counts)
@@ -175,8 +175,8 @@ toldOfExpect m a ws counts = record {
 unfoldable pub toldOfFrames : Model → List ℕ → Told
 toldOfFrames m counts =
     cond (isSound m)
-    (answered 0 (ascii "frames " ∷ (counted (length (frames (m .setup))) lineFeed ++ frameLines (frames (m .setup)))) counts)
-    (answered 1 (refused (ascii "frames") 0) counts)
+    (answered 0 (framesHead (length (frames (m .setup))) ++ frameLines (frames (m .setup))) counts)
+    (answered 1 (framesRefused 0) counts)
 
 -- What a line that asks tells; every other tells nothing here.
 unfoldable pub questionTold : Content → List ℕ → Model → List ℕ → Told
@@ -211,13 +211,13 @@ questionTold (Content.Quietest n) numbers m counts = silent counts
 -- "`probe K`, the number of entries that the table now has"
 unfoldable pub toldOfProbe : List ℕ → List ℕ → List ℕ → Told
 toldOfProbe entries probes counts =
-    let table = keptEach (map (λ (entry : ℕ). entry) entries) record { values = probes; used = getD counts 11 0 } in
+    let table = keptEach entries record { values = probes; used = getD counts 11 0 } in
     asked (probe (table .used)) (set counts 11 (table .used))
 
 -- "`degrees D.DDD`, `degrees no 13 off the table` or `degrees no 14 bad table`"
 unfoldable pub toldInDegrees : InDegrees → List ℕ → Told
 toldInDegrees (Thousandths n) counts = answered 0 (degrees n) counts
-toldInDegrees (Refused number) counts = answered 1 (refused (ascii "degrees") number) counts
+toldInDegrees (Refused number) counts = answered 1 (degreesRefused number) counts
 
 -- "the temperature of a probe's word A and its 1,000 Ω reference's word B", the line's two numbers
 unfoldable pub toldOfDegrees : List ℕ → List ℕ → List ℕ → Told
@@ -235,13 +235,13 @@ toldOfRecord ws differences counts =
 -- refusal in their place, which is not told here.
 unfoldable pub toldOfListing : ℕ → ℕ → List ℤ → ℕ → List ℕ → Told
 toldOfListing d first values used counts =
-    cond (lastAbove d first (length values)) (answered 1 (refused (ascii "listing") 20) counts)
+    cond (lastAbove d first (length values)) (answered 1 (listingRefused 20) counts)
     (answered 0 (listingHead used ++ (lines d first values ∷ [])) counts)
 
 -- "`quietest START SPREAD`, START from 0, SPREAD the largest less the smallest; or `quietest no 18 width`"
 unfoldable pub toldOfPlace : Place → List ℤ → ℕ → List ℕ → Told
 toldOfPlace (Place.At start) values width counts = answered 0 (quietest start (spreadOf (take width (drop start values)))) counts
-toldOfPlace (Place.Refused number) values width counts = answered 1 (refused (ascii "quietest") number) counts
+toldOfPlace (Place.Refused number) values width counts = answered 1 (quietestRefused number) counts
 
 -- "the run of W neighbours in the record that differ least, the earliest of equals"
 unfoldable pub toldOfQuietest : ℕ → List ℤ → List ℕ → Told

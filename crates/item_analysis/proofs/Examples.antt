@@ -18,11 +18,11 @@ use Rattle.listing.specs.declared.Width.{Width}
 use Rattle.listing.specs.Listing.{sign, rightJustified, line, lineLength, lines, lastAbove, listing}
 use Rattle.quietest.specs.Quietest.{larger, smaller, extreme, spread, quieter, quietestPlace}
 use Rattle.numeral.specs.Ascii.{ascii}
-use Rattle.wording.specs.Wording.{difference, counted as Wording·counted, probe, degrees as degreesTexts, refusalWords, refusalWord, refusal, refused, listingHead, quietest}
+use Rattle.wording.specs.Wording.{difference, differenceTexts, recordTexts, counted as Wording·counted, probe, degrees as degreesTexts, refusalWords, refusalWord, refusal, refused, listingHead, quietest}
 use Rattle.item_state.specs.Log.{Log, added, said, callCounted, counted, called}
 use Rattle.item_state.specs.Told.{readWord}
 use Rattle.item_analysis.specs.Kept.{Kept, keptOne, keptEach}
-use Rattle.item_analysis.specs.Lines.{probeLine, degreesOf, degreesTold, degreesLine, differenceTexts, recordTexts, recordLine, tofDiff, recordWords, widthOf, listedAt, listingTold, listingLine, quietestTold, quietestLine}
+use Rattle.item_analysis.specs.Lines.{probeLine, degreesOf, degreesTold, degreesLine, recordLine, tofDiff, recordWords, widthOf, listedAt, listingTold, listingLine, quietestTold, quietestLine}
 
 abbrev kept : List ℕ → ℕ → Kept ℕ
 kept values used = record { values = values; used = used }

@@ -1,16 +1,11 @@
 -- The turns of the loops. Assumes nothing.
 use Prim.Native.Nat.{ℕ, suc, _+_, _≤_, _<_}
-use mathlib.Core.List.{List, [], _∷_, _++_, map}
-use mathlib.Core.Path.{_≡_, sym, _∙_}
+use mathlib.Core.List.{List, [], _∷_, map}
+use mathlib.Core.Path.{_≡_}
 use native.Mathlib.Numerals.{add-one}
 use lib.ListN.{length, getD, drop, drop-of-length-le}
 use lib.Seq.{drop-cons}
-use Rattle.numeral.specs.Place.{Placed, putEach}
-use Rattle.wording.specs.Text.{PutEach}
-use Rattle.wording.specs.Wording.{difference}
-use Rattle.wording.proofs.Each.{each-then, each-end}
 use Rattle.item_analysis.specs.Kept.{Kept, keptOne, keptEach}
-use Rattle.item_analysis.specs.Lines.{differenceTexts}
 
 -- A value more is kept, f of the word at hand.
 module _ {A : Type 0} (f : ℕ → A) (ws : List ℕ) (i : ℕ) where
@@ -23,17 +18,13 @@ module _ {A : Type 0} (f : ℕ → A) (ws : List ℕ) (i : ℕ) where
   unfolding keptEach
   kept-end all k e = rw (drop-of-length-le ws all) at e
 
--- A difference more is told.
+-- So of the words themselves.
 module _ (ws : List ℕ) (i : ℕ) where
-  pub texts-on : i < length ws → {l l′ : List ℕ} {at r : ℕ} {end : Placed} → PutEach l at (difference (getD ws i 0)) r l′
-      → putEach l at (differenceTexts (drop i ws)) ≡ end → putEach l′ r (differenceTexts (drop (i + 1) ws)) ≡ end
-  unfolding differenceTexts
-  texts-on less {l} {l′} {at} {r} {end} put e =
-      let rest = differenceTexts (drop (suc i) ws) in
-      let whole : putEach l at (difference (getD ws i 0) ++ rest) ≡ end = rw (drop-cons ws i 0 less) at e in
-      rw (add-one i) (sym (each-then rest put) ∙ whole)
+  pub entries-on : i < length ws → (k : Kept ℕ) {k′ end : Kept ℕ} → k′ ≡ keptOne (getD ws i 0) k → keptEach (drop i ws) k ≡ end
+      → keptEach (drop (i + 1) ws) k′ ≡ end
+  unfolding keptEach
+  entries-on less k {k′} {end} one e = rw (one, add-one i) (rw (drop-cons ws i 0 less) at e)
 
-  pub texts-end : length ws ≤ i → {l l′ : List ℕ} {at r : ℕ} {ts : List (List ℕ)} → putEach l′ r (differenceTexts (drop i ws)) ≡ putEach l at ts
-      → PutEach l at ts r l′
-  unfolding differenceTexts
-  texts-end all e = each-end (rw (drop-of-length-le ws all) at e)
+  pub entries-end : length ws ≤ i → (k : Kept ℕ) {end : Kept ℕ} → keptEach (drop i ws) k ≡ end → k ≡ end
+  unfolding keptEach
+  entries-end all k e = rw (drop-of-length-le ws all) at e

@@ -19,8 +19,7 @@ use Rattle.listing.specs.Listing.{captureDigits, Outcome, listing}
 use Rattle.quietest.specs.declared.Place.{Place}
 use Rattle.quietest.specs.Quietest.{quietestPlace}
 use Rattle.line.specs.declared.Content.{Content}
-use Rattle.numeral.specs.Ascii.{ascii}
-use Rattle.wording.specs.Wording.{Texts, lineFeed, probe, degrees, refused, difference, listingHead, quietest}
+use Rattle.wording.specs.Wording.{probe, degrees, degreesRefused, recordTexts, listingHead, listingRefused, quietest, quietestRefused}
 use Rattle.item_state.specs.Log.{Log, put, said, counted, called}
 use Rattle.item_state.specs.Told.{readWord}
 use Rattle.item_analysis.specs.Kept.{Kept, keptEach}
@@ -35,7 +34,7 @@ pub record WithProbes : Type 0 where
 -- "adds one or more entries .. to the item's own probe table"; "`probe K`, the number of entries that the table now has"
 unfoldable pub probeLine : List ℕ → WithProbes → WithProbes
 probeLine entries s =
-    let table = keptEach (map (λ (entry : ℕ). entry) entries) record { values = s .probes; used = getD (s .log .counts) 11 0 } in record {
+    let table = keptEach entries record { values = s .probes; used = getD (s .log .counts) 11 0 } in record {
       probes = table .values;
       log = said (probe (table .used)) record { counts = set (s .log .counts) 11 (table .used); answers = s .log .answers };
     }
@@ -49,7 +48,7 @@ degreesOf table a b = cond (eqb (length table) 0) (degreesPt1000 a b) (degreesBy
 -- "`degrees D.DDD`, `degrees no 13 off the table` or `degrees no 14 bad table`"
 unfoldable pub degreesTold : InDegrees → Log → Log
 degreesTold (Thousandths n) l = called 0 (degrees n) l
-degreesTold (Refused number) l = called 1 (refused (ascii "degrees") number) l
+degreesTold (Refused number) l = called 1 (degreesRefused number) l
 
 -- "the temperature of a probe's word A and its 1,000 Ω reference's word B", the line's two numbers
 unfoldable pub degreesLine : List ℕ → List ℕ → Log → Log
@@ -64,15 +63,7 @@ pub record WithRecord : Type 0 where
   pub differences : List ℤ
   pub log : Log
 
--- "`record D ..`, what was added"
-unfoldable pub differenceTexts : List ℕ → Texts
-differenceTexts [] = []
-differenceTexts (w ∷ ws) = difference w ++ differenceTexts ws
-
-unfoldable pub recordTexts : List ℕ → Texts
-recordTexts ws = ascii "record" ∷ (differenceTexts ws ++ (lineFeed ∷ []))
-
--- "adds differences to the item's record": words in two's complement
+-- "adds differences to the item's record", words in two's complement; "`record D ..`, what was added"
 unfoldable pub recordLine : List ℕ → WithRecord → WithRecord
 recordLine ws s =
     let kept = keptEach (map signedOf ws) record { values = s .differences; used = getD (s .log .counts) 10 0 } in record {
@@ -102,7 +93,7 @@ listedAt d values first l at =
 
 unfoldable pub listingTold : Listed → ℕ → Log → Log
 listingTold (Listed.Written n) at l = record { counts = counted (l .counts) 0 (min (at + n) 18446744073709551615); answers = l .answers }
-listingTold (Listed.Refused number) at l = called 1 (refused (ascii "listing") number) l
+listingTold (Listed.Refused number) at l = called 1 (listingRefused number) l
 
 -- "`listing K`, then the K lines, or `listing no 20 capture number`": the lines stand behind their head; a refusal takes its place
 unfoldable pub listingLine : Bool → ℕ → List ℤ → Log → Log
@@ -117,7 +108,7 @@ listingLine old first kept l =
 -- "`quietest START SPREAD`, START from 0, SPREAD the largest less the smallest; or `quietest no 18 width`"
 unfoldable pub quietestTold : Place → List ℤ → ℕ → Log → Log
 quietestTold (Place.At start) values width l = called 0 (quietest start (spreadOf (take width (drop start values)))) l
-quietestTold (Place.Refused number) values width l = called 1 (refused (ascii "quietest") number) l
+quietestTold (Place.Refused number) values width l = called 1 (quietestRefused number) l
 
 -- "the run of W neighbours in the record that differ least, the earliest of equals"
 unfoldable pub quietestLine : ℕ → List ℤ → Log → Log

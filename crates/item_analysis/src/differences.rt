@@ -2,9 +2,8 @@
 ghost use mathlib.Core.List.{map};
 ghost use mathlib.Core.Path.{_≡_};
 ghost use Rattle.difference.specs.Difference.{signedOf};
-ghost use Rattle.wording.specs.Text.{PutEach};
 ghost use Rattle.item_analysis.specs.Kept.{keptOne, keptEach};
-ghost use Rattle.item_analysis.specs.Lines.{differenceTexts, recordLine, tofDiff, recordWords};
+ghost use Rattle.item_analysis.specs.Lines.{recordLine, tofDiff, recordWords};
 use device::Model;
 use item_state::counts::RECORD;
 use item_state::counts::USED;
@@ -44,21 +43,7 @@ fn add_words(words: &[u32], kept: &mut [i32], counts: &mut [usize; 22], answers:
     ensures { λ _. ⌜ record { differences = now (kept .exit); log = record { counts = now (counts .exit); answers = now (answers .exit) } } ≡ recordLine (now (words .entry)) record { differences = now (kept .entry); log = record { counts = now (counts .entry); answers = now (answers .entry) } } ⌝ }
 {
     counts[RECORD] = store(words, kept, counts[RECORD]);
-    let start = phrase::heads::put_record(answers, counts[USED]);
-    let end = put_each(answers, start, words);
-    counts[USED] = phrase::heads::put_end(answers, end);
-}
-
-fn put_each(answers: &mut [u8], at: usize, words: &[u32]) -> usize
-    ensures { λ r. ⌜ PutEach (now (answers .entry)) at (differenceTexts (now (words .entry))) r (now (answers .exit)) ⌝ }
-{
-    let mut place = at;
-    let mut i = 0;
-    while i < words.len() {
-        place = phrase::kept::put_difference(answers, place, words[i]);
-        i += 1;
-    }
-    place
+    counts[USED] = phrase::kept::put_record(answers, counts[USED], words);
 }
 
 // Adds differences behind the first n, as far as there is room, and answers how many there are then.

@@ -1,7 +1,5 @@
 // The probe table.
 ghost use mathlib.Core.Path.{_≡_};
-ghost use mathlib.Core.List.{map};
-ghost use Prim.Native.Nat.{ℕ};
 ghost use lib.ListN.{take};
 ghost use Rattle.item_analysis.specs.Kept.{keptOne, keptEach};
 ghost use Rattle.item_analysis.specs.Lines.{probeLine, degreesOf, degreesTold, degreesLine};
@@ -28,7 +26,7 @@ pub fn probe(
 
 // Adds entries behind the first n, as far as there is room, and answers how many there are then.
 fn add(entries: &[u32], probes: &mut [u32], n: usize) -> usize
-    ensures { λ r. ⌜ record { values = now (probes .exit); used = r } ≡ keptEach (map (λ (entry : ℕ). entry) (now (entries .entry))) record { values = now (probes .entry); used = n } ⌝ }
+    ensures { λ r. ⌜ record { values = now (probes .exit); used = r } ≡ keptEach (now (entries .entry)) record { values = now (probes .entry); used = n } ⌝ }
 {
     let mut end = n;
     let mut i = 0;

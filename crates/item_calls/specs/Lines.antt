@@ -15,8 +15,7 @@ use Rattle.device.specs.Model.{freshModel}
 use Rattle.device.specs.Call.{Call}
 use Rattle.device.specs.Reply.{reply, output, memory}
 use Rattle.line.specs.declared.Content.{Content}
-use Rattle.numeral.specs.Ascii.{ascii}
-use Rattle.wording.specs.Wording.{Texts, lineFeed, bus, set as setTexts, delivery, numbered, single, nextNamed, noTick, named, stretch}
+use Rattle.wording.specs.Wording.{Texts, lineFeed, bus, set as setTexts, tickHead, atHead, single, nextNamed, noTick, named, stretch, flightKind, temperatureKind, delivery}
 use Rattle.item_state.specs.Log.{Log, added, said, called, refusals}
 use Rattle.item_calls.specs.Buffer.{bufferSize}
 
@@ -147,7 +146,7 @@ unlessUnderWay begun l = cond (eqb (getD (l .counts) 21 0) 0) begun l
 -- "N single ticks": "`tick N`"
 unfoldable pub ticksBegun : ℕ → Log → Log
 ticksBegun n l =
-    unlessUnderWay (ticksAhead (numbered (ascii "tick ") n) n record { counts = moved n (l .counts); answers = l .answers }) l
+    unlessUnderWay (ticksAhead (tickHead n) n record { counts = moved n (l .counts); answers = l .answers }) l
 
 unfoldable pub tickLine : ℕ → Model → Log → Replayed
 tickLine n m l = cond (eqb n 1) (singleLine m l) (ticksPart n m (ticksBegun n l))
@@ -156,7 +155,7 @@ tickLine n m l = cond (eqb n 1) (singleLine m l) (ticksPart n m (ticksBegun n l)
 unfoldable pub atBegun : ℕ → Log → Log
 atBegun t l =
     unlessUnderWay
-    (ticksAhead (numbered (ascii "at ") t) (t - getD (l .counts) 9 0) record { counts = set (l .counts) 9 t; answers = l .answers })
+    (ticksAhead (atHead t) (t - getD (l .counts) 9 0) record { counts = set (l .counts) 9 t; answers = l .answers })
     l
 
 unfoldable pub atLine : ℕ → Model → Log → Replayed
@@ -177,12 +176,12 @@ stretchLine n m l =
 -- "a flight delivery: the up words, one `/`, the down words"
 unfoldable pub flightLine : List ℕ → List ℕ → Model → Log → Replayed
 flightLine up down m l =
-    told (reply m (Call.flight up down)) (delivery (ascii "flight") (reply m (Call.flight up down) .answer)) l
+    told (reply m (Call.flight up down)) (delivery flightKind (reply m (Call.flight up down) .answer)) l
 
 -- "a temperature delivery"
 unfoldable pub temperatureLine : List ℕ → Model → Log → Replayed
 temperatureLine words m l =
-    told (reply m (Call.temperature words)) (delivery (ascii "temperature") (reply m (Call.temperature words) .answer)) l
+    told (reply m (Call.temperature words)) (delivery temperatureKind (reply m (Call.temperature words) .answer)) l
 
 -- ---- every line
 

@@ -11,10 +11,10 @@ use Rattle.numeral.specs.Print.{widthFrom, decimalWidth, decimal}
 use Rattle.device.specs.declared.Model.{Model}
 use Rattle.device.specs.Model.{isSound}
 use Rattle.device.specs.Question.{interruptPending, awaitedTold}
-use Rattle.wording.specs.Wording.{counted as Wording·counted, head, pair, refusalWords, refusalWord, refusal, refused}
+use Rattle.wording.specs.Wording.{counted as Wording·counted, head, pair, byteTexts, frameTexts, frameLines, refusalWords, refusalWord, refusal, refused}
 use Rattle.item_state.specs.Log.{Log, added, callCounted, counted, called}
 use Rattle.item_state.specs.Told.{toldValue, readWord}
-use Rattle.item_questions.specs.Answers.{interrupt, awaited, next, byteTexts, frameTexts, frameLines, framesTold, framesLine, differing, pairs, expectation, expectLine}
+use Rattle.item_questions.specs.Answers.{interrupt, awaited, next, framesTold, framesLine, differing, pairs, expectation, expectLine}
 
 -- the first nine counts, and the answers
 abbrev log : ℕ → ℕ → ℕ → ℕ → String → Log

@@ -1,4 +1,4 @@
--- The turns of the loops over frames and their bytes. Assumes nothing.
+-- The turns of the loop over frames. Assumes nothing.
 use Prim.Native.Nat.{ℕ, zero, suc, _+_, _-_, _≤_, _<_, min}
 use mathlib.Core.Bool.{Bool, true, false, cond}
 use mathlib.Core.List.{List, [], _∷_, _++_, map, append-assoc}
@@ -9,38 +9,19 @@ use native.Mathlib.Omega.{arith}
 use lib.ListN.{length, getD, take, drop, drop-of-length-le, length-drop, length-map}
 use lib.Seq.{drop-cons, drop-nil, take-append-seam, drop-append-seam}
 use Rattle.unit.proofs.Cases.{by-test}
-use Rattle.numeral.specs.Digit.{digits}
-use Rattle.numeral.specs.Place.{Put, Placed, putEach}
+use Rattle.numeral.specs.Place.{Placed, putEach}
 use Rattle.device.specs.declared.Model.{Model}
 use Rattle.device.specs.Model.{isSound}
 use Rattle.device.specs.Call.{Verdict, accepted, firstOf}
 use Rattle.setup_frames.specs.declared.Framed.{Framed}
 use Rattle.setup_frames.specs.declared.Framed.the-variants.{Refused, Frames}
 use Rattle.setup_frames.specs.Frames.{frames, allBytes, lengthsOf, over, framesVerdict, answerBy, bytesBy, lengthsBy, Written}
-use Rattle.numeral.specs.Ascii.{ascii}
 use Rattle.wording.specs.Text.{PutEach}
-use Rattle.wording.specs.Wording.{refused}
-use Rattle.wording.proofs.Each.{each-then, each-end, put-one}
+use Rattle.wording.specs.Wording.{frameTexts, frameLines, framesRefused}
+use Rattle.wording.proofs.Each.{each-then, each-end}
 use Rattle.item_state.specs.Log.{Log, called}
-use Rattle.item_questions.specs.Answers.{byteTexts, frameTexts, frameLines, framesTold, framesLine}
+use Rattle.item_questions.specs.Answers.{framesTold, framesLine}
 use Rattle.item_questions.specs.Cut.{cut}
-
--- A byte more.
-module _ (bs : List ℕ) (i : ℕ) where
-  pub bytes-on : i < length bs → {l l₁ l′ : List ℕ} {at r₁ r : ℕ} {end : Placed} → Put l at (ascii " ") r₁ l₁
-      → Put l₁ r₁ (digits 16 2 (getD bs i 0)) r l′ → putEach l at (byteTexts (drop i bs)) ≡ end
-      → putEach l′ r (byteTexts (drop (i + 1) bs)) ≡ end
-  unfolding byteTexts
-  bytes-on less {l} {l₁} {l′} {at} {r₁} {r} {end} blank hex e =
-      let rest = byteTexts (drop (suc i) bs) in
-      let two = digits 16 2 (getD bs i 0) in
-      let whole : putEach l at (ascii " " ∷ two ∷ rest) ≡ end = rw (drop-cons bs i 0 less) at e in
-      rw (add-one i) (sym (each-then rest (put-one hex)) ∙ (sym (each-then (two ∷ rest) (put-one blank)) ∙ whole))
-
-  pub bytes-end : length bs ≤ i → {l l′ : List ℕ} {at r : ℕ} {ts : List (List ℕ)} → putEach l′ r (byteTexts (drop i bs)) ≡ putEach l at ts
-      → PutEach l at ts r l′
-  unfolding byteTexts
-  bytes-end all e = each-end (rw (drop-of-length-le bs all) at e)
 
 drop-twice : (a b : ℕ) (l : List ℕ) → drop b (drop a l) ≡ drop (a + b) l
 drop-twice zero b l = let e : 0 + b ≡ b = omega arith in rw e
@@ -130,7 +111,7 @@ module _ (m : Model) {bytes lengths bytes′ lengths′ : List ℕ} {r : Framed}
       (λ sound. let w = whole sound in let k : n ≡ length (frames (m .setup)) = counts-of (sym e ∙ w .0) in rw (sound, k, w .1))
       (λ unsound. absurd (no-frames (sym e ∙ none unsound)))
 
-  pub refusal-told : {n : ℕ} → r ≡ Refused n → (l : Log) → called 1 (refused (ascii "frames") n) l ≡ framesLine m l
+  pub refusal-told : {n : ℕ} → r ≡ Refused n → (l : Log) → called 1 (framesRefused n) l ≡ framesLine m l
   unfolding framesLine
   refusal-told {n} e l = by-test (isSound m)
       (λ sound. absurd (no-frames (sym (whole sound .0) ∙ e)))

@@ -19,9 +19,9 @@ use Rattle.device.specs.Model.{isSound}
 use Rattle.device.specs.Question.{peek}
 use Rattle.device.specs.Registers.{registerWord}
 use Rattle.numeral.specs.Ascii.{ascii}
-use Rattle.wording.specs.Wording.{Texts, lineFeed, head, pair}
+use Rattle.wording.specs.Wording.{Texts, lineFeed, blankWord, wordTexts, rowTexts, head, pair}
 use Rattle.item_state.specs.Told.{toldValue, readWord}
-use Rattle.item_questions.specs.Answers.{next, blankWord, rowWords, row, rows, registers}
+use Rattle.item_questions.specs.Answers.{next, rowWords, row, rows, registers}
 use Rattle.item_questions.specs.Answers.{differing, pairs, expectation}
 
 -- What is read at B0h to FFh is the register's word.
@@ -51,14 +51,14 @@ pub first-row : (m : Model)
     → row m 0xB0
     ≡ digits 16 2 0xB0
     ∷ told m 0xB0 (told m 0xB1 (told m 0xB2 (told m 0xB3 (told m 0xB4 (told m 0xB5 (told m 0xB6 (told m 0xB7 (lineFeed ∷ []))))))))
-unfolding row rowWords blankWord
+unfolding row rowWords rowTexts wordTexts blankWord
 first-row m = refl
 
 pub last-row : (m : Model)
     → row m 0xF8
     ≡ digits 16 2 0xF8
     ∷ told m 0xF8 (told m 0xF9 (told m 0xFA (told m 0xFB (told m 0xFC (told m 0xFD (told m 0xFE (told m 0xFF (lineFeed ∷ []))))))))
-unfolding row rowWords blankWord
+unfolding row rowWords rowTexts wordTexts blankWord
 last-row m = refl
 
 -- ---- `expect`

@@ -1,13 +1,13 @@
 -- The turns of the loops. Assumes nothing.
 use Prim.Native.Nat.{ℕ, suc, _+_, _-_, _*_, _≤_, _<_, min}
 use mathlib.Core.Bool.{cond}
-use mathlib.Core.List.{List, [], _∷_, _++_}
+use mathlib.Core.List.{List, [], _∷_, _++_, append-nil, append-assoc}
 use mathlib.Core.Path.{_≡_, refl, sym, ap, _∙_}
 use native.Mathlib.Numerals.{add-one}
 use native.Mathlib.Omega.{arith}
 use lib.Dec.{eqb}
-use lib.ListN.{length, getD, drop, drop-of-length-le}
-use lib.Seq.{drop-cons}
+use lib.ListN.{length, getD, set, take, drop, drop-of-length-le}
+use lib.Seq.{drop-cons, take-all, take-suc-set}
 use Rattle.unit.proofs.Cases.{by-eqb}
 use Rattle.numeral.specs.Place.{Placed, putEach}
 use Rattle.device.specs.declared.Model.{Model}
@@ -15,7 +15,7 @@ use Rattle.wording.specs.Text.{PutEach}
 use Rattle.wording.specs.Wording.{pair}
 use Rattle.wording.proofs.Each.{each-then, each-end}
 use Rattle.item_state.specs.Told.{readWord}
-use Rattle.item_questions.specs.Answers.{next, blankWord, rowWords, row, rows, differing, pairs}
+use Rattle.item_questions.specs.Answers.{next, rowWords, row, rows, differing, pairs}
 
 one-at-most : (has wanted : ℕ) → cond (eqb has wanted) 0 1 ≤ 1
 one-at-most has wanted = by-eqb has wanted (λ _ e. rw e (omega arith)) (λ _ e. rw e (omega arith))
@@ -52,22 +52,24 @@ module _ (m : Model) (a : ℕ) (ws : List ℕ) (i : ℕ) (all : length ws ≤ i)
   unfolding pairs
   pairs-end e = each-end (rw (drop-of-length-le ws all) at e)
 
--- A word more of a row of eight.
-module _ (m : Model) (a i : ℕ) (less : i < 8) where
-  pub row-on : {has a′ : ℕ} → has ≡ readWord m a → a′ ≡ next a → {l l′ : List ℕ} {at r : ℕ} {end : Placed}
-      → PutEach l at (blankWord has) r l′ → putEach l at (rowWords m a (8 - i)) ≡ end
-      → putEach l′ r (rowWords m a′ (8 - (i + 1))) ≡ end
+-- A word more of a row of eight is read.
+module _ (m : Model) (address i : ℕ) (words : List ℕ) (long : length words ≡ 8) {end : List ℕ} where
+  pub row-on : i < 8 → {has address′ : ℕ} → has ≡ readWord m address → address′ ≡ next address
+      → take i words ++ rowWords m address (8 - i) ≡ end → take (i + 1) (set words i has) ++ rowWords m address′ (8 - (i + 1)) ≡ end
   unfolding rowWords
-  row-on {has} {a′} read after {l} {l′} {at} {r} {end} put e =
+  row-on less {has} {address′} read after e =
       let left : 8 - i ≡ suc (8 - (i + 1)) = omega arith in
-      let rest = rowWords m (next a) (8 - (i + 1)) in
-      let whole : putEach l at (blankWord has ++ rest) ≡ end = rw read (rw left at e) in
-      rw after (sym (each-then rest put) ∙ whole)
+      let rest = rowWords m (next address) (8 - (i + 1)) in
+      let whole : take i words ++ (has ∷ rest) ≡ end = rw read (rw left at e) in
+      let there : i < length words = omega arith in
+      rw (after, add-one i, take-suc-set words i has there) (append-assoc (take i words) (has ∷ []) (rowWords m (next address) (8 - suc i)) ∙ (rw (add-one i) at whole))
 
-pub row-end : (m : Model) (a i : ℕ) → 8 ≤ i → {l l′ : List ℕ} {at r : ℕ} {ts : List (List ℕ)}
-    → putEach l′ r (rowWords m a (8 - i)) ≡ putEach l at ts → PutEach l at ts r l′
-unfolding rowWords
-row-end m a i h e = let none : 8 - i ≡ 0 = omega arith in each-end (rw none at e)
+  pub row-end : 8 ≤ i → take i words ++ rowWords m address (8 - i) ≡ end → words ≡ end
+  unfolding rowWords
+  row-end h e =
+      let none : 8 - i ≡ 0 = omega arith in
+      let all : length words ≤ i = omega arith in
+      rw (none, take-all i words all, append-nil) at e
 
 -- A row more of ten.
 module _ (m : Model) (i : ℕ) where

@@ -6,47 +6,38 @@ use mathlib.Core.List.{List, [], _∷_, _++_}
 use mathlib.Core.Path.{_≡_}
 use lib.Dec.{eqb}
 use lib.ListN.{length, getD, set, take}
-use Rattle.numeral.specs.Digit.{digits}
 use Rattle.numeral.specs.Place.{Placed, putEach}
-use Rattle.numeral.specs.Print.{decimal}
 use Rattle.device.specs.declared.Model.{Model}
 use Rattle.device.specs.Model.{isSound}
 use Rattle.device.specs.Question.{interruptPending, awaitedTold}
 use Rattle.line.specs.declared.Content.{Content}
-use Rattle.numeral.specs.Ascii.{ascii}
 use Rattle.setup_frames.specs.Frames.{frames}
 use Rattle.page.specs.Page.{pageTexts}
-use Rattle.wording.specs.Wording.{Texts, lineFeed, head, pair, refused, counted as Wording·counted}
+use Rattle.wording.specs.Wording.{Texts, lineFeed, interruptTexts, awaitedTexts, rowTexts, head, pair, frameLines, framesHead, framesRefused}
 use Rattle.item_state.specs.Log.{Log, added, said, called}
 use Rattle.item_state.specs.Told.{toldValue, readWord}
 
 -- "`int yes` or `int no`"
 unfoldable pub interrupt : Model → Texts
-interrupt m = cond (eqb (toldValue (interruptPending m)) 0) (ascii "int no\n") (ascii "int yes\n") ∷ []
+interrupt m = interruptTexts (toldValue (interruptPending m))
 
 -- "`awaited F T`, each 0 or 1"
 unfoldable pub awaited : Model → Texts
 awaited m =
-    ascii "awaited " ∷ decimal (toldValue (awaitedTold m (m .flight .schedule)))
-    ∷ ascii " " ∷ decimal (toldValue (awaitedTold m (m .temperature .schedule)))
-    ∷ lineFeed ∷ []
+    awaitedTexts (toldValue (awaitedTold m (m .flight .schedule))) (toldValue (awaitedTold m (m .temperature .schedule)))
 
 -- the address after a, in 32 bits
 abbrev pub next : ℕ → ℕ
 next a = (a + 1) % 4294967296
 
--- a blank and a word "of four digits"
-unfoldable pub blankWord : ℕ → Texts
-blankWord w = ascii " " ∷ digits 16 4 w ∷ []
-
--- so for each of n registers from a on
-unfoldable pub rowWords : Model → ℕ → ℕ → Texts
+-- the words of n registers from a on
+unfoldable pub rowWords : Model → ℕ → ℕ → List ℕ
 rowWords m a zero = []
-rowWords m a (suc n) = blankWord (readWord m a) ++ rowWords m (next a) n
+rowWords m a (suc n) = readWord m a ∷ rowWords m (next a) n
 
 -- "the first address in two digits, then eight words of four digits"
 unfoldable pub row : Model → ℕ → Texts
-row m a = digits 16 2 a ∷ (rowWords m a 8 ++ (lineFeed ∷ []))
+row m a = rowTexts a (rowWords m a 8)
 
 -- n lines from a on
 unfoldable pub rows : Model → ℕ → ℕ → Texts
@@ -82,25 +73,13 @@ pub record Expects (m : Model) (a : ℕ) (ws counts answers counts′ answers′
 
 -- ---- `frames`
 
--- "lines `frame B ..`": a blank and two digits a byte
-unfoldable pub byteTexts : List ℕ → Texts
-byteTexts [] = []
-byteTexts (b ∷ bs) = ascii " " ∷ digits 16 2 b ∷ byteTexts bs
-
-unfoldable pub frameTexts : List ℕ → Texts
-frameTexts f = ascii "frame" ∷ (byteTexts f ++ (lineFeed ∷ []))
-
-unfoldable pub frameLines : List (List ℕ) → Texts
-frameLines [] = []
-frameLines (f ∷ fs) = frameTexts f ++ frameLines fs
-
 -- "`frames K`, then K lines"
 unfoldable pub framesTold : ℕ → List (List ℕ) → Log → Log
-framesTold k fs l = called 0 (ascii "frames " ∷ (Wording·counted k lineFeed ++ frameLines fs)) l
+framesTold k fs l = called 0 (framesHead k ++ frameLines fs) l
 
 -- "the set-up, 34h to 43h, as the fewest bytes of bus frames that bring a fresh chip to it"; an unsound model, which no item has, gets number 0
 unfoldable pub framesLine : Model → Log → Log
-framesLine m l = cond (isSound m) (framesTold (length (frames (m .setup))) (frames (m .setup)) l) (called 1 (refused (ascii "frames") 0) l)
+framesLine m l = cond (isSound m) (framesTold (length (frames (m .setup))) (frames (m .setup)) l) (called 1 (framesRefused 0) l)
 
 -- ---- every line
 

@@ -50,7 +50,7 @@ fn put_expectation(out: &mut [u8], at: usize, m: Model, a: u32, words: &[u32], n
 {
     let start = phrase::expectation::put_head(out, at, a, n as u64);
     let end = put_differing(out, start, m, a, words);
-    numeral::put_text(out, end, b"\n")
+    phrase::heads::put_end(out, end)
 }
 
 fn put_differing(out: &mut [u8], at: usize, m: Model, a: u32, words: &[u32]) -> usize

@@ -1,8 +1,8 @@
 // The line `frames`.
 ghost use mathlib.Core.Path.{_≡_};
-ghost use lib.ListN.{length, take};
 ghost use Rattle.wording.specs.Text.{PutEach};
-ghost use Rattle.item_questions.specs.Answers.{byteTexts, frameTexts, frameLines, framesTold, framesLine};
+ghost use Rattle.wording.specs.Wording.{frameLines};
+ghost use Rattle.item_questions.specs.Answers.{framesTold, framesLine};
 ghost use Rattle.item_questions.specs.Cut.{cut};
 use device::Model;
 use item_state::counts::USED;
@@ -22,7 +22,7 @@ pub fn frames(m: Model, counts: &mut [usize; 22], answers: &mut [u8])
     match framed {
         Framed::Frames(_, n) => tell(&bytes, first_words(&lengths, n), n, counts, answers),
         Framed::Refused(number) => {
-            let used = phrase::kept::put_refused(answers, counts[USED], b"frames", number);
+            let used = phrase::frames::put_frames_refused(answers, counts[USED], number);
             count(counts, 1, used);
         }
     }
@@ -32,14 +32,13 @@ pub fn frames(m: Model, counts: &mut [usize; 22], answers: &mut [u8])
 fn tell(bytes: &[u8], lengths: &[u32], n: usize, counts: &mut [usize; 22], answers: &mut [u8])
     ensures { λ _. ⌜ record { counts = now (counts .exit); answers = now (answers .exit) } ≡ framesTold n (cut (now (bytes .entry)) (now (lengths .entry))) record { counts = now (counts .entry); answers = now (answers .entry) } ⌝ }
 {
-    let a = numeral::put_text(answers, counts[USED], b"frames ");
-    let b = phrase::end::put_count(answers, a, n as u64, b"\n");
-    let used = put_frames(answers, b, bytes, lengths);
+    let a = phrase::frames::put_frames(answers, counts[USED], n as u64);
+    let used = put_each(answers, a, bytes, lengths);
     count(counts, 0, used);
 }
 
 // Each frame as a line.
-fn put_frames(answers: &mut [u8], at: usize, bytes: &[u8], lengths: &[u32]) -> usize
+fn put_each(answers: &mut [u8], at: usize, bytes: &[u8], lengths: &[u32]) -> usize
     ensures { λ r. ⌜ PutEach (now (answers .entry)) at (frameLines (cut (now (bytes .entry)) (now (lengths .entry)))) r (now (answers .exit)) ⌝ }
 {
     let mut place = at;
@@ -47,7 +46,7 @@ fn put_frames(answers: &mut [u8], at: usize, bytes: &[u8], lengths: &[u32]) -> u
     let mut i = 0;
     while i < lengths.len() {
         let n = size(lengths[i]);
-        place = put_frame(answers, place, first_bytes(bytes_from(bytes, from), n));
+        place = phrase::frames::put_frame(answers, place, first_bytes(bytes_from(bytes, from), n));
         from = more(from, n);
         i += 1;
     }
@@ -58,33 +57,4 @@ fn size(n: u32) -> usize
     ensures { λ r. ⌜ r ≡ n ⌝ }
 {
     n as usize
-}
-
-// `frame B ..`
-fn put_frame(answers: &mut [u8], at: usize, frame: &[u8]) -> usize
-    ensures { λ r. ⌜ PutEach (now (answers .entry)) at (frameTexts (now (frame .entry))) r (now (answers .exit)) ⌝ }
-{
-    let a = numeral::put_text(answers, at, b"frame");
-    let b = put_bytes(answers, a, frame);
-    numeral::put_text(answers, b, b"\n")
-}
-
-// A blank and two digits for each byte.
-fn put_bytes(answers: &mut [u8], at: usize, bytes: &[u8]) -> usize
-    ensures { λ r. ⌜ PutEach (now (answers .entry)) at (byteTexts (now (bytes .entry))) r (now (answers .exit)) ⌝ }
-{
-    let mut place = at;
-    let mut i = 0;
-    while i < bytes.len() {
-        let blank = numeral::put_text(answers, place, b" ");
-        place = numeral::put_hex(answers, blank, 2, wide(bytes[i]));
-        i += 1;
-    }
-    place
-}
-
-fn wide(b: u8) -> u32
-    ensures { λ r. ⌜ r ≡ b ⌝ }
-{
-    b as u32
 }

@@ -25,9 +25,9 @@ pub fn answer_question(
             expectation::expect(m, address, first_words(numbers, words), counts, answers);
         }
         Content::Frames => frames::frames(m, counts, answers),
-        Content::Int => counts[USED] = registers::add_interrupt(answers, counts[USED], m),
-        Content::Awaited => counts[USED] = registers::add_awaited(answers, counts[USED], m),
-        Content::Regs => counts[USED] = registers::add_registers(answers, counts[USED], m),
+        Content::Int => counts[USED] = registers::put_interrupt(answers, counts[USED], m),
+        Content::Awaited => counts[USED] = registers::put_awaited(answers, counts[USED], m),
+        Content::Regs => counts[USED] = registers::put_registers(answers, counts[USED], m),
         Content::Show => counts[USED] = show::put_page(answers, counts[USED], m),
         _ => {}
     }

@@ -22,10 +22,10 @@ use Rattle.listing.specs.Listing.{captureDigits, lines, lastAbove}
 use Rattle.setup_frames.specs.Frames.{frames}
 use Rattle.line.specs.declared.Content.{Content}
 use Rattle.numeral.specs.Ascii.{ascii}
-use Rattle.wording.specs.Wording.{Texts, lineFeed, numbered, counted as countedTexts, refused, listingHead}
+use Rattle.wording.specs.Wording.{Texts, lineFeed, numbered, counted as countedTexts, refused, listingHead, frameLines}
 use Rattle.item_state.specs.Log.{Log, added, counted, called, refusals, callCounted}
 use Rattle.item_calls.specs.Lines.{WithFlash, told, itemCounts, startMoment, transacted, busLine, setLine, moved, singleLine, ticksPart, ticksAhead, unlessUnderWay, ticksBegun, tickLine, atBegun, atLine, movedBy, stretchLine, flightLine, temperatureLine, beside, itemLine, timedLine, callLine}
-use Rattle.item_questions.specs.Answers.{frameLines, questionLine}
+use Rattle.item_questions.specs.Answers.{questionLine}
 use Rattle.item_analysis.specs.Lines.{degreesOf, widthOf, probeLine, recordLine, analysisLine}
 use Rattle.answer_text.specs.Texts.{Told, silent, behind, answered, toldOfTransaction, toldOfBus, toldOfSet, toldOfSingle, toldOfHead, toldOfPart, toldOfTicks, toldOfTick, toldOfAt, toldOfStretch, toldOfDelivery, callTold, toldOfExpect, toldOfFrames, questionTold, toldOfProbe, toldInDegrees, toldOfDegrees, toldOfRecord, toldOfListing, toldOfPlace, toldOfQuietest, recorded, analysisTold}
 use Rattle.answer_text.specs.Line.{lineLeft, lineTold, toldOfKept}

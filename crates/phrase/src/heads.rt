@@ -1,8 +1,8 @@
 // The words with which answers begin, and answers that are few words.
 ghost use mathlib.Core.List.{[], _∷_};
-ghost use Rattle.numeral.specs.Ascii.{ascii};
 ghost use Rattle.wording.specs.Text.{PutEach};
-ghost use Rattle.wording.specs.Wording.{lineFeed, numbered, stretch, delivery, refused, listingHead, place, expected, leftOut, itemName};
+ghost use Rattle.wording.specs.Wording.{lineFeed, numbered, tickHead, atHead, stretch, flightKind, temperatureKind, delivery, place, expected, leftOut, itemName};
+ghost use Rattle.wording.specs.Wording.{degreesRefused, listingHead, listingRefused, quietestRefused};
 use crate::delivery::put_delivery;
 use crate::end::put_count;
 use crate::kept::put_refused;
@@ -10,14 +10,14 @@ use device::Answer;
 
 // `tick N`
 pub fn put_tick(out: &mut [u8], at: usize, n: u32) -> usize
-    ensures { λ r. ⌜ PutEach (now (out .entry)) at (numbered (ascii "tick ") n) r (now (out .exit)) ⌝ }
+    ensures { λ r. ⌜ PutEach (now (out .entry)) at (tickHead n) r (now (out .exit)) ⌝ }
 {
     put_number(out, at, b"tick ", n)
 }
 
 // `at T`
 pub fn put_at(out: &mut [u8], at: usize, t: u32) -> usize
-    ensures { λ r. ⌜ PutEach (now (out .entry)) at (numbered (ascii "at ") t) r (now (out .exit)) ⌝ }
+    ensures { λ r. ⌜ PutEach (now (out .entry)) at (atHead t) r (now (out .exit)) ⌝ }
 {
     put_number(out, at, b"at ", t)
 }
@@ -39,21 +39,15 @@ pub fn put_stretch(out: &mut [u8], at: usize, answer: Answer, n: u32) -> usize
 }
 
 pub fn put_flight(out: &mut [u8], at: usize, answer: Answer) -> usize
-    ensures { λ r. ⌜ PutEach (now (out .entry)) at (delivery (ascii "flight") answer) r (now (out .exit)) ⌝ }
+    ensures { λ r. ⌜ PutEach (now (out .entry)) at (delivery flightKind answer) r (now (out .exit)) ⌝ }
 {
     put_delivery(out, at, b"flight", answer)
 }
 
 pub fn put_temperature(out: &mut [u8], at: usize, answer: Answer) -> usize
-    ensures { λ r. ⌜ PutEach (now (out .entry)) at (delivery (ascii "temperature") answer) r (now (out .exit)) ⌝ }
+    ensures { λ r. ⌜ PutEach (now (out .entry)) at (delivery temperatureKind answer) r (now (out .exit)) ⌝ }
 {
     put_delivery(out, at, b"temperature", answer)
-}
-
-pub fn put_record(out: &mut [u8], at: usize) -> usize
-    ensures { λ r. ⌜ PutEach (now (out .entry)) at (ascii "record" ∷ []) r (now (out .exit)) ⌝ }
-{
-    numeral::put_text(out, at, b"record")
 }
 
 // `listing N`, before its lines
@@ -65,19 +59,19 @@ pub fn put_listing(out: &mut [u8], at: usize, n: u64) -> usize
 }
 
 pub fn put_degrees_refused(out: &mut [u8], at: usize, number: u32) -> usize
-    ensures { λ r. ⌜ PutEach (now (out .entry)) at (refused (ascii "degrees") number) r (now (out .exit)) ⌝ }
+    ensures { λ r. ⌜ PutEach (now (out .entry)) at (degreesRefused number) r (now (out .exit)) ⌝ }
 {
     put_refused(out, at, b"degrees", number)
 }
 
 pub fn put_listing_refused(out: &mut [u8], at: usize, number: u32) -> usize
-    ensures { λ r. ⌜ PutEach (now (out .entry)) at (refused (ascii "listing") number) r (now (out .exit)) ⌝ }
+    ensures { λ r. ⌜ PutEach (now (out .entry)) at (listingRefused number) r (now (out .exit)) ⌝ }
 {
     put_refused(out, at, b"listing", number)
 }
 
 pub fn put_quietest_refused(out: &mut [u8], at: usize, number: u32) -> usize
-    ensures { λ r. ⌜ PutEach (now (out .entry)) at (refused (ascii "quietest") number) r (now (out .exit)) ⌝ }
+    ensures { λ r. ⌜ PutEach (now (out .entry)) at (quietestRefused number) r (now (out .exit)) ⌝ }
 {
     put_refused(out, at, b"quietest", number)
 }

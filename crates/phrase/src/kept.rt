@@ -1,6 +1,6 @@
-// What stands beside the model: the probe table, the record, and the set-up as frames.
+// What stands beside the model: the probe table and the record.
 ghost use Rattle.wording.specs.Text.{PutEach};
-ghost use Rattle.wording.specs.Wording.{probe, degrees, refused, difference, quietest};
+ghost use Rattle.wording.specs.Wording.{probe, degrees, refused, difference, differenceTexts, recordTexts, quietest};
 use crate::refusal::put_refusal;
 
 // `probe K`
@@ -29,8 +29,29 @@ pub fn put_refused(out: &mut [u8], at: usize, word: &[u8], number: u32) -> usize
     numeral::put_text(out, b, b"\n")
 }
 
+// `record D ..`
+pub fn put_record(out: &mut [u8], at: usize, words: &[u32]) -> usize
+    ensures { λ r. ⌜ PutEach (now (out .entry)) at (recordTexts (now (words .entry))) r (now (out .exit)) ⌝ }
+{
+    let a = numeral::put_text(out, at, b"record");
+    let b = put_differences(out, a, words);
+    numeral::put_text(out, b, b"\n")
+}
+
+fn put_differences(out: &mut [u8], at: usize, words: &[u32]) -> usize
+    ensures { λ r. ⌜ PutEach (now (out .entry)) at (differenceTexts (now (words .entry))) r (now (out .exit)) ⌝ }
+{
+    let mut place = at;
+    let mut i = 0;
+    while i < words.len() {
+        place = put_difference(out, place, words[i]);
+        i += 1;
+    }
+    place
+}
+
 // ` D`, a two's complement word.
-pub fn put_difference(out: &mut [u8], at: usize, word: u32) -> usize
+fn put_difference(out: &mut [u8], at: usize, word: u32) -> usize
     ensures { λ r. ⌜ PutEach (now (out .entry)) at (difference word) r (now (out .exit)) ⌝ }
 {
     let a = numeral::put_text(out, at, b" ");

@@ -22,10 +22,10 @@ use Rattle.setup_frames.specs.Frames.{frames}
 use Rattle.numeral.specs.Place.{putEach}
 use Rattle.line.specs.declared.Content.{Content}
 use Rattle.numeral.specs.Ascii.{ascii}
-use Rattle.wording.specs.Wording.{Texts, lineFeed, counted, refused, listingHead}
+use Rattle.wording.specs.Wording.{Texts, lineFeed, counted, refused, listingHead, frameLines}
 use Rattle.item_state.specs.Log.{Log, added, refusals, callCounted}
 use Rattle.item_calls.specs.Lines.{WithFlash, itemCounts, startMoment, moved, movedBy, callLine, timedLine, beside, itemLine, busLine, setLine, transacted, singleLine, tickLine, stretchLine, flightLine, temperatureLine, told}
-use Rattle.item_questions.specs.Answers.{frameLines, questionLine}
+use Rattle.item_questions.specs.Answers.{questionLine}
 use Rattle.item_analysis.specs.Lines.{degreesOf, recordWords, analysisLine, probeLine, recordLine}
 use Rattle.item_checks.specs.Open.{isItem}
 use Rattle.item_checks.specs.Fault.{isFault, leftOf}

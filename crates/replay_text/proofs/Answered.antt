@@ -30,10 +30,9 @@ use Rattle.setup_frames.specs.Frames.{frames}
 use Rattle.line.specs.declared.Content.{Content}
 use Rattle.line_buffer.specs.Lines.{textLines}
 use Rattle.numeral.specs.Ascii.{ascii}
-use Rattle.wording.specs.Wording.{Texts, lineFeed, refusal, started, busAnswer, outputBuffer, bus, set as setTexts, deliveryAnswer, delivery, numbered, quiet, ticked as tickTexts, single, stretched, stretch, counted, degrees, refused, listingHead, quietest}
+use Rattle.wording.specs.Wording.{Texts, lineFeed, refusal, started, busAnswer, outputBuffer, bus, set as setTexts, deliveryAnswer, delivery, numbered, quiet, ticked as tickTexts, single, stretched, stretch, counted, degrees, refused, listingHead, quietest, frameLines}
 use Rattle.item_state.specs.Log.{refusals}
 use Rattle.item_calls.specs.Lines.{callLine, timedLine, beside}
-use Rattle.item_questions.specs.Answers.{frameLines}
 use Rattle.item_analysis.specs.Lines.{degreesOf, widthOf}
 use Rattle.item_checks.specs.Fault.{isFault, leftOf}
 use Rattle.item_checks.specs.Open.{isItem}

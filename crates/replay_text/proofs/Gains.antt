@@ -3,7 +3,7 @@
 use Prim.Native.Nat.{ℕ, _+_, _≤_, _<_, min}
 use mathlib.Core.Path.{_≡_, refl, sym, ap, _∙_}
 use mathlib.Core.Bool.{Bool, true, false, cond}
-use mathlib.Core.List.{List, [], _∷_, _++_, map}
+use mathlib.Core.List.{List, [], _∷_, _++_}
 use native.Mathlib.Omega.{arith}
 use lib.Dec.{eqb}
 use lib.IntN.{ℤ}
@@ -28,10 +28,10 @@ use Rattle.line.specs.declared.Content.{Content}
 use Rattle.line.specs.Line.{Reading, Bounded}
 use Rattle.line.proofs.BoundLaws.{line-bounded}
 use Rattle.numeral.specs.Ascii.{ascii}
-use Rattle.wording.specs.Wording.{Texts, lineFeed, counted, refused, listingHead}
+use Rattle.wording.specs.Wording.{Texts, lineFeed, counted, refused, listingHead, frameLines}
 use Rattle.item_state.specs.Log.{added, refusals, callCounted}
 use Rattle.item_calls.specs.Lines.{itemCounts, startMoment, moved, movedBy, callLine, timedLine, beside}
-use Rattle.item_questions.specs.Answers.{differing, frameLines}
+use Rattle.item_questions.specs.Answers.{differing}
 use Rattle.item_analysis.specs.Kept.{keptEach}
 use Rattle.item_analysis.specs.Lines.{degreesOf, recordWords, widthOf}
 use Rattle.item_checks.specs.Open.{isItem}
@@ -168,7 +168,7 @@ module _ (k : ℕ) (some : 2 < k) (low : k < 9) where
     gains-probe : (entries probes : List ℕ) → Gains k (inExpect k 0 0) c (toldOfProbe entries probes c .counts)
     unfolding toldOfProbe
     gains-probe entries probes =
-        let used = keptEach (map (λ (entry : ℕ). entry) entries) record { values = probes; used = getD c 11 0 } .used in
+        let used = keptEach entries record { values = probes; used = getD c 11 0 } .used in
         stays (set c 11 used) (has-other 11 used (getD c k 0) (omega arith) c itself)
 
     -- `record` sets place 10 alone.

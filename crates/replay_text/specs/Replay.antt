@@ -22,8 +22,7 @@ use Rattle.device.specs.Model.{freshModel}
 use Rattle.line.specs.declared.Content.{Content}
 use Rattle.line.specs.Line.{lineReading}
 use Rattle.line_buffer.specs.Lines.{textLines, eachLine}
-use Rattle.numeral.specs.Ascii.{ascii}
-use Rattle.wording.specs.Wording.{Texts, lineFeed, numbered}
+use Rattle.wording.specs.Wording.{Texts, lineFeed, tickHead, atHead}
 use Rattle.item_calls.specs.Lines.{moved, ticked}
 use Rattle.item_checks.specs.Fault.{leftOf}
 use Rattle.item_checks.specs.Close.{expectedOf}
@@ -56,7 +55,7 @@ tickLines Content.Item counts = []
 tickLines (Content.Bus n) counts = []
 tickLines (Content.BusOut size n) counts = []
 tickLines (Content.Tick n) counts =
-    cond (eqb n 1) [] (record { head = numbered (ascii "tick ") n; ticks = n; before = 0; counts = moved n counts } ∷ [])
+    cond (eqb n 1) [] (record { head = tickHead n; ticks = n; before = 0; counts = moved n counts } ∷ [])
 tickLines (Content.Flight up down) counts = []
 tickLines (Content.Temperature n) counts = []
 tickLines Content.Int counts = []
@@ -67,7 +66,7 @@ tickLines Content.Show counts = []
 tickLines (Content.Set a n) counts = []
 tickLines (Content.At t) counts =
     let n = t - getD counts 9 0 in
-    record { head = numbered (ascii "at ") t; ticks = n; before = t - n; counts = set counts 9 t } ∷ []
+    record { head = atHead t; ticks = n; before = t - n; counts = set counts 9 t } ∷ []
 tickLines (Content.Stretch n) counts = []
 tickLines Content.Frames counts = []
 tickLines (Content.Probe n) counts = []

@@ -6,8 +6,7 @@ use Rattle.device.specs.declared.Answer.{Answer}
 use Rattle.device.specs.declared.Answer.the-variants.{Refused, Accepted, Ticked, Stretched, Good, Failed}
 use Rattle.device.specs.Call.{Call}
 use Rattle.device.specs.Reply.{reply}
-use Rattle.numeral.specs.Ascii.{ascii}
-use Rattle.wording.specs.Wording.{Texts, reportAt}
+use Rattle.wording.specs.Wording.{Texts, reportsAt}
 use Rattle.item_calls.specs.Lines.{Ticks}
 
 -- "` WHAT@I` for each thing that the I-th of these ticks reported": "`failed-flight`, `started-flight`, `failed-temperature` or
@@ -16,10 +15,7 @@ unfoldable pub oneReported : Answer → ℕ → Texts
 oneReported (Refused number) i = []
 oneReported (Accepted flight temperature) i = []
 oneReported (Ticked flight temperature) i =
-    reportAt (flight .failed) (ascii " failed-flight@") i
-    ++ (reportAt (flight .started) (ascii " started-flight@") i
-    ++ (reportAt (temperature .failed) (ascii " failed-temperature@") i
-    ++ reportAt (temperature .started) (ascii " started-temperature@") i))
+    reportsAt (flight .failed) (flight .started) (temperature .failed) (temperature .started) i
 oneReported (Stretched flight temperature) i = []
 oneReported Good i = []
 oneReported Failed i = []

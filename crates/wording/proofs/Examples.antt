@@ -15,6 +15,8 @@ use Rattle.wording.specs.Wording.{refusalWords, refusalWord, refusal, st
 use Rattle.wording.specs.Wording.{deliveryAnswer, delivery, reportedWhere, kindReports, quiet, ticked, single}
 use Rattle.wording.specs.Wording.{reportAt, tickReports, sooner, nextNamed, laterNamed, named, stretched, head, pair}
 use Rattle.wording.specs.Wording.{numbered, stretch, listingHead, place, expected as expectedTexts, leftOut, itemName}
+use Rattle.wording.specs.Wording.{tickHead, atHead, reportsAt, flightKind, temperatureKind, interruptTexts, awaitedTexts, blankWord, wordTexts, rowTexts}
+use Rattle.wording.specs.Wording.{byteTexts, frameTexts, frameLines, framesHead, framesRefused, degreesRefused, differenceTexts, recordTexts, listingRefused, quietestRefused}
 use Rattle.wording.specs.Wording.{counted, probe, degrees, refused, difference, quietest, why, fault, calls, faults}
 
 -- of one tick: failed, started
@@ -212,3 +214,23 @@ reasons : (why Content.TooLong ≡ ": too long\n") × (why Content.UnknownWord �
     × (why Content.WrongCount ≡ ": wrong count\n") × (why (Content.At 5) ≡ ": past\n") × (why (Content.Probe 1) ≡ ": no room\n") × (why (Content.Record 1) ≡ ": no room\n")
 unfolding why
 reasons = (refl, refl, refl, refl, refl, refl, refl)
+
+-- `int`, `awaited` and a row of `regs`
+questions : (joined (interruptTexts 0) ≡ ascii "int no\n") × (joined (interruptTexts 1) ≡ ascii "int yes\n") × (joined (awaitedTexts 1 0) ≡ ascii "awaited 1 0\n")
+    × (joined (rowTexts 0xF8 (0 ∷ 0x1A ∷ 0xFFFF ∷ 7 ∷ 0x100C ∷ 0 ∷ 0 ∷ 0x8000 ∷ [])) ≡ ascii "F8 0000 001A FFFF 0007 100C 0000 0000 8000\n")
+unfolding joined rowTexts wordTexts blankWord decimal decimalWidth widthFrom digits glyph ascii
+questions = (refl, refl, refl, refl)
+
+-- `frames`, with two frames and refused, and `record`, with two differences and with none
+frames-and-differences : (joined (framesHead 2 ++ frameLines ((0x38 ∷ 0x10 ∷ 0x0A ∷ []) ∷ (0x42 ∷ 2 ∷ 0 ∷ []) ∷ [])) ≡ ascii "frames 2\nframe 38 10 0A\nframe 42 02 00\n")
+    × (joined (framesRefused 0) ≡ ascii "frames no 0 record\n") × (joined (recordTexts (0xFFFFFE20 ∷ 7 ∷ [])) ≡ ascii "record -480 7\n") × (joined (recordTexts []) ≡ ascii "record\n")
+unfolding joined frameLines frameTexts byteTexts recordTexts differenceTexts difference counted refused refusal refusalWord refusalWords signedDecimal decimal decimalWidth widthFrom digits glyph ascii
+frames-and-differences = (refl, refl, refl, refl)
+
+-- the first words of lines, what ticks report, and refusals
+first-words : (joined (tickHead 70000) ≡ ascii "tick 70000") × (joined (atHead 262244) ≡ ascii "at 262244") × (joined (delivery flightKind Good) ≡ ascii "flight good\n")
+    × (joined (delivery temperatureKind Failed) ≡ ascii "temperature failed\n") × (joined (degreesRefused 13) ≡ ascii "degrees no 13 off the table\n")
+    × (joined (listingRefused 20) ≡ ascii "listing no 20 capture number\n") × (joined (quietestRefused 18) ≡ ascii "quietest no 18 width\n")
+    × (joined (reportsAt true true true true 9) ≡ ascii " failed-flight@9 started-flight@9 failed-temperature@9 started-temperature@9")
+unfolding joined numbered reportAt delivery deliveryAnswer refused refusal refusalWord refusalWords decimal decimalWidth widthFrom digits glyph ascii
+first-words = (refl, refl, refl, refl, refl, refl, refl, refl)

@@ -22,6 +22,10 @@ Texts = List (List ℕ)
 abbrev pub lineFeed : List ℕ
 lineFeed = 10 ∷ []
 
+-- a number, and what it counts
+unfoldable pub counted : ℕ → List ℕ → Texts
+counted n what = decimal n ∷ what ∷ []
+
 -- ---- refusals
 
 -- WORD, the words of 0 to 21: those of 01's table, of 02, and `capture number` for 20
@@ -38,6 +42,10 @@ refusalWord number = getD refusalWords number "unknown"
 -- " no NUMBER WORD"
 unfoldable pub refusal : ℕ → Texts
 refusal number = ascii " no " ∷ decimal number ∷ ascii " " ∷ ascii (refusalWord number) ∷ []
+
+-- a line's first word and a refusal
+unfoldable pub refused : List ℕ → ℕ → Texts
+refused word number = word ∷ (refusal number ++ (lineFeed ∷ []))
 
 -- ---- transactions
 
@@ -70,25 +78,19 @@ bus answer buffer = ascii "bus" ∷ (busAnswer answer ++ (outputBuffer buffer ++
 unfoldable pub set : Answer → Texts
 set answer = ascii "set" ∷ (busAnswer answer ++ (lineFeed ∷ []))
 
--- ---- deliveries
-
-unfoldable pub deliveryAnswer : Answer → Texts
-deliveryAnswer (Refused number) = refusal number
-deliveryAnswer (Accepted flight temperature) = []
-deliveryAnswer (Ticked flight temperature) = []
-deliveryAnswer (Stretched flight temperature) = []
-deliveryAnswer Good = ascii " good" ∷ []
-deliveryAnswer Failed = ascii " failed" ∷ []
-
--- "`flight good`, `flight failed` or `flight no NUMBER WORD`", and so for the other kind
-unfoldable pub delivery : List ℕ → Answer → Texts
-delivery kind answer = kind ∷ (deliveryAnswer answer ++ (lineFeed ∷ []))
-
 -- ---- ticks
 
--- "`tick N`" and "`at T`": a word and a number
+-- a word and a number
 unfoldable pub numbered : List ℕ → ℕ → Texts
 numbered word n = word ∷ decimal n ∷ []
+
+-- "`tick N`", before what the ticks report
+abbrev pub tickHead : ℕ → Texts
+tickHead n = numbered (ascii "tick ") n
+
+-- "`at T`", before what the ticks report
+abbrev pub atHead : ℕ → Texts
+atHead t = numbered (ascii "at ") t
 
 -- a text where a test holds
 unfoldable pub reportedWhere : Bool → List ℕ → Texts
@@ -125,14 +127,19 @@ single Failed = []
 unfoldable pub reportAt : Bool → List ℕ → ℕ → Texts
 reportAt holds what i = cond holds (what ∷ decimal i ∷ []) []
 
+-- so for each WHAT, in the order in which they are named above
+abbrev pub reportsAt : Bool → Bool → Bool → Bool → ℕ → Texts
+reportsAt failedFlight startedFlight failedTemperature startedTemperature i =
+    reportAt failedFlight (ascii " failed-flight@") i
+    ++ (reportAt startedFlight (ascii " started-flight@") i
+    ++ (reportAt failedTemperature (ascii " failed-temperature@") i
+    ++ reportAt startedTemperature (ascii " started-temperature@") i))
+
 -- what tick i of a stretch reported, with `done` ticks before the stretch
 unfoldable pub tickReports : StretchReport → StretchReport → ℕ → ℕ → Texts
 tickReports flight temperature i done =
     let n = (done + i) % 4294967296 in
-    reportAt (eqb (flight .failed) i) (ascii " failed-flight@") n
-    ++ (reportAt (eqb (flight .started) i) (ascii " started-flight@") n
-    ++ (reportAt (eqb (temperature .failed) i) (ascii " failed-temperature@") n
-    ++ reportAt (eqb (temperature .started) i) (ascii " started-temperature@") n))
+    reportsAt (eqb (flight .failed) i) (eqb (flight .started) i) (eqb (temperature .failed) i) (eqb (temperature .started) i) n
 
 -- beyond every tick that a stretch names
 abbrev pub noTick : ℕ
@@ -175,6 +182,50 @@ stretched Failed n = []
 unfoldable pub stretch : Answer → ℕ → Texts
 stretch answer n = ascii "stretch" ∷ (stretched answer n ++ (lineFeed ∷ []))
 
+-- ---- deliveries
+
+unfoldable pub deliveryAnswer : Answer → Texts
+deliveryAnswer (Refused number) = refusal number
+deliveryAnswer (Accepted flight temperature) = []
+deliveryAnswer (Ticked flight temperature) = []
+deliveryAnswer (Stretched flight temperature) = []
+deliveryAnswer Good = ascii " good" ∷ []
+deliveryAnswer Failed = ascii " failed" ∷ []
+
+-- the first words of the two lines
+abbrev pub flightKind : List ℕ
+flightKind = ascii "flight"
+
+abbrev pub temperatureKind : List ℕ
+temperatureKind = ascii "temperature"
+
+-- "`flight good`, `flight failed` or `flight no NUMBER WORD`", and so for the other kind
+unfoldable pub delivery : List ℕ → Answer → Texts
+delivery kind answer = kind ∷ (deliveryAnswer answer ++ (lineFeed ∷ []))
+
+-- ---- `int`, `awaited` and `regs`
+
+-- "`int yes` or `int no`": no where 0 is told
+abbrev pub interruptTexts : ℕ → Texts
+interruptTexts told = cond (eqb told 0) (ascii "int no\n") (ascii "int yes\n") ∷ []
+
+-- "`awaited F T`, each 0 or 1"
+abbrev pub awaitedTexts : ℕ → ℕ → Texts
+awaitedTexts flight temperature = ascii "awaited " ∷ decimal flight ∷ ascii " " ∷ decimal temperature ∷ lineFeed ∷ []
+
+-- a blank and a word "of four digits"
+unfoldable pub blankWord : ℕ → Texts
+blankWord w = ascii " " ∷ digits 16 4 w ∷ []
+
+-- so for each
+unfoldable pub wordTexts : List ℕ → Texts
+wordTexts [] = []
+wordTexts (w ∷ ws) = blankWord w ++ wordTexts ws
+
+-- "the first address in two digits, then eight words of four digits"
+unfoldable pub rowTexts : ℕ → List ℕ → Texts
+rowTexts a ws = digits 16 2 a ∷ (wordTexts ws ++ (lineFeed ∷ []))
+
 -- ---- expectations
 
 -- "`expect A ok`, or `expect A differs`", where n words differ
@@ -187,11 +238,29 @@ pair address has wanted =
     cond (eqb has wanted) []
     (ascii " " ∷ digits 16 2 address ∷ ascii ":" ∷ digits 16 4 has ∷ ascii "/" ∷ digits 16 4 wanted ∷ [])
 
--- ---- what stands beside the model
+-- ---- the set-up as frames
 
--- a number, and what it counts
-unfoldable pub counted : ℕ → List ℕ → Texts
-counted n what = decimal n ∷ what ∷ []
+-- "lines `frame B ..`": a blank and two digits a byte
+unfoldable pub byteTexts : List ℕ → Texts
+byteTexts [] = []
+byteTexts (b ∷ bs) = ascii " " ∷ digits 16 2 b ∷ byteTexts bs
+
+unfoldable pub frameTexts : List ℕ → Texts
+frameTexts f = ascii "frame" ∷ (byteTexts f ++ (lineFeed ∷ []))
+
+unfoldable pub frameLines : List (List ℕ) → Texts
+frameLines [] = []
+frameLines (f ∷ fs) = frameTexts f ++ frameLines fs
+
+-- "`frames K`, then K lines": its first line
+abbrev pub framesHead : ℕ → Texts
+framesHead k = ascii "frames " ∷ counted k lineFeed
+
+-- an unsound model, which no item has, gets `frames no 0 record`
+abbrev pub framesRefused : ℕ → Texts
+framesRefused number = refused (ascii "frames") number
+
+-- ---- what stands beside the model
 
 -- "`probe K`"
 unfoldable pub probe : ℕ → Texts
@@ -201,21 +270,38 @@ probe entries = ascii "probe " ∷ counted entries lineFeed
 unfoldable pub degrees : ℕ → Texts
 degrees n = ascii "degrees " ∷ thousandths n ∷ lineFeed ∷ []
 
--- "`degrees no 13 off the table`", and so for every other word
-unfoldable pub refused : List ℕ → ℕ → Texts
-refused word number = word ∷ (refusal number ++ (lineFeed ∷ []))
+-- "`degrees no 13 off the table` or `degrees no 14 bad table`"
+abbrev pub degreesRefused : ℕ → Texts
+degreesRefused number = refused (ascii "degrees") number
 
 -- "`record D ..`": a blank and one of them
 unfoldable pub difference : ℕ → Texts
 difference word = ascii " " ∷ signedDecimal word ∷ []
 
+-- so for each
+unfoldable pub differenceTexts : List ℕ → Texts
+differenceTexts [] = []
+differenceTexts (w ∷ ws) = difference w ++ differenceTexts ws
+
+-- "`record D ..`, what was added"
+unfoldable pub recordTexts : List ℕ → Texts
+recordTexts ws = ascii "record" ∷ (differenceTexts ws ++ (lineFeed ∷ []))
+
 -- "`listing K`, then the K lines": its first line
 unfoldable pub listingHead : ℕ → Texts
 listingHead n = ascii "listing " ∷ counted n lineFeed
 
+-- "`listing no 20 capture number`"
+abbrev pub listingRefused : ℕ → Texts
+listingRefused number = refused (ascii "listing") number
+
 -- "`quietest START SPREAD`"
 unfoldable pub quietest : ℕ → ℕ → Texts
 quietest start spread = ascii "quietest " ∷ (counted start (ascii " ") ++ counted spread lineFeed)
+
+-- "`quietest no 18 width`"
+abbrev pub quietestRefused : ℕ → Texts
+quietestRefused number = refused (ascii "quietest") number
 
 -- ---- bad lines
 

@@ -60,11 +60,11 @@ frames-requires c κs = search needs
 enum-told-2 : tie.Need-enum-told-2
 enum-told-2 c = search needs
 
-element-copy-out-add-interrupt : tie.Need-element-copy-out-add-interrupt
-element-copy-out-add-interrupt c = search needs
+element-copy-out-put-interrupt : tie.Need-element-copy-out-put-interrupt
+element-copy-out-put-interrupt c = search needs
 
-add-interrupt-requires : tie.Need-add-interrupt-requires
-add-interrupt-requires c κs = search needs
+put-interrupt-requires : tie.Need-put-interrupt-requires
+put-interrupt-requires c κs = search needs
 
 element-write-counts : tie.Need-element-write-counts
 element-write-counts c = search needs
@@ -72,11 +72,11 @@ element-write-counts c = search needs
 enum-told-3 : tie.Need-enum-told-3
 enum-told-3 c = search needs
 
-element-copy-out-add-awaited : tie.Need-element-copy-out-add-awaited
-element-copy-out-add-awaited c = search needs
+element-copy-out-put-awaited : tie.Need-element-copy-out-put-awaited
+element-copy-out-put-awaited c = search needs
 
-add-awaited-requires : tie.Need-add-awaited-requires
-add-awaited-requires c κs = search needs
+put-awaited-requires : tie.Need-put-awaited-requires
+put-awaited-requires c κs = search needs
 
 element-write-counts-2 : tie.Need-element-write-counts-2
 element-write-counts-2 c = search needs
@@ -84,11 +84,11 @@ element-write-counts-2 c = search needs
 enum-told-4 : tie.Need-enum-told-4
 enum-told-4 c = search needs
 
-element-copy-out-add-registers : tie.Need-element-copy-out-add-registers
-element-copy-out-add-registers c = search needs
+element-copy-out-put-registers : tie.Need-element-copy-out-put-registers
+element-copy-out-put-registers c = search needs
 
-add-registers-requires : tie.Need-add-registers-requires
-add-registers-requires c κs = search needs
+put-registers-requires : tie.Need-put-registers-requires
+put-registers-requires c κs = search needs
 
 element-write-counts-3 : tie.Need-element-write-counts-3
 element-write-counts-3 c = search needs
@@ -124,21 +124,21 @@ same-length-3 c = search needs
 
 returns-3 : tie.Need-returns-3
 unfolding questionLine said
-returns-3 c = rw (c .before .before .before .before .before .enum-told2 .given .1, ← c .before .before .add-interrupt .ensures .next, ← c .before .before .add-interrupt .ensures .bytes)
+returns-3 c = rw (c .before .before .before .before .before .enum-told2 .given .1, ← c .before .before .put-interrupt .ensures .next, ← c .before .before .put-interrupt .ensures .bytes)
 
 same-length-4 : tie.Need-same-length-4
 same-length-4 c = search needs
 
 returns-4 : tie.Need-returns-4
 unfolding questionLine said
-returns-4 c = rw (c .before .before .before .before .before .enum-told3 .given .1, ← c .before .before .add-awaited .ensures .next, ← c .before .before .add-awaited .ensures .bytes)
+returns-4 c = rw (c .before .before .before .before .before .enum-told3 .given .1, ← c .before .before .put-awaited .ensures .next, ← c .before .before .put-awaited .ensures .bytes)
 
 same-length-5 : tie.Need-same-length-5
 same-length-5 c = search needs
 
 returns-5 : tie.Need-returns-5
 unfolding questionLine said
-returns-5 c = rw (c .before .before .before .before .before .enum-told4 .given .1, ← c .before .before .add-registers .ensures .next, ← c .before .before .add-registers .ensures .bytes)
+returns-5 c = rw (c .before .before .before .before .before .enum-told4 .given .1, ← c .before .before .put-registers .ensures .next, ← c .before .before .put-registers .ensures .bytes)
 
 same-length-6 : tie.Need-same-length-6
 same-length-6 c = search needs
@@ -160,16 +160,16 @@ answer-question-spec =
     enum-told
     frames-requires
     enum-told-2
-    element-copy-out-add-interrupt
-    add-interrupt-requires
+    element-copy-out-put-interrupt
+    put-interrupt-requires
     element-write-counts
     enum-told-3
-    element-copy-out-add-awaited
-    add-awaited-requires
+    element-copy-out-put-awaited
+    put-awaited-requires
     element-write-counts-2
     enum-told-4
-    element-copy-out-add-registers
-    add-registers-requires
+    element-copy-out-put-registers
+    put-registers-requires
     element-write-counts-3
     enum-told-5
     element-copy-out-put-page

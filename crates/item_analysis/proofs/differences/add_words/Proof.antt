@@ -1,8 +1,7 @@
 -- `item_analysis::differences::add_words` meets its contract.
 -- Assumes nothing.
 use borrow.Author.Needs.{needs}
-use Rattle.item_analysis.specs.Lines.{recordLine, recordTexts}
-use Rattle.wording.proofs.Each.{put-then}
+use Rattle.item_analysis.specs.Lines.{recordLine}
 use Rattle.item_state.specs.Log.{said}
 use Rattle.item_analysis.proofs.differences.add_words.Statement.{statement}
 use Rattle.item_analysis.proofs.differences.add_words.Tie as tie
@@ -22,12 +21,6 @@ element-copy-out-put-record c = search needs
 put-record-requires : tie.Need-put-record-requires
 put-record-requires c κs = search needs
 
-put-each-requires : tie.Need-put-each-requires
-put-each-requires c κs = search needs
-
-put-end-requires : tie.Need-put-end-requires
-put-end-requires c κs = search needs
-
 element-write-counts-2 : tie.Need-element-write-counts-2
 element-write-counts-2 c = search needs
 
@@ -38,8 +31,8 @@ same-length-2 : tie.Need-same-length-2
 same-length-2 c = search needs
 
 returns : tie.Need-returns
-unfolding recordLine recordTexts said
-returns c = let whole = put-then (c .before .before .before .before .before .before .before .before .before .before .put-record .ensures) (put-then (c .before .before .before .before .before .before .put-each .ensures) (c .before .before .put-end .ensures)) in rw (← c .before .before .before .before .before .before .before .before .before .before .before .before .before .before .store .ensures, ← whole .next, ← whole .bytes)
+unfolding recordLine said
+returns c = rw (← c .before .before .before .before .before .before .store .ensures, ← c .before .before .put-record .ensures .next, ← c .before .before .put-record .ensures .bytes)
 
 pub add-words-spec : {M : Type 1} → statement M
 add-words-spec =
@@ -50,8 +43,6 @@ add-words-spec =
     element-write-counts
     element-copy-out-put-record
     put-record-requires
-    put-each-requires
-    put-end-requires
     element-write-counts-2
     same-length
     same-length-2

@@ -4,17 +4,15 @@ use borrow.Author.Needs.{needs}
 use Prim.Native.Nat.{_-_, _≤_}
 use mathlib.Core.Path.{_≡_}
 use lib.ListN.{length}
-use mathlib.Core.List.{map}
 use mathlib.Core.Path.{refl}
 use lib.ListN.{drop}
 use Rattle.item_analysis.specs.Kept.{keptEach}
-use Rattle.item_analysis.proofs.Steps.{kept-on, kept-end}
-use Prim.Native.Nat.{ℕ}
+use Rattle.item_analysis.proofs.Steps.{entries-on, entries-end}
 use Rattle.item_analysis.proofs.table.add.Statement.{statement}
 use Rattle.item_analysis.proofs.table.add.Tie as tie
 
 abbrev Inv-loop : tie.InvT-loop
-Inv-loop entries probes₀ n end₀ i₀ probes end i = (length probes ≡ length probes₀) × (keptEach (map (λ (entry : ℕ). entry) (drop i entries)) record { values = probes; used = end } ≡ keptEach (map (λ (entry : ℕ). entry) entries) record { values = probes₀; used = end₀ })
+Inv-loop entries probes₀ n end₀ i₀ probes end i = (length probes ≡ length probes₀) × (keptEach (drop i entries) record { values = probes; used = end } ≡ keptEach entries record { values = probes₀; used = end₀ })
 
 abbrev μ-loop : tie.MeasureT-loop
 μ-loop entries probes₀ n end₀ i₀ probes end i = length entries - i
@@ -38,13 +36,13 @@ loop-less : tie.Need-loop-less Inv-loop μ-loop
 loop-less c = search needs
 
 loop-again : tie.Need-loop-again Inv-loop μ-loop
-loop-again c = (search needs, kept-on (λ (entry : ℕ). entry) (c .before .before .before .before .before .before .before .before .before .args .entries .now) (c .before .before .before .before .before .before .loop .i) (c .before .before .before .before .before .loop-test .taken) record { values = c .before .before .before .before .before .before .loop .probes; used = c .before .before .before .before .before .before .loop .end } (c .before .before .put .ensures) (c .before .before .before .before .before .before .loop .inv .1))
+loop-again c = (search needs, entries-on (c .before .before .before .before .before .before .before .before .before .args .entries .now) (c .before .before .before .before .before .before .loop .i) (c .before .before .before .before .before .loop-test .taken) record { values = c .before .before .before .before .before .before .loop .probes; used = c .before .before .before .before .before .before .loop .end } (c .before .before .put .ensures) (c .before .before .before .before .before .before .loop .inv .1))
 
 same-length : tie.Need-same-length Inv-loop μ-loop
 same-length c = search needs
 
 returns : tie.Need-returns Inv-loop μ-loop
-returns c = kept-end (λ (entry : ℕ). entry) (c .before .before .before .before .args .entries .now) (c .before .loop .i) (c .loop-test .left) record { values = c .before .loop .probes; used = c .before .loop .end } (c .before .loop .inv .1)
+returns c = entries-end (c .before .before .before .before .args .entries .now) (c .before .loop .i) (c .loop-test .left) record { values = c .before .loop .probes; used = c .before .loop .end } (c .before .loop .inv .1)
 
 pub add-spec : {M : Type 1} → statement M
 add-spec =

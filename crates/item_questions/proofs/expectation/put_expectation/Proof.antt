@@ -2,7 +2,7 @@
 -- Assumes nothing.
 use borrow.Author.Needs.{needs}
 use Rattle.item_questions.specs.Answers.{expectation}
-use Rattle.wording.proofs.Each.{put-one, put-then}
+use Rattle.wording.proofs.Each.{put-then}
 use Rattle.item_questions.proofs.expectation.put_expectation.Statement.{statement}
 use Rattle.item_questions.proofs.expectation.put_expectation.Tie as tie
 
@@ -12,18 +12,15 @@ put-head-requires c κs = search needs
 put-differing-requires : tie.Need-put-differing-requires
 put-differing-requires c κs = search needs
 
-slice-aggregate-put-text : tie.Need-slice-aggregate-put-text
-slice-aggregate-put-text c = search needs
-
-put-text-requires : tie.Need-put-text-requires
-put-text-requires c κs = search needs
+put-end-requires : tie.Need-put-end-requires
+put-end-requires c κs = search needs
 
 same-length : tie.Need-same-length
 same-length c = search needs
 
 returns : tie.Need-returns
 unfolding expectation
-returns c = rw (← c .before .before .before .before .before .before .before .before .before .before .before .before .before .before .before .pre) (put-then (c .before .before .before .before .before .before .before .before .before .before .before .put-head .ensures) (put-then (c .before .before .before .before .before .before .before .put-differing .ensures) (put-one (c .before .before .put-text .ensures))))
+returns c = rw (← c .before .before .before .before .before .before .before .before .before .before .before .before .before .before .pre) (put-then (c .before .before .before .before .before .before .before .before .before .before .put-head .ensures) (put-then (c .before .before .before .before .before .before .put-differing .ensures) (c .before .before .put-end .ensures)))
 
 pub put-expectation-spec : {M : Type 1} → statement M
 put-expectation-spec =
@@ -31,7 +28,6 @@ put-expectation-spec =
     (tie.spec
     put-head-requires
     put-differing-requires
-    slice-aggregate-put-text
-    put-text-requires
+    put-end-requires
     same-length
     returns)

@@ -2,7 +2,6 @@
 -- Assumes nothing.
 use borrow.Author.Needs.{needs}
 use mathlib.Core.Path.{refl, sym, ap, _∙_}
-use Rattle.numeral.specs.Ascii.{ascii}
 use Rattle.item_state.specs.Log.{called}
 use Rattle.item_questions.proofs.FrameSteps.{frames-told, refusal-told}
 use Rattle.item_questions.proofs.frames.frames.Statement.{statement}
@@ -35,14 +34,11 @@ tell-requires c κs = search needs
 enum-known-framed-2 : tie.Need-enum-known-framed-2
 enum-known-framed-2 c = search needs
 
-element-copy-out-put-refused : tie.Need-element-copy-out-put-refused
-element-copy-out-put-refused c = search needs
+element-copy-out-put-frames-refused : tie.Need-element-copy-out-put-frames-refused
+element-copy-out-put-frames-refused c = search needs
 
-slice-aggregate-put-refused : tie.Need-slice-aggregate-put-refused
-slice-aggregate-put-refused c = search needs
-
-put-refused-requires : tie.Need-put-refused-requires
-put-refused-requires c κs = search needs
+put-frames-refused-requires : tie.Need-put-frames-refused-requires
+put-frames-refused-requires c κs = search needs
 
 count-requires : tie.Need-count-requires
 count-requires c κs = search needs
@@ -57,8 +53,8 @@ same-length-2 : tie.Need-same-length-2
 same-length-2 c = search needs
 
 returns-2 : tie.Need-returns-2
-unfolding ascii called
-returns-2 c = rw (← refusal-told (c .before .before .before .before .before .before .before .before .before .before .before .before .before .before .before .before .before .args .m) refl refl (c .before .before .before .before .before .before .before .before .before .before .before .before .before .setup-frames .ensures) (c .before .before .before .before .before .before .before .before .before .framed2 .given .1) _, ← c .before .before .before .before .put-refused .ensures .next, ← c .before .before .before .before .put-refused .ensures .bytes, ← c .count .ensures)
+unfolding called
+returns-2 c = rw (← refusal-told (c .before .before .before .before .before .before .before .before .before .before .before .before .before .before .before .before .args .m) refl refl (c .before .before .before .before .before .before .before .before .before .before .before .before .setup-frames .ensures) (c .before .before .before .before .before .before .before .before .framed2 .given .1) _, ← c .before .before .before .before .put-frames-refused .ensures .next, ← c .before .before .before .before .put-frames-refused .ensures .bytes, ← c .count .ensures)
 
 pub frames-spec : {M : Type 1} → statement M
 frames-spec =
@@ -73,9 +69,8 @@ frames-spec =
     first-words-requires
     tell-requires
     enum-known-framed-2
-    element-copy-out-put-refused
-    slice-aggregate-put-refused
-    put-refused-requires
+    element-copy-out-put-frames-refused
+    put-frames-refused-requires
     count-requires
     same-length
     returns

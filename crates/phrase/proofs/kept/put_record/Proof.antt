@@ -1,11 +1,11 @@
--- `item_questions::frames::put_frame` meets its contract.
+-- `phrase::kept::put_record` meets its contract.
 -- Assumes nothing.
 use borrow.Author.Needs.{needs}
 use Rattle.numeral.specs.Ascii.{ascii}
+use Rattle.wording.specs.Wording.{recordTexts}
 use Rattle.wording.proofs.Each.{put-one, put-first, put-then}
-use Rattle.item_questions.specs.Answers.{frameTexts}
-use Rattle.item_questions.proofs.frames.put_frame.Statement.{statement}
-use Rattle.item_questions.proofs.frames.put_frame.Tie as tie
+use Rattle.phrase.proofs.kept.put_record.Statement.{statement}
+use Rattle.phrase.proofs.kept.put_record.Tie as tie
 
 slice-aggregate-put-text : tie.Need-slice-aggregate-put-text
 slice-aggregate-put-text c = search needs
@@ -13,8 +13,8 @@ slice-aggregate-put-text c = search needs
 put-text-requires : tie.Need-put-text-requires
 put-text-requires c κs = search needs
 
-put-bytes-requires : tie.Need-put-bytes-requires
-put-bytes-requires c κs = search needs
+put-differences-requires : tie.Need-put-differences-requires
+put-differences-requires c κs = search needs
 
 slice-aggregate-put-text-2 : tie.Need-slice-aggregate-put-text-2
 slice-aggregate-put-text-2 c = search needs
@@ -26,16 +26,16 @@ same-length : tie.Need-same-length
 same-length c = search needs
 
 returns : tie.Need-returns
-unfolding ascii frameTexts
-returns c = put-first (c .before .before .before .before .before .before .before .before .before .before .before .put-text .ensures) (put-then (c .before .before .before .before .before .before .before .put-bytes .ensures) (put-one (c .before .before .put-text2 .ensures)))
+unfolding ascii recordTexts
+returns c = put-first (c .before .before .before .before .before .before .before .before .before .before .before .put-text .ensures) (put-then (c .before .before .before .before .before .before .before .put-differences .ensures) (put-one (c .before .before .put-text2 .ensures)))
 
-pub put-frame-spec : {M : Type 1} → statement M
-put-frame-spec =
+pub put-record-spec : {M : Type 1} → statement M
+put-record-spec =
     tie.close
     (tie.spec
     slice-aggregate-put-text
     put-text-requires
-    put-bytes-requires
+    put-differences-requires
     slice-aggregate-put-text-2
     put-text-requires-2
     same-length

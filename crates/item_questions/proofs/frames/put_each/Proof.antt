@@ -1,15 +1,15 @@
--- `item_questions::frames::put_frames` meets its contract: a frame more in each turn.
+-- `item_questions::frames::put_each` meets its contract: a frame more in each turn.
 -- Assumes nothing.
-use Rattle.item_questions.proofs.frames.put_frames.Statement.{statement}
+use Rattle.item_questions.proofs.frames.put_each.Statement.{statement}
 use Prim.Native.Nat.{_-_}
 use mathlib.Core.Path.{_≡_, refl}
 use lib.ListN.{length, drop}
 use Rattle.numeral.specs.Place.{putEach}
-use Rattle.item_questions.specs.Answers.{frameLines}
+use Rattle.wording.specs.Wording.{frameLines}
 use Rattle.item_questions.specs.Cut.{cut}
 use Rattle.item_questions.proofs.FrameSteps.{frames-on, frames-end}
 use borrow.Author.Needs.{needs}
-use Rattle.item_questions.proofs.frames.put_frames.Tie as tie
+use Rattle.item_questions.proofs.frames.put_each.Tie as tie
 
 abbrev Inv-loop : tie.InvT-loop
 Inv-loop answers₀ at bytes lengths place₀ from₀ i₀ answers place from i = (length answers ≡ length answers₀) × (putEach answers place (frameLines (cut (drop from bytes) (drop i lengths))) ≡ putEach answers₀ place₀ (frameLines (cut bytes lengths)))
@@ -56,8 +56,8 @@ same-length c = search needs
 returns : tie.Need-returns Inv-loop μ-loop
 returns c = frames-end (c .before .before .before .before .before .args .bytes .now) (c .before .before .before .before .before .args .lengths .now) (c .before .loop .i) (c .before .loop .from) (c .loop-test .left) (c .before .loop .inv .1)
 
-pub put-frames-spec : {M : Type 1} → statement M
-put-frames-spec =
+pub put-each-spec : {M : Type 1} → statement M
+put-each-spec =
     tie.close
     (tie.spec
     Inv-loop

@@ -1,21 +1,21 @@
--- `item_questions::frames::put_bytes` meets its contract: a byte more in each turn.
+-- `phrase::frames::put_bytes` meets its contract: a byte more in each turn.
 -- Assumes nothing.
-use Rattle.item_questions.proofs.frames.put_bytes.Statement.{statement}
+use Rattle.phrase.proofs.frames.put_bytes.Statement.{statement}
 use Prim.Native.Nat.{_-_}
 use mathlib.Core.Path.{_≡_, refl}
 use lib.ListN.{length, drop}
 use Rattle.numeral.specs.Place.{putEach}
 use Rattle.numeral.specs.Ascii.{ascii}
-use Rattle.item_questions.specs.Answers.{byteTexts}
-use Rattle.item_questions.proofs.FrameSteps.{bytes-on, bytes-end}
+use Rattle.wording.specs.Wording.{byteTexts}
+use Rattle.phrase.proofs.Loops.{bytes-on, bytes-end}
 use borrow.Author.Needs.{needs}
-use Rattle.item_questions.proofs.frames.put_bytes.Tie as tie
+use Rattle.phrase.proofs.frames.put_bytes.Tie as tie
 
 abbrev Inv-loop : tie.InvT-loop
-Inv-loop answers₀ at bytes place₀ i₀ t7 answers place i = (length answers ≡ length answers₀) × (putEach answers place (byteTexts (drop i bytes)) ≡ putEach answers₀ place₀ (byteTexts bytes))
+Inv-loop out₀ at bytes place₀ i₀ t7 out place i = (length out ≡ length out₀) × (putEach out place (byteTexts (drop i bytes)) ≡ putEach out₀ place₀ (byteTexts bytes))
 
 abbrev μ-loop : tie.MeasureT-loop
-μ-loop answers₀ at bytes place₀ i₀ t7 answers place i = length bytes - i
+μ-loop out₀ at bytes place₀ i₀ t7 out place i = length bytes - i
 
 loop-holds : tie.Need-loop-holds Inv-loop μ-loop
 loop-holds c = (refl, refl)

@@ -1,11 +1,11 @@
--- `item_questions::registers::put_word` meets its contract.
+-- `phrase::question::put_word` meets its contract.
 -- Assumes nothing.
 use borrow.Author.Needs.{needs}
 use Rattle.numeral.specs.Ascii.{ascii}
-use Rattle.item_questions.specs.Answers.{blankWord}
+use Rattle.wording.specs.Wording.{blankWord}
 use Rattle.wording.proofs.Each.{put-one, put-first}
-use Rattle.item_questions.proofs.registers.put_word.Statement.{statement}
-use Rattle.item_questions.proofs.registers.put_word.Tie as tie
+use Rattle.phrase.proofs.question.put_word.Statement.{statement}
+use Rattle.phrase.proofs.question.put_word.Tie as tie
 
 slice-aggregate-put-text : tie.Need-slice-aggregate-put-text
 slice-aggregate-put-text c = search needs

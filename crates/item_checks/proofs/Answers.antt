@@ -290,7 +290,7 @@ abbrev pub NoFeed : List ℕ → Type 0
 NoFeed [] = Unit
 NoFeed (c ∷ cs) = (c ≡ 10 → ⊥) × NoFeed cs
 
-feed-take : (n : ℕ) (cs : List ℕ) → NoFeed cs → NoFeed (take n cs)
+pub feed-take : (n : ℕ) (cs : List ℕ) → NoFeed cs → NoFeed (take n cs)
 feed-take zero cs h = tt
 feed-take (suc n) [] h = tt
 feed-take (suc n) (c ∷ cs) h = (h .0, feed-take n cs (h .1))
@@ -323,7 +323,7 @@ after-apart (c ∷ cs) w f a = go (isBlank c) refl (after-apart cs [] (f .1) tt)
     go true e h k = ended-apart w (wordsAfter [] cs) a h
     go false e h k = k (apart-snoc w c a (no-blank c e) (f .0))
 
-words-apart : (cs : List ℕ) → NoFeed cs → AllApart (words cs)
+pub words-apart : (cs : List ℕ) → NoFeed cs → AllApart (words cs)
 unfolding words
 words-apart cs f = after-apart cs [] f tt
 

@@ -26,6 +26,11 @@ pub mod Refusals
 pub mod Gains
 pub mod Order
 pub mod Singly
+pub mod Carried
+pub mod Asked
+pub mod FirstLine
+pub mod Shapes
+pub mod Judged
 pub mod Answered
 pub mod Calls
 pub mod BadLines

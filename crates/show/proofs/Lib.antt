@@ -1,2 +1,2 @@
-pub mod Justified
 pub mod Lines
+pub mod Rows

@@ -1,47 +1,36 @@
 // The clock and the alarm.
 ghost use mathlib.Core.Path.{_≡_};
+ghost use Prim.Native.Nat.{_<_};
 ghost use Rattle.wording.specs.Text.{PutEach};
-ghost use Rattle.page.specs.Row.{ended, lines};
-ghost use Rattle.page.specs.Clock.{seconds, hours as Clock·hours, timeOfDay, halfDay, secondsRow, timeRow, dayRow, monthRow, dateTexts, clockRow, alarmTexts, alarmRow, clockRows};
-use crate::row::put_line;
-use crate::row::put_register;
-use crate::row::put_stored;
-use crate::row::word;
-use device::Model;
+ghost use Rattle.wording.specs.Wording.{lineFeed};
+ghost use mathlib.Core.List.{_∷_};
+ghost use Rattle.numeral.specs.Ascii.{ascii};
+ghost use Rattle.page.specs.Row.{ended};
+ghost use Rattle.page.specs.Clock.{hours as Clock·hours, secondsRow, timeRow, dayRow, monthRow, clockRow, alarmRow, clockRows};
+ghost use Rattle.show.specs.Words.{PutRows};
+use form::put_form;
+use form::value;
+use item_state::output::words_from;
 
-pub fn put_clock(buf: &mut [u8], at: usize, m: Model) -> usize
-    ensures { λ r. ⌜ PutEach (now (buf .entry)) at (lines (clockRows m)) r (now (buf .exit)) ⌝ }
+pub fn put_clock(buf: &mut [u8], at: usize, words: &[u32]) -> usize
+    ensures { λ r. ⌜ PutRows clockRows (now (words .entry)) (now (buf .entry)) at r (now (buf .exit)) ⌝ }
 {
-    let second = word(m, 0xb0);
-    let time = word(m, 0xb1);
-    let day = word(m, 0xb2);
-    let month = word(m, 0xb3);
-    let a = put_line(buf, at, b"RTC AND WATCHDOG REGISTERS");
-    let b = put_seconds_row(buf, a, second);
-    let c = put_time_row(buf, b, time);
-    let d = put_day_row(buf, c, day);
-    let e = put_month_row(buf, d, month);
-    let f = put_clock_row(buf, e, second, time, day, month);
-    let g = put_stored(buf, f, b"B4     Watchdog Alarm Counter   ", word(m, 0xb4));
-    put_alarm_row(buf, g, word(m, 0xb5), word(m, 0xc3) / 4 % 4)
-}
-
-// Seconds and hundredths.
-fn put_seconds(buf: &mut [u8], at: usize, w: u32) -> usize
-    ensures { λ r. ⌜ PutEach (now (buf .entry)) at (seconds w) r (now (buf .exit)) ⌝ }
-{
-    let a = numeral::put_hex(buf, at, 2, w);
-    let b = numeral::put_text(buf, a, b".");
-    numeral::put_hex(buf, b, 2, w / 256)
-}
-
-fn put_seconds_row(buf: &mut [u8], at: usize, w: u32) -> usize
-    ensures { λ r. ⌜ PutEach (now (buf .entry)) at (ended (secondsRow w)) r (now (buf .exit)) ⌝ }
-{
-    let a = put_register(buf, at, b"B0     Seconds                  ", w);
-    let b = numeral::put_text(buf, a, b" ");
-    let c = put_seconds(buf, b, w);
-    put_line(buf, c, b" s")
+    let second = value(words, 0);
+    let time = value(words, 1);
+    let day = value(words, 2);
+    let month = value(words, 3);
+    let a = put_seconds_row(buf, at, second);
+    let b = put_time_row(buf, a, time);
+    let c = put_day_row(buf, b, day);
+    let d = put_month_row(buf, c, month);
+    let e = put_clock_row(buf, d, second, time, day, month);
+    let f = put_form(
+        buf,
+        e,
+        b"B4     Watchdog Alarm Counter   |$| stored only|\n|",
+        words_from(words, 4),
+    );
+    put_alarm_row(buf, f, value(words, 5), value(words, 0xc3 - 0xb0) / 4 % 4)
 }
 
 // The digits of the hours: bit 5 is one of them in the 24-hour form alone.
@@ -55,105 +44,100 @@ fn hours(w: u32) -> u32
     }
 }
 
-fn put_time_of_day(buf: &mut [u8], at: usize, w: u32) -> usize
-    ensures { λ r. ⌜ PutEach (now (buf .entry)) at (timeOfDay w) r (now (buf .exit)) ⌝ }
+// With the title above it.
+fn put_seconds_row(buf: &mut [u8], at: usize, w: u32) -> usize
+    ensures { λ r. ⌜ PutEach (now (buf .entry)) at (ascii "RTC AND WATCHDOG REGISTERS" ∷ lineFeed ∷ ended (secondsRow w)) r (now (buf .exit)) ⌝ }
 {
-    let a = numeral::put_hex(buf, at, 2, hours(w));
-    let b = numeral::put_text(buf, a, b":");
-    numeral::put_hex(buf, b, 2, w / 256 % 128)
-}
-
-fn put_half_day(buf: &mut [u8], at: usize, w: u32) -> usize
-    ensures { λ r. ⌜ PutEach (now (buf .entry)) at (halfDay w) r (now (buf .exit)) ⌝ }
-{
-    if w / 32 % 4 == 0b10 {
-        return numeral::put_text(buf, at, b" AM");
-    }
-    if w / 32 % 4 == 0b11 {
-        return numeral::put_text(buf, at, b" PM");
-    }
-    at
+    let values = [w, w, w / 256];
+    put_form(
+        buf,
+        at,
+        b"RTC AND WATCHDOG REGISTERS|\n|\
+          B0     Seconds                  |$| |%|.|%| s|\n|",
+        &values,
+    )
 }
 
 fn put_time_row(buf: &mut [u8], at: usize, w: u32) -> usize
     ensures { λ r. ⌜ PutEach (now (buf .entry)) at (ended (timeRow w)) r (now (buf .exit)) ⌝ }
 {
-    let a = put_register(buf, at, b"B1     Mins_Hrs                 ", w);
-    let b = numeral::put_text(buf, a, b" ");
-    let c = put_time_of_day(buf, b, w);
-    let d = put_half_day(buf, c, w);
-    numeral::put_text(buf, d, b"\n")
+    let values = [w, hours(w), w / 256 % 128, w / 32 % 4, w / 32 % 4];
+    put_form(
+        buf,
+        at,
+        b"B1     Mins_Hrs                 |$| |%|:|%|?2 AM|?3 PM|\n|",
+        &values,
+    )
 }
 
 fn put_day_row(buf: &mut [u8], at: usize, w: u32) -> usize
     ensures { λ r. ⌜ PutEach (now (buf .entry)) at (ended (dayRow w)) r (now (buf .exit)) ⌝ }
 {
-    let a = put_register(buf, at, b"B2     Day_Date                 ", w);
-    let b = numeral::put_text(buf, a, b" weekday ");
-    let c = numeral::put_decimal(buf, b, (w / 256) as u64);
-    let d = numeral::put_text(buf, c, b", date ");
-    let e = numeral::put_hex(buf, d, 2, w);
-    numeral::put_text(buf, e, b"\n")
+    let values = [w, w / 256, w];
+    put_form(
+        buf,
+        at,
+        b"B2     Day_Date                 |$| weekday |#|, date |%|\n|",
+        &values,
+    )
 }
 
 fn put_month_row(buf: &mut [u8], at: usize, w: u32) -> usize
     ensures { λ r. ⌜ PutEach (now (buf .entry)) at (ended (monthRow w)) r (now (buf .exit)) ⌝ }
 {
-    let a = put_register(buf, at, b"B3     Month_Year               ", w);
-    let b = numeral::put_text(buf, a, b" month ");
-    let c = numeral::put_hex(buf, b, 2, w / 256);
-    let d = numeral::put_text(buf, c, b", year 20");
-    let e = numeral::put_hex(buf, d, 2, w);
-    numeral::put_text(buf, e, b"\n")
-}
-
-// `20YY-MM-DD `
-fn put_date(buf: &mut [u8], at: usize, day: u32, month: u32) -> usize
-    ensures { λ r. ⌜ PutEach (now (buf .entry)) at (dateTexts day month) r (now (buf .exit)) ⌝ }
-{
-    let a = numeral::put_text(buf, at, b"20");
-    let b = numeral::put_hex(buf, a, 2, month);
-    let c = numeral::put_text(buf, b, b"-");
-    let d = numeral::put_hex(buf, c, 2, month / 256);
-    let e = numeral::put_text(buf, d, b"-");
-    let f = numeral::put_hex(buf, e, 2, day);
-    numeral::put_text(buf, f, b" ")
+    let values = [w, w / 256, w];
+    put_form(
+        buf,
+        at,
+        b"B3     Month_Year               |$| month |%|, year 20|%|\n|",
+        &values,
+    )
 }
 
 fn put_clock_row(buf: &mut [u8], at: usize, second: u32, time: u32, day: u32, month: u32) -> usize
     ensures { λ r. ⌜ PutEach (now (buf .entry)) at (ended (clockRow second time day month)) r (now (buf .exit)) ⌝ }
 {
-    let a = numeral::put_text(buf, at, b"       Clock                               ");
-    let b = put_date(buf, a, day, month);
-    let c = put_time_of_day(buf, b, time);
-    let d = numeral::put_text(buf, c, b":");
-    let e = put_seconds(buf, d, second);
-    let f = put_half_day(buf, e, time);
-    numeral::put_text(buf, f, b"\n")
-}
-
-fn put_alarm(buf: &mut [u8], at: usize, mode: u32) -> usize
-    ensures { λ r. ⌜ PutEach (now (buf .entry)) at (alarmTexts mode) r (now (buf .exit)) ⌝ }
-{
-    if mode == 0b00 {
-        return numeral::put_text(buf, at, b", no alarm");
-    }
-    if mode == 0b01 {
-        return numeral::put_text(buf, at, b", minutes match");
-    }
-    if mode == 0b10 {
-        return numeral::put_text(buf, at, b", hours match");
-    }
-    numeral::put_text(buf, at, b", hours and minutes match")
+    let half = time / 32 % 4;
+    let values = [
+        month,
+        month / 256,
+        day,
+        hours(time),
+        time / 256 % 128,
+        second,
+        second / 256,
+        half,
+        half,
+    ];
+    put_form(
+        buf,
+        at,
+        b"       Clock                               |20|%|-|%|-|%| |%|:|%|:|%|.|%|?2 AM|?3 PM|\n|",
+        &values,
+    )
 }
 
 fn put_alarm_row(buf: &mut [u8], at: usize, w: u32, mode: u32) -> usize
+    requires { ⌜ mode < 4 ⌝ }
     ensures { λ r. ⌜ PutEach (now (buf .entry)) at (ended (alarmRow w mode)) r (now (buf .exit)) ⌝ }
 {
-    let a = put_register(buf, at, b"B5     Alarm                    ", w);
-    let b = numeral::put_text(buf, a, b" ");
-    let c = put_time_of_day(buf, b, w);
-    let d = put_half_day(buf, c, w);
-    let e = put_alarm(buf, d, mode);
-    numeral::put_text(buf, e, b"\n")
+    let half = w / 32 % 4;
+    let values = [
+        w,
+        hours(w),
+        w / 256 % 128,
+        half,
+        half,
+        mode,
+        mode,
+        mode,
+        mode,
+    ];
+    put_form(
+        buf,
+        at,
+        b"B5     Alarm                    |$| |%|:|%|?2 AM|?3 PM|\
+          ?0, no alarm|?1, minutes match|?2, hours match|?3, hours and minutes match|\n|",
+        &values,
+    )
 }

@@ -4,7 +4,8 @@ ghost use mathlib.Core.List.{[], _∷_};
 ghost use Rattle.wording.specs.Text.{PutEach};
 ghost use Rattle.wording.specs.Wording.{reportedWhere};
 ghost use Rattle.item_state.specs.Told.{readWord};
-ghost use Rattle.page.specs.Row.{ended, registerRow, pairRow, storedRow, absentRow, absentPair, plural, binary};
+ghost use Rattle.page.specs.Row.{ended, plural, binary};
+ghost use Rattle.show.specs.Words.{pageWords};
 use device::Model;
 use item_state::told::value;
 
@@ -15,53 +16,25 @@ pub fn word(m: Model, a: u32) -> u32
     value(question::peek(m, a))
 }
 
+// The words of B0h to FFh.
+pub fn page_words(m: Model) -> [u32; 80]
+    ensures { λ r. ⌜ r ≡ pageWords m ⌝ }
+{
+    let mut words = [0u32; 80];
+    let mut i = 0;
+    while i < 80 {
+        words[i] = word(m, 0xb0 + i as u32);
+        i += 1;
+    }
+    words
+}
+
 // A row of one text.
 pub fn put_line(buf: &mut [u8], at: usize, text: &[u8]) -> usize
     ensures { λ r. ⌜ PutEach (now (buf .entry)) at (ended (now (text .entry) ∷ [])) r (now (buf .exit)) ⌝ }
 {
     let a = numeral::put_text(buf, at, text);
     numeral::put_text(buf, a, b"\n")
-}
-
-// A register's row up to its meaning.
-pub fn put_register(buf: &mut [u8], at: usize, label: &[u8], w: u32) -> usize
-    ensures { λ r. ⌜ PutEach (now (buf .entry)) at (registerRow (now (label .entry)) w []) r (now (buf .exit)) ⌝ }
-{
-    let a = numeral::put_text(buf, at, label);
-    let b = numeral::put_hex(buf, a, 4, w);
-    numeral::put_text(buf, b, b"      ")
-}
-
-// A pair's row up to its meaning.
-pub fn put_pair(buf: &mut [u8], at: usize, label: &[u8], w: u32) -> usize
-    ensures { λ r. ⌜ PutEach (now (buf .entry)) at (pairRow (now (label .entry)) w []) r (now (buf .exit)) ⌝ }
-{
-    let a = numeral::put_text(buf, at, label);
-    let b = numeral::put_hex(buf, a, 4, w / 65536);
-    let c = numeral::put_text(buf, b, b" ");
-    let d = numeral::put_hex(buf, c, 4, w % 65536);
-    numeral::put_text(buf, d, b"  ")
-}
-
-pub fn put_stored(buf: &mut [u8], at: usize, label: &[u8], w: u32) -> usize
-    ensures { λ r. ⌜ PutEach (now (buf .entry)) at (ended (storedRow (now (label .entry)) w)) r (now (buf .exit)) ⌝ }
-{
-    let a = put_register(buf, at, label, w);
-    put_line(buf, a, b" stored only")
-}
-
-pub fn put_absent(buf: &mut [u8], at: usize, label: &[u8], w: u32) -> usize
-    ensures { λ r. ⌜ PutEach (now (buf .entry)) at (ended (absentRow (now (label .entry)) w)) r (now (buf .exit)) ⌝ }
-{
-    let a = put_register(buf, at, label, w);
-    put_line(buf, a, b" not carried")
-}
-
-pub fn put_absent_pair(buf: &mut [u8], at: usize, label: &[u8], w: u32) -> usize
-    ensures { λ r. ⌜ PutEach (now (buf .entry)) at (ended (absentPair (now (label .entry)) w)) r (now (buf .exit)) ⌝ }
-{
-    let a = put_pair(buf, at, label, w);
-    put_line(buf, a, b"not carried")
 }
 
 // A number, and what it counts, with an s unless it is one.

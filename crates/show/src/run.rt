@@ -7,8 +7,8 @@ use crate::row::put_line;
 use crate::row::put_plural;
 use crate::row::put_where;
 use device::Model;
+use form::put_form;
 use item_state::told::value;
-use phrase::end::put_count;
 use run_state::Place;
 use run_state::Placed;
 
@@ -61,10 +61,18 @@ fn put_awaited(buf: &mut [u8], at: usize, label: &[u8], left: u32) -> usize
 fn put_place(buf: &mut [u8], at: usize, p: Place) -> usize
     ensures { λ r. ⌜ PutEach (now (buf .entry)) at (placeTexts p) r (now (buf .exit)) ⌝ }
 {
-    let a = put_count(buf, at, p.started as u64, b" of ");
-    let b = put_count(buf, a, p.planned as u64, b" started, ");
-    let c = put_count(buf, b, p.settled as u64, b" settled, ");
-    put_count(buf, c, p.good as u64, b" good")
+    let values = [
+        p.started as u32,
+        p.planned as u32,
+        p.settled as u32,
+        p.good as u32,
+    ];
+    put_form(
+        buf,
+        at,
+        b"#| of |#| started, |#| settled, |#| good|",
+        &values,
+    )
 }
 
 fn put_event_texts(buf: &mut [u8], at: usize, p: Placed) -> usize

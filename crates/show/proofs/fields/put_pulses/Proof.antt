@@ -1,10 +1,11 @@
 -- `show::fields::put_pulses` meets its contract.
 -- Assumes nothing.
-use borrow.Author.Needs.{needs}
-use borrow.Author.Tests.{eq-eqb, ne-eqb}
-use Rattle.wording.proofs.Each.{put-one, put-first}
+use Rattle.wording.proofs.Each.{put-one}
+use Rattle.show.proofs.Rows.{put-as, pulses-off, pulses-on}
+use Rattle.page.specs.Row.{plural}
+use Rattle.form.specs.Form.{registerTexts, pluralTexts, pairOf, pairTexts, pieceTexts, takes, formTexts}
 use Rattle.numeral.specs.Ascii.{ascii}
-use Rattle.page.specs.Setup.{pulses}
+use borrow.Author.Needs.{needs}
 use Rattle.show.proofs.fields.put_pulses.Statement.{statement}
 use Rattle.show.proofs.fields.put_pulses.Tie as tie
 
@@ -18,30 +19,27 @@ same-length : tie.Need-same-length
 same-length c = search needs
 
 returns : tie.Need-returns
-unfolding ascii pulses
-returns c = rw (eq-eqb _ _ (c .before .before .before .before .before .if1 .taken)) (put-one (c .before .before .put-text .ensures))
-
-slice-aggregate-put-text-2 : tie.Need-slice-aggregate-put-text-2
-slice-aggregate-put-text-2 c = search needs
-
-put-text-requires-2 : tie.Need-put-text-requires-2
-put-text-requires-2 c κs = search needs
+unfolding ascii registerTexts pluralTexts pairOf pairTexts pieceTexts takes formTexts
+returns c = put-as (put-one (c .before .before .put-text .ensures)) (pulses-off (c .before .before .before .before .before .before .before .args .pl) (c .before .before .before .before .before .if1 .taken))
 
 launched-requires : tie.Need-launched-requires
 launched-requires c κs = search needs
 
-slice-aggregate-put-plural : tie.Need-slice-aggregate-put-plural
-slice-aggregate-put-plural c = search needs
+slice-aggregate-put-form : tie.Need-slice-aggregate-put-form
+slice-aggregate-put-form c = search needs
 
-put-plural-requires : tie.Need-put-plural-requires
-put-plural-requires c κs = search needs
+slice-aggregate-put-form-2 : tie.Need-slice-aggregate-put-form-2
+slice-aggregate-put-form-2 c = search needs
+
+put-form-requires : tie.Need-put-form-requires
+put-form-requires c κs = search needs
 
 same-length-2 : tie.Need-same-length-2
 same-length-2 c = search needs
 
 returns-2 : tie.Need-returns-2
-unfolding ascii pulses
-returns-2 c = rw (ne-eqb _ _ (c .before .before .before .before .before .before .before .before .before .before .before .if1 .left), ← (c .before .before .before .before .launched .ensures)) (put-first (c .before .before .before .before .before .before .before .before .put-text2 .ensures) (c .before .before .put-plural .ensures))
+unfolding ascii registerTexts pluralTexts pairOf pairTexts pieceTexts takes formTexts plural
+returns-2 c = put-as (c .before .before .put-form .ensures .put) (pulses-on (c .before .before .before .before .before .before .before .before .before .args .pl) (c .before .before .before .before .before .before .launched .result) (c .before .before .before .before .before .before .before .if1 .left) (c .before .before .before .before .before .before .launched .ensures))
 
 pub put-pulses-spec : {M : Type 1} → statement M
 put-pulses-spec =
@@ -51,10 +49,9 @@ put-pulses-spec =
     put-text-requires
     same-length
     returns
-    slice-aggregate-put-text-2
-    put-text-requires-2
     launched-requires
-    slice-aggregate-put-plural
-    put-plural-requires
+    slice-aggregate-put-form
+    slice-aggregate-put-form-2
+    put-form-requires
     same-length-2
     returns-2)

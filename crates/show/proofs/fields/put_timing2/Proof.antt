@@ -1,100 +1,53 @@
 -- `show::fields::put_timing2` meets its contract.
 -- Assumes nothing.
-use borrow.Author.Needs.{needs}
-use mathlib.Core.Path.{_∙_}
-use Rattle.wording.proofs.Each.{put-one, put-first, put-then}
-use Rattle.numeral.specs.Ascii.{ascii}
-use Rattle.page.specs.Row.{registerRow}
+use Rattle.show.proofs.Rows.{put-as, end-two}
 use Rattle.page.specs.Setup.{timing2Row}
+use Rattle.page.specs.Row.{registerRow, plural, binary}
+use Rattle.wording.specs.Wording.{counted}
+use mathlib.Core.List.{[], _∷_, _++_}
+use Rattle.unit.specs.Bits.{bits}
+use Prim.Native.Nat.{_+_, _*_}
+use Rattle.form.specs.Form.{registerTexts, pluralTexts, pairOf, pairTexts, pieceTexts, takes, formTexts}
+use Rattle.numeral.specs.Ascii.{ascii}
+use borrow.Author.Needs.{needs}
 use Rattle.show.proofs.fields.put_timing2.Statement.{statement}
 use Rattle.show.proofs.fields.put_timing2.Tie as tie
 
-slice-aggregate-put-register : tie.Need-slice-aggregate-put-register
-slice-aggregate-put-register c = search needs
+add-t9 : tie.Need-add-t9
+add-t9 c = search needs
 
-put-register-requires : tie.Need-put-register-requires
-put-register-requires c κs = search needs
+add-t13 : tie.Need-add-t13
+add-t13 c = search needs
 
-slice-aggregate-put-text : tie.Need-slice-aggregate-put-text
-slice-aggregate-put-text c = search needs
+mul-t14 : tie.Need-mul-t14
+mul-t14 c = search needs
 
-put-text-requires : tie.Need-put-text-requires
-put-text-requires c κs = search needs
+slice-aggregate-put-form : tie.Need-slice-aggregate-put-form
+slice-aggregate-put-form c = search needs
 
-add-put-plural : tie.Need-add-put-plural
-add-put-plural c = search needs
+slice-aggregate-put-form-2 : tie.Need-slice-aggregate-put-form-2
+slice-aggregate-put-form-2 c = search needs
 
-slice-aggregate-put-plural : tie.Need-slice-aggregate-put-plural
-slice-aggregate-put-plural c = search needs
-
-put-plural-requires : tie.Need-put-plural-requires
-put-plural-requires c κs = search needs
-
-slice-aggregate-put-text-2 : tie.Need-slice-aggregate-put-text-2
-slice-aggregate-put-text-2 c = search needs
-
-put-text-requires-2 : tie.Need-put-text-requires-2
-put-text-requires-2 c κs = search needs
-
-put-binary-requires : tie.Need-put-binary-requires
-put-binary-requires c κs = search needs
-
-slice-aggregate-put-text-3 : tie.Need-slice-aggregate-put-text-3
-slice-aggregate-put-text-3 c = search needs
-
-put-text-requires-3 : tie.Need-put-text-requires-3
-put-text-requires-3 c κs = search needs
-
-add-put-count : tie.Need-add-put-count
-add-put-count c = search needs
-
-mul-put-count : tie.Need-mul-put-count
-mul-put-count c = search needs
-
-cast-put-count : tie.Need-cast-put-count
-cast-put-count c = search needs
-
-slice-aggregate-put-count : tie.Need-slice-aggregate-put-count
-slice-aggregate-put-count c = search needs
-
-put-count-requires : tie.Need-put-count-requires
-put-count-requires c κs = search needs
-
-slice-aggregate-put-text-4 : tie.Need-slice-aggregate-put-text-4
-slice-aggregate-put-text-4 c = search needs
-
-put-text-requires-4 : tie.Need-put-text-requires-4
-put-text-requires-4 c κs = search needs
+put-form-requires : tie.Need-put-form-requires
+put-form-requires c κs = search needs
 
 same-length : tie.Need-same-length
-same-length c = c .before .before .put-text4 .kept .0 ∙ c .before .before .before .before .before .before .before .put-count .kept .0 ∙ c .before .before .before .before .before .before .before .before .before .before .before .before .put-text3 .kept .0 ∙ c .before .before .before .before .before .before .before .before .before .before .before .before .before .before .before .before .before .put-binary .kept .0 ∙ c .before .before .before .before .before .before .before .before .before .before .before .before .before .before .before .before .before .before .before .before .before .put-text2 .kept .0 ∙ c .before .before .before .before .before .before .before .before .before .before .before .before .before .before .before .before .before .before .before .before .before .before .before .before .before .before .put-plural .kept .0 ∙ c .before .before .before .before .before .before .before .before .before .before .before .before .before .before .before .before .before .before .before .before .before .before .before .before .before .before .before .before .before .before .before .put-text .kept .0 ∙ c .before .before .before .before .before .before .before .before .before .before .before .before .before .before .before .before .before .before .before .before .before .before .before .before .before .before .before .before .before .before .before .before .before .before .before .before .put-register .kept .0
+same-length c = search needs
 
 returns : tie.Need-returns
-unfolding ascii registerRow timing2Row
-returns c = put-then (c .before .before .before .before .before .before .before .before .before .before .before .before .before .before .before .before .before .before .before .before .before .before .before .before .before .before .before .before .before .before .before .before .before .before .before .before .put-register .ensures) (put-first (c .before .before .before .before .before .before .before .before .before .before .before .before .before .before .before .before .before .before .before .before .before .before .before .before .before .before .before .before .before .before .before .put-text .ensures) (put-then (put-then (c .before .before .before .before .before .before .before .before .before .before .before .before .before .before .before .before .before .before .before .before .before .before .before .before .before .before .put-plural .ensures) (put-first (c .before .before .before .before .before .before .before .before .before .before .before .before .before .before .before .before .before .before .before .before .before .put-text2 .ensures) (put-then (c .before .before .before .before .before .before .before .before .before .before .before .before .before .before .before .before .before .put-binary .ensures) (put-first (c .before .before .before .before .before .before .before .before .before .before .before .before .put-text3 .ensures) (c .before .before .before .before .before .before .before .put-count .ensures))))) (put-one (c .before .before .put-text4 .ensures))))
+unfolding ascii registerTexts pluralTexts pairOf pairTexts pieceTexts takes formTexts registerRow plural binary counted timing2Row
+returns c = let w = c .before .before .before .before .before .before .before .args .w in
+    put-as (c .before .before .put-form .ensures .put) (end-two (registerRow (ascii "C0     Event Timing 2           ") w (ascii " TMM " ∷ [])) (plural (bits 15 11 w + 1) (ascii " cycle")) (ascii ", TP " ∷ (binary (bits 6 5 w) ++ (ascii ", PORTCYC " ∷ counted (128 * (bits 1 0 w + 1)) (ascii " us")))))
 
 pub put-timing2-spec : {M : Type 1} → statement M
 put-timing2-spec =
     tie.close
     (tie.spec
-    slice-aggregate-put-register
-    put-register-requires
-    slice-aggregate-put-text
-    put-text-requires
-    add-put-plural
-    slice-aggregate-put-plural
-    put-plural-requires
-    slice-aggregate-put-text-2
-    put-text-requires-2
-    put-binary-requires
-    slice-aggregate-put-text-3
-    put-text-requires-3
-    add-put-count
-    mul-put-count
-    cast-put-count
-    slice-aggregate-put-count
-    put-count-requires
-    slice-aggregate-put-text-4
-    put-text-requires-4
+    add-t9
+    add-t13
+    mul-t14
+    slice-aggregate-put-form
+    slice-aggregate-put-form-2
+    put-form-requires
     same-length
     returns)

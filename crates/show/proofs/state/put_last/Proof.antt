@@ -1,101 +1,76 @@
 -- `show::state::put_last` meets its contract.
 -- Assumes nothing.
-use borrow.Author.Needs.{needs}
-use mathlib.Core.Path.{_∙_}
-use Rattle.wording.proofs.Each.{put-none, put-then}
-use Rattle.numeral.specs.Ascii.{ascii}
-use Rattle.page.specs.Results.{lastRows}
-use Rattle.page.specs.Row.{lines}
+use Rattle.show.proofs.Rows.{fill-as, row-as, word-as, status-as, last-rows}
 use Rattle.show.proofs.Lines.{lines-append}
+use Rattle.page.specs.Results.{pairWord, supplyRow, lastRows}
+use Rattle.page.specs.Row.{lines, registerRow, pairRow, absentRow, absentPair}
+use Rattle.wording.proofs.Each.{put-then}
+use mathlib.Core.List.{[], _∷_}
+use Rattle.show.specs.Words.{wordsFrom, pageWords}
+use Rattle.form.specs.Form.{registerTexts, pluralTexts, pairOf, pairTexts, pieceTexts, takes, formTexts}
+use Rattle.numeral.specs.Ascii.{ascii}
+use borrow.Author.Needs.{needs}
 use Rattle.show.proofs.state.put_last.Statement.{statement}
 use Rattle.show.proofs.state.put_last.Tie as tie
 
-slice-aggregate-put-absent-pair : tie.Need-slice-aggregate-put-absent-pair
-slice-aggregate-put-absent-pair c = search needs
+slice-aggregate-put-form : tie.Need-slice-aggregate-put-form
+slice-aggregate-put-form c = search needs
 
-pair-requires : tie.Need-pair-requires
-pair-requires c κs = search needs
+sub-words-from : tie.Need-sub-words-from
+sub-words-from c = search needs
 
-put-absent-pair-requires : tie.Need-put-absent-pair-requires
-put-absent-pair-requires c κs = search needs
+words-from-requires : tie.Need-words-from-requires
+words-from-requires c κs = search needs
 
-slice-aggregate-put-absent-pair-2 : tie.Need-slice-aggregate-put-absent-pair-2
-slice-aggregate-put-absent-pair-2 c = search needs
+put-form-requires : tie.Need-put-form-requires
+put-form-requires c κs = search needs
 
-pair-requires-2 : tie.Need-pair-requires-2
-pair-requires-2 c κs = search needs
-
-put-absent-pair-requires-2 : tie.Need-put-absent-pair-requires-2
-put-absent-pair-requires-2 c κs = search needs
-
-slice-aggregate-put-absent-pair-3 : tie.Need-slice-aggregate-put-absent-pair-3
-slice-aggregate-put-absent-pair-3 c = search needs
-
-pair-requires-3 : tie.Need-pair-requires-3
-pair-requires-3 c κs = search needs
-
-put-absent-pair-requires-3 : tie.Need-put-absent-pair-requires-3
-put-absent-pair-requires-3 c κs = search needs
-
-slice-aggregate-put-line : tie.Need-slice-aggregate-put-line
-slice-aggregate-put-line c = search needs
-
-put-line-requires : tie.Need-put-line-requires
-put-line-requires c κs = search needs
-
-word-requires : tie.Need-word-requires
-word-requires c κs = search needs
-
-put-status-requires : tie.Need-put-status-requires
-put-status-requires c κs = search needs
-
-regulator-on-requires : tie.Need-regulator-on-requires
-regulator-on-requires c κs = search needs
+sub-value : tie.Need-sub-value
+sub-value c = search needs
 
 value-requires : tie.Need-value-requires
 value-requires c κs = search needs
 
+put-status-requires : tie.Need-put-status-requires
+put-status-requires c κs = search needs
+
 put-supply-requires : tie.Need-put-supply-requires
 put-supply-requires c κs = search needs
 
-slice-aggregate-put-absent : tie.Need-slice-aggregate-put-absent
-slice-aggregate-put-absent c = search needs
+slice-aggregate-put-form-2 : tie.Need-slice-aggregate-put-form-2
+slice-aggregate-put-form-2 c = search needs
 
-word-requires-2 : tie.Need-word-requires-2
-word-requires-2 c κs = search needs
+sub-words-from-2 : tie.Need-sub-words-from-2
+sub-words-from-2 c = search needs
 
-put-absent-requires : tie.Need-put-absent-requires
-put-absent-requires c κs = search needs
+words-from-requires-2 : tie.Need-words-from-requires-2
+words-from-requires-2 c κs = search needs
+
+put-form-requires-2 : tie.Need-put-form-requires-2
+put-form-requires-2 c κs = search needs
 
 same-length : tie.Need-same-length
-same-length c = c .before .before .put-absent .kept .0 ∙ c .before .before .before .before .before .before .before .before .put-supply .kept .0 ∙ c .before .before .before .before .before .before .before .before .before .before .before .before .before .before .put-status .kept .0 ∙ c .before .before .before .before .before .before .before .before .before .before .before .before .before .before .before .before .before .before .before .put-line .kept .0 ∙ c .before .before .before .before .before .before .before .before .before .before .before .before .before .before .before .before .before .before .before .before .before .before .before .before .put-absent-pair3 .kept .0 ∙ c .before .before .before .before .before .before .before .before .before .before .before .before .before .before .before .before .before .before .before .before .before .before .before .before .before .before .before .before .before .before .put-absent-pair2 .kept .0 ∙ c .before .before .before .before .before .before .before .before .before .before .before .before .before .before .before .before .before .before .before .before .before .before .before .before .before .before .before .before .before .before .before .before .before .before .before .before .put-absent-pair .kept .0
+same-length c = search needs
 
 returns : tie.Need-returns
-unfolding ascii lines lastRows
-returns c = rw (lines-append, ← (c .before .before .before .before .before .before .before .before .before .before .before .before .before .before .before .before .before .before .before .before .before .before .before .before .before .before .before .before .before .before .before .before .before .before .before .before .before .pair .ensures), ← (c .before .before .before .before .before .before .before .before .before .before .before .before .before .before .before .before .before .before .before .before .before .before .before .before .before .before .before .before .before .before .before .pair2 .ensures), ← (c .before .before .before .before .before .before .before .before .before .before .before .before .before .before .before .before .before .before .before .before .before .before .before .before .before .pair3 .ensures), ← (c .before .before .before .before .before .before .before .before .before .before .before .before .before .before .before .word .ensures), ← (c .before .before .before .word2 .ensures), ← (c .before .before .before .before .before .before .before .before .before .before .regulator-on .ensures), ← (c .before .before .before .before .before .before .before .before .before .value .ensures)) (put-then (c .before .before .before .before .before .before .before .before .before .before .before .before .before .before .before .before .before .before .before .before .before .before .before .before .before .before .before .before .before .before .before .before .before .before .before .before .put-absent-pair .ensures) (put-then (c .before .before .before .before .before .before .before .before .before .before .before .before .before .before .before .before .before .before .before .before .before .before .before .before .before .before .before .before .before .before .put-absent-pair2 .ensures) (put-then (c .before .before .before .before .before .before .before .before .before .before .before .before .before .before .before .before .before .before .before .before .before .before .before .before .put-absent-pair3 .ensures) (put-then (c .before .before .before .before .before .before .before .before .before .before .before .before .before .before .before .before .before .before .before .put-line .ensures) (put-then (c .before .before .before .before .before .before .before .before .before .before .before .before .before .before .put-status .ensures) (put-then (c .before .before .before .before .before .before .before .before .put-supply .ensures) (put-then (c .before .before .put-absent .ensures) (put-none _ _))))))))
+unfolding ascii registerTexts pluralTexts pairOf pairTexts pieceTexts takes formTexts lines registerRow pairRow pairWord absentRow absentPair wordsFrom pageWords
+returns c = λ m e on. last-rows m (put-then (fill-as 72 (c .before .before .before .before .before .before .before .before .before .before .before .before .before .before .before .before .before .before .before .before .before .before .before .args .words .now) m (c .before .before .before .before .before .before .before .before .before .before .before .before .before .before .before .before .before .put-form .ensures) (c .before .before .before .before .before .before .before .before .before .before .before .before .before .before .before .before .before .before .words-from .ensures) e) (put-then (status-as (word-as 78 (c .before .before .before .before .before .before .before .before .before .before .before .before .before .before .before .before .before .before .before .before .before .before .before .args .words .now) m (c .before .before .before .before .before .before .before .before .before .before .before .before .before .value .ensures) e) (c .before .before .before .before .before .before .before .before .before .before .before .before .put-status .ensures)) (put-then (row-as supplyRow on (c .before .before .before .before .before .before .before .before .put-supply .ensures)) (fill-as 79 (c .before .before .before .before .before .before .before .before .before .before .before .before .before .before .before .before .before .before .before .before .before .before .before .args .words .now) m (c .before .before .put-form2 .ensures) (c .before .before .before .words-from2 .ensures) e))))
 
 pub put-last-spec : {M : Type 1} → statement M
 put-last-spec =
     tie.close
     (tie.spec
-    slice-aggregate-put-absent-pair
-    pair-requires
-    put-absent-pair-requires
-    slice-aggregate-put-absent-pair-2
-    pair-requires-2
-    put-absent-pair-requires-2
-    slice-aggregate-put-absent-pair-3
-    pair-requires-3
-    put-absent-pair-requires-3
-    slice-aggregate-put-line
-    put-line-requires
-    word-requires
-    put-status-requires
-    regulator-on-requires
+    slice-aggregate-put-form
+    sub-words-from
+    words-from-requires
+    put-form-requires
+    sub-value
     value-requires
+    put-status-requires
     put-supply-requires
-    slice-aggregate-put-absent
-    word-requires-2
-    put-absent-requires
+    slice-aggregate-put-form-2
+    sub-words-from-2
+    words-from-requires-2
+    put-form-requires-2
     same-length
     returns)

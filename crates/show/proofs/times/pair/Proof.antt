@@ -1,29 +1,25 @@
 -- `show::times::pair` meets its contract.
 -- Assumes nothing.
+use mathlib.Core.Path.{_∙_}
+use Rattle.form.specs.Form.{pairOf}
 use borrow.Author.Needs.{needs}
-use Rattle.page.specs.Results.{pairWord}
 use Rattle.show.proofs.times.pair.Statement.{statement}
 use Rattle.show.proofs.times.pair.Tie as tie
 
-word-requires : tie.Need-word-requires
-word-requires c κs = search needs
+value-requires : tie.Need-value-requires
+value-requires c κs = search needs
 
-mul-result : tie.Need-mul-result
-mul-result c = search needs
+add-value : tie.Need-add-value
+add-value c = search needs
 
-add-word : tie.Need-add-word
-add-word c = search needs
+value-requires-2 : tie.Need-value-requires-2
+value-requires-2 c κs = search needs
 
-word-requires-2 : tie.Need-word-requires-2
-word-requires-2 c κs = search needs
-
-add-result : tie.Need-add-result
-add-result c = search needs
+pair-of-requires : tie.Need-pair-of-requires
+pair-of-requires c κs = search needs
 
 returns : tie.Need-returns
-unfolding pairWord
-returns c = rw (← (c .before .word .ensures), ← (c .word2 .ensures))
+returns c = c .pair-of .ensures ∙ rw (c .before .before .value .ensures, c .before .value2 .ensures)
 
 pub pair-spec : {M : Type 1} → statement M
-pair-spec =
-    tie.close (tie.spec word-requires mul-result add-word word-requires-2 add-result returns)
+pair-spec = tie.close (tie.spec value-requires add-value value-requires-2 pair-of-requires returns)

@@ -5,7 +5,7 @@ use native.Mathlib.Omega.{arith}
 use Rattle.wording.proofs.Each.{put-one, put-first}
 use Rattle.numeral.specs.Ascii.{ascii}
 use Rattle.page.specs.Results.{signedTime}
-use Rattle.show.proofs.Justified.{signed-end, signed-part}
+use Rattle.form.proofs.Justified.{signed-end, signed-part}
 use Rattle.show.proofs.times.put_signed_time.Statement.{statement}
 use Rattle.show.proofs.times.put_signed_time.Tie as tie
 

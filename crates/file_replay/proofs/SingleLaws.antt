@@ -11,29 +11,29 @@ use mir.Val.{ofZ, toZ}
 use borrow.Author.Tests.{ltb-true}
 use Rattle.collection.specs.declared.Outcome.{Outcome}
 use Rattle.session.specs.Turns.{Replayed}
-use Rattle.file_replay.specs.Files.{notRead, isOpen, Came, unread, replayed}
+use Rattle.file_replay.specs.Files.{notRead, isDescriptor, Came, unread, replayed}
 
 -- By the test of the code it is not open,
-pub not-open : (fd : ℤ) → toZ w32 (ofZ w32 fd) ≡ fd → ltZ (toZ w32 (ofZ w32 fd)) (pos 0) ≡ true → isOpen fd ≡ false
-unfolding isOpen
+pub not-open : (fd : ℤ) → toZ w32 (ofZ w32 fd) ≡ fd → ltZ (toZ w32 (ofZ w32 fd)) (pos 0) ≡ true → isDescriptor fd ≡ false
+unfolding isDescriptor
 not-open fd same low = go fd (subst (λ (z : ℤ). ltZ z (pos 0) ≡ true) same low)
   where
-    go : (z : ℤ) → ltZ z (pos 0) ≡ true → isOpen z ≡ false
+    go : (z : ℤ) → ltZ z (pos 0) ≡ true → isDescriptor z ≡ false
     go (pos n) low = absurd (omega (arith, ltb-true n 0 low))
     go (negsuc n) low = refl
 
 -- or it is.
-pub is-open : (fd : ℤ) → toZ w32 (ofZ w32 fd) ≡ fd → ltZ (toZ w32 (ofZ w32 fd)) (pos 0) ≡ false → isOpen fd ≡ true
-unfolding isOpen
+pub is-open : (fd : ℤ) → toZ w32 (ofZ w32 fd) ≡ fd → ltZ (toZ w32 (ofZ w32 fd)) (pos 0) ≡ false → isDescriptor fd ≡ true
+unfolding isDescriptor
 is-open fd same low = go fd (subst (λ (z : ℤ). ltZ z (pos 0) ≡ false) same low)
   where
-    go : (z : ℤ) → ltZ z (pos 0) ≡ false → isOpen z ≡ true
+    go : (z : ℤ) → ltZ z (pos 0) ≡ false → isDescriptor z ≡ true
     go (pos n) low = refl
     go (negsuc n) low = absurd (true≢false low)
 
 -- A file that is open is replayed, and another can't be read.
-pub came-from : (fd : ℤ) {name : List ℕ} {check : Bool} {came : Outcome} → (isOpen fd ≡ false → came ≡ notRead)
-    → (isOpen fd ≡ true → Replayed name check came) → Came name check came
-unfolding isOpen
+pub came-from : (fd : ℤ) {name : List ℕ} {check : Bool} {came : Outcome} → (isDescriptor fd ≡ false → came ≡ notRead)
+    → (isDescriptor fd ≡ true → Replayed name check came) → Came name check came
+unfolding isDescriptor
 came-from (pos n) closed opened = replayed (opened refl)
 came-from (negsuc n) closed opened = unread (closed refl)

@@ -22,9 +22,9 @@ abbrev pub notRead : Outcome
 notRead = record { whole = false; unannounced = 0; bad = 0; expected = 0; differ = 0 }
 
 -- The operating system hands over a file by a number, which is negative where it can't be opened.
-unfoldable pub isOpen : ℤ → Bool
-isOpen (pos n) = true
-isOpen (negsuc n) = false
+unfoldable pub isDescriptor : ℤ → Bool
+isDescriptor (pos n) = true
+isDescriptor (negsuc n) = false
 
 -- What a file of this name came to: that of a file that can't be opened, or that of a replay under the name.
 pub data Came (name : List ℕ) (check : Bool) (came : Outcome) : Type 0 where

@@ -14,7 +14,7 @@ ghost use Rattle.file_replay.specs.Sources.{isThere, unused, Stands, Nex
 
 // Where the next name comes from, and the one that was found last.
 pub struct Source {
-    // Whether the list may have more names, its descriptor, its place among the arguments, and the bytes
+    // Whether names may come from a list, its descriptor, its place among the arguments, and the bytes
     // of it that are read and not used yet.
     pub listed: bool,
     pub fd: i32,

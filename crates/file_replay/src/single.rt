@@ -7,7 +7,7 @@ ghost use Prim.Native.Nat.{_+_, _≤_};
 ghost use mathlib.Core.Bool.{true, false};
 ghost use mathlib.Core.Path.{_≡_};
 ghost use lib.ListN.{length, take};
-ghost use Rattle.file_replay.specs.Files.{notRead, headed, isOpen, Came};
+ghost use Rattle.file_replay.specs.Files.{notRead, headed, isDescriptor, Came};
 ghost use Rattle.session.specs.Turns.{Replayed};
 
 // Standard input, without a heading.
@@ -43,7 +43,7 @@ pub fn replay_file(path: &[u8], check: bool, heading: bool) -> Outcome
 // A file that can't be opened is told by name, with the system's words.
 fn replay_opened(fd: i32, path: &[u8], check: bool, heading: bool) -> Outcome
     requires { ⌜ length (now path) ≤ 4096 ⌝ }
-    ensures { λ r. ⌜ (isOpen fd ≡ false → r ≡ notRead) × (isOpen fd ≡ true → Replayed (now (path .entry)) check r) ⌝ }
+    ensures { λ r. ⌜ (isDescriptor fd ≡ false → r ≡ notRead) × (isDescriptor fd ≡ true → Replayed (now (path .entry)) check r) ⌝ }
 {
     if fd < 0 {
         os::fail(path);

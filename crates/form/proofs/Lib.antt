@@ -1,2 +1,3 @@
 pub mod Justified
 pub mod Fill
+pub mod Examples

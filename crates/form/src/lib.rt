@@ -5,7 +5,7 @@
 //   $       a value of 16 bits in hexadecimal, and six blanks
 //   @       the same, and the next piece takes the same value
 //   %       the last two hexadecimal digits of a value
-//   &WHAT   a value in decimal and what it counts, with an s unless it is one
+//   &WHAT   a value in decimal and what it counts, with an s from two on
 //   ?DTEXT  the text, where the value is the digit D
 //   <       two values of 16 bits in hexadecimal
 //   =       two values, and the time that they are as Int and Frac

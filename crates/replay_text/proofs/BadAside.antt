@@ -470,3 +470,18 @@ unfolding textLines
 line-between lines line rest ended none =
     let it = line-before line rest none in
     (lines-behind lines rest ended, lines-behind lines (line ++ (10 ∷ rest)) ended ∙ rw (it .0, it .1))
+
+-- ---- all lines by their numbers
+
+-- All that is written for a text is what each line adds by its number, from 1 on, and the last line, which a check has not.
+pub text-by-lines : (path : List ℕ) (check : Bool) (text : List ℕ) → length (textLines text) < mostLines check
+    → replayText path check text
+    ≡ allAddedAs 1 (textLines text) (firstPage path check) ++ cond check [] (joined (lastTexts (countsOf (lastPage path check text))))
+unfolding eachLine firstPage lastPage lastTexts
+text-by-lines path check text low = replay-lines path check text (textLines text) refl ∙ lines-without path check [] (textLines text) (omega (arith, low))
+
+-- "`--check` prints nothing of an item but what needs a look, each as `FILE:LINE: ANSWER`": one line adds this much.
+pub check-adds : (number : ℕ) (line : List ℕ) (p : Page) → eqb (getD (countsOf p) 14 0) 0 ≡ false
+    → (needsLook line p ≡ true → addedAs number line p ≡ placedAs number line p) × (needsLook line p ≡ false → addedAs number line p ≡ [])
+unfolding addedAs
+check-adds number line p inside = (λ look. rw (inside, look), λ none. rw (inside, none))

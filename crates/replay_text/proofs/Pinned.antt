@@ -1,9 +1,7 @@
 -- What a replay starts with, in plain numbers. Assumes nothing.
-use Prim.Native.Nat.{ℕ}
 use mathlib.Core.Bool.{false}
-use mathlib.Core.List.{List}
 use mathlib.Core.Path.{_≡_, refl}
-use lib.IntN.{ℤ, pos}
+use lib.IntN.{pos}
 use lib.ListN.{length, getD}
 use Rattle.numeral.specs.Ascii.{ascii}
 use Rattle.numeral.specs.Place.{overwrite, written}

@@ -1,9 +1,7 @@
 -- Runs in plain words and numbers. Assumes nothing.
-use Prim.Native.Nat.{ℕ}
-use mathlib.Core.Bool.{Bool, true, false, not}
-use mathlib.Core.List.{List, [], _∷_, _++_}
+use mathlib.Core.Bool.{Bool, true, false}
+use mathlib.Core.List.{[], _∷_}
 use mathlib.Core.Path.{_≡_, refl}
-use lib.ListN.{replicate, take}
 use Rattle.numeral.specs.Ascii.{ascii}
 use Rattle.numeral.specs.Digit.{digits, glyph}
 use Rattle.numeral.specs.Place.{overwrite, nextPlace, written, putEach, joined}
@@ -13,21 +11,21 @@ use Rattle.line_buffer.specs.Lines.{hasLine, withFirst, linesIn, restIn, lastLi
 use Rattle.collection.specs.declared.Outcome.{Outcome}
 use Rattle.collection.specs.Group.{nameTexts, joined as joinedTo}
 use Rattle.collection.specs.Kind.{kinds, agreeing}
-use Rattle.collection.specs.Tally.{agreed, after, File, collected}
+use Rattle.collection.specs.Tally.{agreed, after, collected}
 use Rattle.collection.specs.Summary.{headingTexts, headTexts, moreTexts, groupTexts, groupsTexts, firstCounts, lastCounts, summaryTexts}
-use Rattle.session.specs.Ends.{namesBegun, countsBegun, lastTexts, outcomeOf}
+use Rattle.session.specs.Ends.{countsBegun, lastTexts, outcomeOf}
 use Rattle.replay_text.specs.Replay.{firstPage, lastText}
-use Rattle.file_replay.specs.Files.{notRead, headed, noFiles}
-use Rattle.run_text.specs.Run.{Input, linesRead, pageOf, answersOf, textOf, cameTo, textsOf, filesRead, summaryOf, runText}
+use Rattle.file_replay.specs.Files.{headed}
+use Rattle.run_text.specs.Run.{FileRead, linesRead, pageOf, answersOf, textOf, cameTo, textsOf, filesTold, summaryOf, runText}
 
 -- A file without a line; one that breaks off in its first line; one that can't be opened.
-abbrev empty : Input
+abbrev empty : FileRead
 empty = record { name = ascii "a"; opened = true; bytes = []; whole = true }
 
-abbrev broken : Input
+abbrev broken : FileRead
 broken = record { name = ascii "b"; opened = true; bytes = ascii "x"; whole = false }
 
-abbrev missing : Input
+abbrev missing : FileRead
 missing = record { name = ascii "c"; opened = false; bytes = []; whole = false }
 
 -- The lines of a file that breaks off are those with a line feed.
@@ -58,10 +56,10 @@ came-to = (refl, refl, refl)
 
 -- The summary stands behind all of them.
 no-file : runText false [] ≡ ascii "== 0 files ==\nend 0 files, 0 agree, 0 differ, 0 unannounced, 0 bad lines, 0 cannot be read, 0 no expectation\n"
-unfolding runText textsOf summaryOf filesRead collected summaryTexts headTexts groupsTexts groupTexts firstCounts lastCounts decimal decimalWidth widthFrom digits glyph joined ascii
+unfolding runText textsOf summaryOf filesTold collected summaryTexts headTexts groupsTexts groupTexts firstCounts lastCounts decimal decimalWidth widthFrom digits glyph joined ascii
 no-file = refl
 
 one-missing : runText false (missing ∷ [])
     ≡ ascii "== 1 files ==\ncannot be read: 1\n  c\nend 1 files, 0 agree, 0 differ, 0 unannounced, 0 bad lines, 1 cannot be read, 0 no expectation\n"
-unfolding runText textsOf textOf summaryOf filesRead cameTo collected after kinds agreeing agreed joinedTo nameTexts putEach written nextPlace overwrite summaryTexts headTexts groupsTexts groupTexts moreTexts firstCounts lastCounts decimal decimalWidth widthFrom digits glyph joined ascii
+unfolding runText textsOf textOf summaryOf filesTold cameTo collected after kinds agreeing agreed joinedTo nameTexts putEach written nextPlace overwrite summaryTexts headTexts groupsTexts groupTexts moreTexts firstCounts lastCounts decimal decimalWidth widthFrom digits glyph joined ascii
 one-missing = refl

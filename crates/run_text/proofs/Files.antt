@@ -8,15 +8,14 @@ use Rattle.unit.proofs.Cases.{by-test}
 use Rattle.line_buffer.specs.Lines.{wholeText, textLines, linesIn, eachLine}
 use Rattle.collection.specs.declared.Outcome.{Outcome}
 use Rattle.session.specs.Flush.{writtenNow}
-use Rattle.session.specs.Input.{wasWhole}
 use Rattle.session.specs.Ends.{lastSaid, outcomeOf}
 use Rattle.session.specs.Turns.{Replayed, writtenBy}
-use Rattle.replay_text.specs.Replay.{Page, pageLine, firstPage, lastPage, lastText, replayText}
+use Rattle.replay_text.specs.Replay.{pageLine, firstPage, lastPage, replayText}
 use Rattle.replay_text.proofs.Outcome.{whole-told, replay-written, replay-told}
 use Rattle.replay_text.proofs.Broken.{replay-broken-written, replay-broken}
 use Rattle.file_replay.specs.Files as files
-use Rattle.file_replay.specs.Files.{notRead, Came, headed, writtenFor}
-use Rattle.run_text.specs.Run.{Input, linesRead, pageOf, answersOf, textOf, cameTo}
+use Rattle.file_replay.specs.Files.{Came, headed, writtenFor}
+use Rattle.run_text.specs.Run.{FileRead, linesRead, pageOf, answersOf, textOf, cameTo}
 
 -- What was read of a file, by the pieces of its replay, and nothing of one that can't be opened.
 abbrev pub wasOpened : {name : List ℕ} {check : Bool} {came : Outcome} → Came name check came → Bool
@@ -31,17 +30,17 @@ abbrev pub wasRead : {name : List ℕ} {check : Bool} {came : Outcome} → Came 
 wasRead (files.unread e) = false
 wasRead {came = came} (files.replayed r) = came .whole
 
-abbrev pub inputBy : (name : List ℕ) {check : Bool} {came : Outcome} → Came name check came → Input
-inputBy name c = record { name = name; opened = wasOpened c; bytes = bytesRead c; whole = wasRead c }
+abbrev pub readBy : (name : List ℕ) {check : Bool} {came : Outcome} → Came name check came → FileRead
+readBy name c = record { name = name; opened = wasOpened c; bytes = bytesRead c; whole = wasRead c }
 
 -- Less than 4,500 terabytes were read of it.
-abbrev pub Few : Input → Type 0
+abbrev pub Few : FileRead → Type 0
 Few f = length (f .bytes) < 4500000000000000
 
 -- ---- one replay
 
 module _ (name : List ℕ) (check : Bool) {came : Outcome} (r : Replayed name check came) (few : length (wholeText (r .pieces)) < 4500000000000000) where
-  abbrev read : Input
+  abbrev read : FileRead
   read = record { name = name; opened = true; bytes = wholeText (r .pieces); whole = came .whole }
 
   written-so : {t : Bool} → came .whole ≡ t
@@ -73,14 +72,14 @@ module _ (name : List ℕ) (check : Bool) {came : Outcome} (r : Replayed name ch
 
 -- ---- one file, opened or not
 
-pub file-written : (heading : Bool) (name : List ℕ) (check : Bool) {came : Outcome} (c : Came name check came) → Few (inputBy name c)
-    → writtenFor heading c ≡ textOf heading check (inputBy name c)
+pub file-written : (heading : Bool) (name : List ℕ) (check : Bool) {came : Outcome} (c : Came name check came) → Few (readBy name c)
+    → writtenFor heading c ≡ textOf heading check (readBy name c)
 unfolding writtenFor textOf
 file-written heading name check (files.unread e) few = refl
 file-written heading name check (files.replayed r) few = ap (λ (t : List ℕ). headed heading name ++ t) (replay-answers name check r few)
 
-pub file-came : (name : List ℕ) (check : Bool) {came : Outcome} (c : Came name check came) → Few (inputBy name c)
-    → came ≡ cameTo check (inputBy name c)
+pub file-came : (name : List ℕ) (check : Bool) {came : Outcome} (c : Came name check came) → Few (readBy name c)
+    → came ≡ cameTo check (readBy name c)
 unfolding cameTo
 file-came name check (files.unread e) few = e
 file-came name check (files.replayed r) few = replay-counts name check r few

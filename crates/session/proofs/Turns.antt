@@ -4,6 +4,7 @@ use mathlib.Core.Bool.{true, false}
 use mathlib.Core.List.{List, [], _∷_, _++_}
 use mathlib.Core.Path.{_≡_, refl}
 use native.Mathlib.Omega.{arith}
+use lib.IntN.{pos, negsuc}
 use lib.ListN.{drop, replicate}
 use Rattle.numeral.specs.Digit.{digits, glyph}
 use Rattle.numeral.specs.Place.{overwrite, nextPlace, written, putEach, joined}
@@ -13,7 +14,7 @@ use Rattle.numeral.specs.Ascii.{ascii}
 use Rattle.wording.specs.Wording.{counted, calls, faults}
 use Rattle.item_state.specs.Log.{Log, said}
 use Rattle.session.specs.Flush.{isLong, writtenTo, writtenNow, keptTo, afterWriting, lineEnding}
-use Rattle.session.specs.Input.{goesOn, wasWhole, overFrom, WentOn}
+use Rattle.session.specs.Input.{stateAfter, bytesAfter, goesOn, wasWhole, overFrom, WentOn}
 use Rattle.session.specs.Ends.{namesBegun, countsBegun, lastTexts, lastSaid, outcomeOf}
 
 -- Where the answers end, up to where they are written, 1 in a check, where the line's own answer starts, and the ticks that are left.
@@ -128,3 +129,19 @@ none-last answers = (refl, refl)
 handed-back : outcomeOf true (told 1 0) ≡ record { whole = true; unannounced = 7; bad = 6; expected = 5; differ = 4 }
 unfolding outcomeOf
 handed-back = refl
+
+-- ---- what the operating system tells of a read
+
+-- It can't be read; it is at its end; five bytes were put into the buffer.
+told-state : (stateAfter (negsuc 0) ≡ 2) × (stateAfter (pos 0) ≡ 1) × (stateAfter (pos 5) ≡ 0)
+unfolding stateAfter
+told-state = (refl, refl, refl)
+
+-- Behind one byte that is held: nothing; a line feed, where some are held; the byte that was read, and no more than the buffer has.
+told-bytes : (bytesAfter (negsuc 0) 1 (ascii "abc") ≡ [])
+    × (bytesAfter (pos 0) 1 (ascii "abc") ≡ ascii "a\n")
+    × (bytesAfter (pos 0) 0 (ascii "abc") ≡ [])
+    × (bytesAfter (pos 1) 1 (ascii "abc") ≡ ascii "ab")
+    × (bytesAfter (pos 9) 1 (ascii "abc") ≡ ascii "abc")
+unfolding bytesAfter lineEnding ascii
+told-bytes = (refl, refl, refl, refl, refl)

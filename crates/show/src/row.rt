@@ -37,7 +37,7 @@ pub fn put_line(buf: &mut [u8], at: usize, text: &[u8]) -> usize
     numeral::put_text(buf, a, b"\n")
 }
 
-// A number, and what it counts, with an s unless it is one.
+// A number, and what it counts, with an s from two on.
 pub fn put_plural(buf: &mut [u8], at: usize, n: u32, what: &[u8]) -> usize
     ensures { λ r. ⌜ PutEach (now (buf .entry)) at (plural n (now (what .entry))) r (now (buf .exit)) ⌝ }
 {

@@ -88,12 +88,12 @@ class Said(unittest.TestCase):
     def test_examples_and_captures_are_read(self) -> None:
         for path, differences in (
             ("examples/difference.item", 2), ("examples/event.item", 4), ("examples/first.item", 1), ("examples/hour.item", 5),
-            ("capture/example.item", 1), ("examples/clock.item", 0), ("examples/customer.item", 0),
+            ("capture/example.item", 1), ("examples/clock.item", 0), ("examples/customer.item", 0), ("examples/differs.item", 1),
         ):  # fmt: skip
             with contextlib.redirect_stderr(io.StringIO()) as errors:
                 captures = fit_flow.replayed(ROOT / path)
             self.assertEqual(sum(len(capture.differences) for capture in captures), differences, path)
-            self.assertEqual(bool(errors.getvalue()), path in ("examples/event.item", "examples/first.item"), path)
+            self.assertEqual(bool(errors.getvalue()), path in ("examples/event.item", "examples/differs.item"), path)
 
     def test_flows_of_any_size(self) -> None:
         output, _ = self.told("1.25e-4 a b.item\n", "--width", "2", **{"a b": TWO})

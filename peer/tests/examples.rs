@@ -20,7 +20,7 @@ fn examples() -> Vec<PathBuf> {
 #[test]
 fn examples_answer_as_stored() {
     let paths = examples();
-    assert!(paths.len() >= 7, "{paths:?}");
+    assert!(paths.len() >= 8, "{paths:?}");
     for path in paths {
         let mut answers = Vec::new();
         peer::replay(&fs::read(&path).unwrap(), &mut answers).unwrap();
@@ -36,7 +36,7 @@ fn examples_announce_their_refusals() {
         let stored = fs::read_to_string(path.with_extension("expected")).unwrap();
         let last = stored.lines().last().unwrap();
         assert!(last.contains(" 0 unannounced, 0 bad lines, "), "{path:?}");
-        let slip = path.ends_with("first.item") || path.ends_with("event.item");
+        let slip = path.ends_with("differs.item") || path.ends_with("event.item");
         assert_eq!(last.ends_with(" 1 differ"), slip, "{path:?}");
         assert_eq!(last.ends_with(" 0 differ"), !slip, "{path:?}");
     }

@@ -162,9 +162,9 @@ class Size(unittest.TestCase):
 @NEEDS_PROGRAM
 class Page(unittest.TestCase):
     def test_several_items(self) -> None:
-        found = runs(text_of(EXAMPLES, "first.item") + text_of(EXAMPLES, "event.item"))
+        found = runs(text_of(EXAMPLES, "differs.item") + text_of(EXAMPLES, "event.item"))
         text = page.html_text(found)
-        self.assertEqual(re.findall(r'<a href="#(item\d)">(\w+)', text), [("item1", "first"), ("item2", "event")])
+        self.assertEqual(re.findall(r'<a href="#(item\d)">(\w+)', text), [("item1", "differs"), ("item2", "event")])
         self.assertEqual(re.findall(r'<div id="(item\d)">', text), ["item1", "item2"])
         self.assertEqual(text.count("<b>1 differ</b>"), 2)
         self.assertEqual(text.count("<style>"), 2)

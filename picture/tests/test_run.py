@@ -115,8 +115,12 @@ class Stored(unittest.TestCase):
     def test_first_example(self) -> None:
         run = runs(text_of(EXAMPLES, "first.item"))[0]
         self.assertEqual(outcomes(run, "flight"), [(0, 100, "good"), (100, 100, "failed")])
-        self.assertEqual(run.checks("differs")[0].words, ["E3 has 0000, expected 0001"])
+        self.assertEqual(run.checks("differs"), [])
         self.assertEqual(run.groups, [])
+
+    def test_example_that_differs(self) -> None:
+        run = runs(text_of(EXAMPLES, "differs.item"))[0]
+        self.assertEqual([check.words for check in run.checks("differs")], [["E3 has 0000, expected 0001"]])
 
     def test_difference(self) -> None:
         run = self.of_name["1 difference -125902"]

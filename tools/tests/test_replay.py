@@ -4,52 +4,12 @@ import os
 import pty
 import re
 import subprocess
-import tempfile
 import unittest
 
-ROOT = os.path.dirname(os.path.dirname(os.path.dirname(os.path.abspath(__file__))))
-SCRIPT = os.path.join(ROOT, "replay")
-BUILT = os.path.join(ROOT, "target", "bin", "replay")
-
-# What each item comes to follows from docs/ITEMS.md: a fresh model has POR (0004h), and Initialize sets INIT (0008h) beside it.
-AGREES = "bus 05 => ok -\nexpect FE 000C\n"
-DIFFERS = "item slip\nexpect FE 0000\n"
-REFUSED = "expect FE 0004\nbus 02\n"
-BAD = "expect FE 0004\nnonsense\n"
-PLAIN = "int\n"
-
-AGREES_ANSWERS = "bus ok -\nexpect FE ok\nend 1 calls, 0 refused, 0 unannounced, 0 bad lines, 2 expectations, 0 differ\n"
-DIFFERS_ANSWERS = (
-    "item slip\nexpect FE differs FE:0004/0000\n"
-    "end 0 calls, 0 refused, 0 unannounced, 0 bad lines, 1 expectations, 1 differ\n"
-)
+from tests.support import AGREES, AGREES_ANSWERS, BAD, BUILT, DIFFERS, DIFFERS_ANSWERS, PLAIN, REFUSED, SCRIPT, Folder, last_line
 
 
-def last_line(files: int, agree: int, differ: int, unannounced: int, bad: int, unread: int, plain: int) -> str:
-    return (
-        f"end {files} files, {agree} agree, {differ} differ, {unannounced} unannounced, {bad} bad lines, "
-        f"{unread} cannot be read, {plain} no expectation\n"
-    )
-
-
-@unittest.skipUnless(os.access(BUILT, os.X_OK), f"there is no {BUILT}: run ./replay once")
-class Collections(unittest.TestCase):
-    def setUp(self) -> None:
-        folder = tempfile.TemporaryDirectory()
-        self.addCleanup(folder.cleanup)
-        self.folder = folder.name
-
-    def write(self, name: str, text: str) -> str:
-        path = os.path.join(self.folder, name)
-        os.makedirs(os.path.dirname(path), exist_ok=True)
-        with open(path, "w", encoding="latin-1") as file:
-            file.write(text)
-        return name
-
-    def run_script(self, *words: str, text: str = "", program: str = SCRIPT) -> tuple[int, str, str]:
-        done = subprocess.run([program, *words], input=text.encode("latin-1"), capture_output=True, cwd=self.folder)
-        return done.returncode, done.stdout.decode("latin-1"), done.stderr.decode("latin-1")
-
+class Collections(Folder):
     def five(self) -> list[str]:
         return [
             self.write("a.item", AGREES),
@@ -126,7 +86,8 @@ class Collections(unittest.TestCase):
         self.write("x/a.item", AGREES)
         self.assertIn("== x/a.item ==\n", self.run_script("x")[1])
         os.mkdir(os.path.join(self.folder, "none"))
-        self.assertEqual(self.run_script("none"), (0, "== 0 files ==\n" + last_line(0, 0, 0, 0, 0, 0, 0), ""))
+        none = "== 0 files ==\n" + last_line(0, 0, 0, 0, 0, 0, 0)
+        self.assertEqual(self.run_script("none"), (3, none, "replay: none: no .item file is taken from this folder\n"))
 
     def test_lists(self) -> None:
         names = self.five()

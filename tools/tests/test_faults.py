@@ -95,6 +95,21 @@ class Ends(Folder):
             self.assertEqual(run.returncode, 3, (trial, err))
             self.assertIn(b"replay: the run broke off", err)
 
+    def test_the_command_ended_by_a_signal(self) -> None:
+        names = [self.write(f"{number}.item", BUSY) for number in range(200)]
+        script = self.script_over(f'echo $$ > "{self.folder}/pid"\nexec "{BUILT}" "$@"\n')
+        for words in names, ["--check", *names]:
+            with subprocess.Popen([script, *words], stdin=subprocess.DEVNULL, stdout=subprocess.DEVNULL, cwd=self.folder) as run:
+                pid = self.program_of(run)
+                time.sleep(0.1)
+                run.terminate()
+                self.assertNotEqual(run.wait(timeout=60), 0)
+            for _ in range(100):
+                if not os.path.exists(f"/proc/{pid}/exe"):
+                    break
+                time.sleep(0.02)
+            self.assertFalse(os.path.exists(f"/proc/{pid}/exe"), "the program goes on")
+
     def program_of(self, run: subprocess.Popen) -> int:
         """The number of the program's process, once it runs."""
         path = os.path.join(self.folder, "pid")

@@ -15,7 +15,7 @@ AGREES = "bus 05 => ok -\nexpect FE 000C\n"
 DIFFERS = "item slip\nexpect FE 0000\n"
 REFUSED = "expect FE 0004\nbus 02\n"
 BAD = "expect FE 0004\nnonsense\n"
-PLAIN = "int\n"
+PLAIN = "tick 1\n"
 
 AGREES_ANSWERS = "bus ok -\nexpect FE ok\nend 1 calls, 0 refused, 0 unannounced, 0 bad lines, 2 expectations, 0 differ\n"
 DIFFERS_ANSWERS = (

@@ -220,16 +220,16 @@ class Nothing(Folder):
 
     def test_a_file_with_nothing_to_replay(self) -> None:
         self.write("a.item", AGREES)
-        for text in "", "# a\n", "\n \t\r\n\t# a\n", "item x\n# a", "\r\n":
+        for text in "", "# a\n", "\n \t\r\n\t# a\n", "item x\n# a", "\r\n", "int\n", " awaited \r\nregs\nshow", "probe 1 2\n":
             self.write("n.item", text)
-            told = "replay: {}: nothing to replay is in this file\n"
+            told = "replay: {}: this file has no call and no expectation\n"
             for words in ["n.item"], ["--check", "n.item"], ["a.item", "n.item"]:
                 self.assertEqual(self.run_script(*words)[::2], (3, told.format("n.item")), (words, text))
             for words in [], ["-"], ["--check"], ["--check", "a.item", "-"]:
                 self.assertEqual(self.run_script(*words, text=text)[::2], (3, told.format("-")), (words, text))
 
     def test_calls_without_an_expectation(self) -> None:
-        for text in "bus 05\n", "\t bus 05", "item x\nbus 05\n", "int\n":
+        for text in "bus 05\n", "\t bus 05", "item x\nbus 05\n", "int\ntick 1\n":
             self.write("p.item", text)
             for words in ["p.item"], ["--check", "p.item"], [], ["--check"]:
                 self.assertEqual(self.run_script(*words, text=text)[::2], (0, ""), (words, text))

@@ -15,8 +15,7 @@ use Rattle.device.specs.declared.Model.{Model}
 use Rattle.thermometer.specs.declared.InDegrees.{InDegrees}
 use Rattle.thermometer.specs.declared.InDegrees.the-variants.{Thousandths, Refused}
 use Rattle.quietest.specs.declared.Place.{Place}
-use Rattle.quietest.specs.Quietest.{quietestPlace}
-use Rattle.difference.specs.Spread.{spreadOf}
+use Rattle.quietest.specs.Quietest.{quietestPlace, runSpread}
 use Rattle.listing.specs.Listing.{captureDigits, lineLength, lines, lastAbove}
 use Rattle.listing.proofs.Meaning.{Fit, lines-length}
 use Rattle.numeral.specs.Ascii.{ascii}
@@ -73,7 +72,7 @@ told-record-size m numbers n differences counts h =
 place-size : (place : Place) (values : List ℤ) (width : ℕ) (counts : List ℕ) → size (toldOfPlace place values width counts .texts) ≤ 51
 unfolding size toldOfPlace quietest ascii
 place-size (Place.At start) values width counts =
-    rw size-append (omega (arith, counted-size start (ascii " "), counted-size (spreadOf (take width (drop start values))) lineFeed))
+    rw size-append (omega (arith, counted-size start (ascii " "), counted-size (runSpread (take width (drop start values))) lineFeed))
 place-size (Place.Refused number) values width counts = omega (arith, refused-size (ascii "quietest") number)
 
 pub told-quietest-size : (width : ℕ) (values : List ℤ) (counts : List ℕ) → size (toldOfQuietest width values counts .texts) ≤ 51

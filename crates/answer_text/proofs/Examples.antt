@@ -16,7 +16,7 @@ use Rattle.thermometer.specs.declared.InDegrees.the-variants.{Thousandths, Refu
 use Rattle.thermometer.specs.Degrees.{degreesBy}
 use Rattle.quietest.specs.declared.Place.{Place}
 use Rattle.difference.specs.Difference.{signedOf}
-use Rattle.difference.specs.Spread.{raised, least, greatest, range, spreadOf}
+use Rattle.quietest.specs.Quietest.{larger, smaller, extreme, spread, runSpread}
 use Rattle.listing.specs.Listing.{sign, rightJustified, line, lines, lastAbove}
 use Rattle.line.specs.declared.Content.{Content}
 use Rattle.numeral.specs.Ascii.{ascii}
@@ -138,7 +138,7 @@ two-recorded = refl
 -- A run of two from the second difference on, and a width that is refused
 a-run : (joined (toldOfPlace (Place.At 1) (pos 5 ∷ pos 9 ∷ pos 7 ∷ []) 2 (tallied 8 3 5 6 1) .texts) ≡ ascii "quietest 1 2\n") × (toldOfPlace (Place.At 1) (pos 5 ∷ pos 9 ∷ pos 7 ∷ []) 2 (tallied 8 3 5 6 1) .counts ≡ tallied 9 3 5 6 1)
     × (joined (toldOfPlace (Place.Refused 18) [] 2 (tallied 8 3 5 6 1) .texts) ≡ ascii "quietest no 18 width\n") × (toldOfPlace (Place.Refused 18) [] 2 (tallied 8 3 5 6 1) .counts ≡ tallied 9 4 5 6 1)
-unfolding toldOfPlace spreadOf range least greatest raised callCounted added quietest counted refused refusal refusalWord refusalWords decimal decimalWidth widthFrom digits glyph joined ascii
+unfolding toldOfPlace runSpread spread extreme larger smaller callCounted added quietest counted refused refusal refusalWord refusalWords decimal decimalWidth widthFrom digits glyph joined ascii
 a-run = (refl, refl, refl, refl)
 
 -- A listing is a call, and one that is refused a refusal.

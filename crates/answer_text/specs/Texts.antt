@@ -17,9 +17,8 @@ use Rattle.device.specs.Reply.{reply, output}
 use Rattle.thermometer.specs.declared.InDegrees.{InDegrees}
 use Rattle.thermometer.specs.declared.InDegrees.the-variants.{Thousandths, Refused}
 use Rattle.quietest.specs.declared.Place.{Place}
-use Rattle.quietest.specs.Quietest.{quietestPlace}
+use Rattle.quietest.specs.Quietest.{quietestPlace, runSpread}
 use Rattle.difference.specs.Difference.{signedOf}
-use Rattle.difference.specs.Spread.{spreadOf}
 use Rattle.listing.specs.Listing.{captureDigits, lines, lastAbove}
 use Rattle.setup_frames.specs.Frames.{frames}
 use Rattle.page.specs.Page.{pageTexts}
@@ -240,7 +239,7 @@ toldOfListing d first values used counts =
 
 -- "`quietest START SPREAD`, START from 0, SPREAD the largest less the smallest; or `quietest no 18 width`"
 unfoldable pub toldOfPlace : Place → List ℤ → ℕ → List ℕ → Told
-toldOfPlace (Place.At start) values width counts = answered 0 (quietest start (spreadOf (take width (drop start values)))) counts
+toldOfPlace (Place.At start) values width counts = answered 0 (quietest start (runSpread (take width (drop start values)))) counts
 toldOfPlace (Place.Refused number) values width counts = answered 1 (quietestRefused number) counts
 
 -- "the run of W neighbours in the record that differ least, the earliest of equals"

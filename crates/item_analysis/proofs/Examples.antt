@@ -12,11 +12,10 @@ use Rattle.device.specs.declared.Model.{Model}
 use Rattle.thermometer.specs.declared.InDegrees.the-variants.{Thousandths, Refused}
 use Rattle.thermometer.specs.Degrees.{degrees, degreesBy}
 use Rattle.difference.specs.Difference.{joinedWord, signedOf}
-use Rattle.difference.specs.Spread.{raised, least, greatest, range, spreadOf}
 use Rattle.listing.specs.declared.Listed.{Listed}
 use Rattle.listing.specs.declared.Width.{Width}
 use Rattle.listing.specs.Listing.{sign, rightJustified, line, lineLength, lines, lastAbove, listing}
-use Rattle.quietest.specs.Quietest.{larger, smaller, extreme, spread, quieter, quietestPlace}
+use Rattle.quietest.specs.Quietest.{larger, smaller, extreme, spread, quieter, quietestPlace, runSpread}
 use Rattle.numeral.specs.Ascii.{ascii}
 use Rattle.wording.specs.Wording.{difference, differenceTexts, recordTexts, counted as Wording·counted, probe, degrees as degreesTexts, refusalWords, refusalWord, refusal, refused, listingHead, quietest}
 use Rattle.item_state.specs.Log.{Log, added, said, callCounted, counted, called}
@@ -109,5 +108,5 @@ a-listing = refl
 -- `quietest 2` of 5, 9 and 7, and `quietest 4` of them
 a-quietest : (quietestLine 2 (pos 5 ∷ pos 9 ∷ pos 7 ∷ pos 7 ∷ []) (log 2 8 3 3 5 "ab..............") ≡ log 15 9 3 3 5 "abquietest 1 2\n.")
     × (quietestLine 4 (pos 5 ∷ pos 9 ∷ pos 7 ∷ pos 7 ∷ []) (log 2 8 3 3 5 "ab......................") ≡ log 23 9 4 3 5 "abquietest no 18 width\n.")
-unfolding quietestLine quietestTold quietestPlace quieter spread extreme larger smaller spreadOf range least greatest raised called counted callCounted added quietest Wording·counted refused refusal refusalWord refusalWords putEach written nextPlace overwrite decimal decimalWidth widthFrom digits glyph ascii
+unfolding quietestLine quietestTold quietestPlace quieter spread extreme larger smaller runSpread called counted callCounted added quietest Wording·counted refused refusal refusalWord refusalWords putEach written nextPlace overwrite decimal decimalWidth widthFrom digits glyph ascii
 a-quietest = (refl, refl)

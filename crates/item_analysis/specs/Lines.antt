@@ -12,12 +12,11 @@ use Rattle.thermometer.specs.declared.InDegrees.{InDegrees}
 use Rattle.thermometer.specs.declared.InDegrees.the-variants.{Thousandths, Refused}
 use Rattle.thermometer.specs.Degrees.{degrees as degreesPt1000, degreesBy}
 use Rattle.difference.specs.Difference.{joinedWord, signedOf}
-use Rattle.difference.specs.Spread.{spreadOf}
 use Rattle.listing.specs.declared.Listed.{Listed}
 use Rattle.listing.specs.declared.Width.{Width}
 use Rattle.listing.specs.Listing.{captureDigits, Outcome, listing}
 use Rattle.quietest.specs.declared.Place.{Place}
-use Rattle.quietest.specs.Quietest.{quietestPlace}
+use Rattle.quietest.specs.Quietest.{quietestPlace, runSpread}
 use Rattle.line.specs.declared.Content.{Content}
 use Rattle.wording.specs.Wording.{probe, degrees, degreesRefused, recordTexts, listingHead, listingRefused, quietest, quietestRefused}
 use Rattle.item_state.specs.Log.{Log, put, said, counted, called}
@@ -107,7 +106,7 @@ listingLine old first kept l =
 
 -- "`quietest START SPREAD`, START from 0, SPREAD the largest less the smallest; or `quietest no 18 width`"
 unfoldable pub quietestTold : Place → List ℤ → ℕ → Log → Log
-quietestTold (Place.At start) values width l = called 0 (quietest start (spreadOf (take width (drop start values)))) l
+quietestTold (Place.At start) values width l = called 0 (quietest start (runSpread (take width (drop start values)))) l
 quietestTold (Place.Refused number) values width l = called 1 (quietestRefused number) l
 
 -- "the run of W neighbours in the record that differ least, the earliest of equals"

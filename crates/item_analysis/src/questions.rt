@@ -77,7 +77,7 @@ fn tell_quietest(
     match place {
         Place::At(start) => {
             let mut number = 0u32;
-            let spread = difference::spread(quietest::quietest(values, width, &mut number));
+            let spread = quietest::run_spread(quietest::quietest(values, width, &mut number));
             let used = phrase::kept::put_quietest(answers, counts[USED], start as u64, spread);
             count(counts, 0, used);
         }

@@ -6,19 +6,20 @@ use lib.IntN.{ℤ}
 use Rattle.unit.specs.Choice.{pick}
 use Rattle.outcome.specs.Code.{filled}
 use Rattle.finding.specs.Finding.{listedCode, listedWords}
-use Rattle.listing.specs.Listing.{listing}
+use Rattle.listing.specs.declared.Width.the-variants.{Two, Eight}
+use Rattle.listing.specs.Listing.{captureDigits, listing}
 
--- A listing's capture numbers have two digits or eight; number 22 for another count.
+-- A listing's capture numbers have as many digits as a `Width` gives them; number 22 for another count.
 unfoldable pub listedNumber : ℕ → List ℤ → ℕ → List ℕ → ℕ
 listedNumber digits differences first out =
-    pick (eqb digits 2) (listedCode (listing 2 differences first out .answer))
-    (pick (eqb digits 8) (listedCode (listing 8 differences first out .answer)) 22)
+    pick (eqb digits (captureDigits Two)) (listedCode (listing (captureDigits Two) differences first out .answer))
+    (pick (eqb digits (captureDigits Eight)) (listedCode (listing (captureDigits Eight) differences first out .answer)) 22)
 
 unfoldable pub listedOut : ℕ → List ℤ → ℕ → List ℕ → List ℕ
 listedOut digits differences first out =
-    pick (eqb digits 2) (listing 2 differences first out .bytes) (pick (eqb digits 8) (listing 8 differences first out .bytes) out)
+    pick (eqb digits (captureDigits Two)) (listing (captureDigits Two) differences first out .bytes) (pick (eqb digits (captureDigits Eight)) (listing (captureDigits Eight) differences first out .bytes) out)
 
 unfoldable pub listedSizes : ℕ → List ℤ → ℕ → List ℕ → List ℕ → List ℕ
 listedSizes digits differences first out sizes =
-    pick (eqb digits 2) (filled sizes (listedWords (listing 2 differences first out .answer)))
-    (pick (eqb digits 8) (filled sizes (listedWords (listing 8 differences first out .answer))) sizes)
+    pick (eqb digits (captureDigits Two)) (filled sizes (listedWords (listing (captureDigits Two) differences first out .answer)))
+    (pick (eqb digits (captureDigits Eight)) (filled sizes (listedWords (listing (captureDigits Eight) differences first out .answer))) sizes)

@@ -4,6 +4,7 @@ ghost use Rattle.thermometer.specs.Table.{pt1000};
 ghost use Rattle.thermometer.specs.Degrees.{degreesOver, degreesBy};
 ghost use Rattle.quietest.specs.Quietest.{quietestPlace};
 ghost use Rattle.nanosecond.specs.Nanosecond.{Nanoseconds};
+ghost use Rattle.listing.specs.Listing.{captureDigits, usual};
 ghost use Rattle.outcome.specs.Code.{filled};
 ghost use Rattle.finding.specs.Finding.{placeCode, placeRun, placeWords, readingCode, readingWords};
 ghost use Rattle.max35101_analysis.specs.Listed.{listedNumber, listedOut, listedSizes};
@@ -81,7 +82,7 @@ pub extern "C" fn max35101_write_listing(
     out: &mut [u8],
     answer: &mut [usize],
 ) -> u32
-    ensures { λ r. ⌜ (r ≡ listedNumber 8 (now (differences .entry)) first (now (out .entry))) × (now (out .exit) ≡ listedOut 8 (now (differences .entry)) first (now (out .entry))) × (now (answer .exit) ≡ listedSizes 8 (now (differences .entry)) first (now (out .entry)) (now (answer .entry))) ⌝ }
+    ensures { λ r. ⌜ (r ≡ listedNumber (captureDigits usual) (now (differences .entry)) first (now (out .entry))) × (now (out .exit) ≡ listedOut (captureDigits usual) (now (differences .entry)) first (now (out .entry))) × (now (answer .exit) ≡ listedSizes (captureDigits usual) (now (differences .entry)) first (now (out .entry)) (now (answer .entry))) ⌝ }
 {
     let l = write_listing(differences, first, out);
     listed(l, answer)

@@ -77,22 +77,46 @@ times-is nan s a k v = v
 times-is (inf t) s a k v = v
 times-is (fin t m e) s a k v = ap (λ (z : Bool). signed z (m * up e * k)) (v .0) ∙ ap (signed s) (v .1) ∙ carried s a (down e)
 
+whole-signed : (q : ℤ) → signed (minus q) (natAbs q) ≡ q
+whole-signed (pos n) = refl
+whole-signed (negsuc n) = refl
+
 pub product-signed : (q : ℤ) → signed (minus q) (natAbs q * 250) ≡ pos 250 *ℤ q
 product-signed (pos n) = ap pos (mul-comm n 250)
 product-signed (negsuc n) = ap (λ (x : ℕ). negℤ (pos x)) (mul-comm (suc n) 250)
 
--- ---- the whole conversion
+-- ---- the whole conversion, step by step: 250.0 is 125 × 2^1, and 65536.0 is 1 × 2^16
 
-abbrev converted : ℤ → Float
-converted q = div binary64 (mul binary64 (ofInt binary64 q) (fin false 125 (pos 1))) (fin false 1 (pos 16))
+abbrev pub asFloat : ℤ → Float
+asFloat q = ofInt binary64 q
 
-exact : (q : ℤ) → mag q < 2147483648 → TimesIs (converted q) 65536 (pos 250 *ℤ q)
-exact q h =
-    let b : natAbs q ≤ 2147483648 = natAbs-le q h in
+abbrev pub timesFactor : ℤ → Float
+timesFactor q = mul binary64 (asFloat q) (fin false 125 (pos 1))
+
+abbrev pub converted : ℤ → Float
+converted q = div binary64 (timesFactor q) (fin false 1 (pos 16))
+
+-- "i32 to f64" means the quanta
+pub cast-exact : (q : ℤ) → SFits w32 q → TimesIs (asFloat q) 1 q
+cast-exact q h =
+    subst (TimesIs (asFloat q) 1) (whole-signed q) (times-is (asFloat q) (minus q) (natAbs q) 1 (cast-value q (h .sfits)))
+
+-- "times 250.0" means 250 × the quanta
+pub product-exact : (q : ℤ) → SFits w32 q → TimesIs (timesFactor q) 1 (pos 250 *ℤ q)
+product-exact q h =
+    let b : natAbs q ≤ 2147483648 = natAbs-le q (h .sfits) in
+    subst (TimesIs (timesFactor q) 1) (product-signed q)
+    (times-is (timesFactor q) (minus q) (natAbs q * 250) 1
+    (product-value (asFloat q) (minus q) (natAbs q) (omega arith) (cast-value q (h .sfits))))
+
+-- "divided by 65536.0": times 65,536 it means 250 × the quanta
+pub quotient-exact : (q : ℤ) → SFits w32 q → TimesIs (converted q) 65536 (pos 250 *ℤ q)
+quotient-exact q h =
+    let b : natAbs q ≤ 2147483648 = natAbs-le q (h .sfits) in
     subst (TimesIs (converted q) 65536) (product-signed q)
     (times-is (converted q) (minus q) (natAbs q * 250) 65536
     (quotient-value _ (minus q) (natAbs q * 250) (omega arith)
-    (product-value (ofInt binary64 q) (minus q) (natAbs q) (omega arith) (cast-value q h))))
+    (product-value (asFloat q) (minus q) (natAbs q) (omega arith) (cast-value q (h .sfits)))))
 
 plus-zero : converted (pos 0) ≡ fin false 0 (pos 0)
 unfolding div mul ofInt round units odd size span climb trailingZeros
@@ -104,4 +128,4 @@ pub conversion :
     → Nanoseconds q (div binary64 (mul binary64 (ofInt binary64 (toZ w32 (ofZ w32 q))) factor) divisor)
 conversion q h is-factor is-divisor =
     rw (toZ-ofZ w32 q h, is-factor, is-divisor)
-    (record { exact = exact q (h .sfits); plusZero = λ e. ap converted e ∙ plus-zero })
+    (record { exact = quotient-exact q h; plusZero = λ e. ap converted e ∙ plus-zero })

@@ -2,7 +2,7 @@
 use mathlib.Core.Path.{_≡_, refl}
 use mathlib.Core.List.{[], _∷_}
 use lib.IntN.{pos, negsuc}
-use Rattle.quietest.specs.Quietest.{larger, smaller, extreme, spread, quieter, quietestPlace}
+use Rattle.quietest.specs.Quietest.{larger, smaller, extreme, spread, runSpread, quieter, quietestPlace}
 use Rattle.quietest.specs.declared.Place.the-variants.{At, Refused}
 
 -- 5, 9, 8, 7, 1: spreads of three neighbours 4, 2, 7
@@ -23,3 +23,12 @@ full-range = refl
 too-wide : quietestPlace (pos 1 ∷ []) 2 ≡ Refused 18
 unfolding quietestPlace
 too-wide = refl
+
+-- 5, -1 and 3; one value; the least and the largest that there are; none
+printed-spreads :
+    (runSpread (pos 5 ∷ negsuc 0 ∷ pos 3 ∷ []) ≡ 6) ×
+    (runSpread (pos 7 ∷ []) ≡ 0) ×
+    (runSpread (pos 2147483647 ∷ negsuc 2147483647 ∷ []) ≡ 4294967295) ×
+    (runSpread [] ≡ 0)
+unfolding runSpread spread extreme larger smaller
+printed-spreads = (refl, refl, refl, refl)

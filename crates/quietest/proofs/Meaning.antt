@@ -1,22 +1,22 @@
 -- What the definitions mean: the spread of a run, the quietest run, the number of a refusal, and the part. Assumes nothing.
 use Prim.Native.Nat.{ℕ, zero, suc, _+_, _-_, _≤_, _<_}
-use native.Mathlib.Nat.{add-zero, eq-or-lt-of-le, le-of-suc-le-suc}
+use native.Mathlib.Nat.{add-zero, zero-add, eq-or-lt-of-le, le-of-suc-le-suc}
 use native.Mathlib.Omega.{arith}
-use mathlib.Core.Path.{_≡_, sym, ap, _∙_}
+use mathlib.Core.Path.{_≡_, refl, sym, ap, _∙_}
 use mathlib.Core.Bool.{Bool, true, false}
 use mathlib.Core.Logic.{_↔_, _⊎_, ⊎-elim}
 use mathlib.Core.List.{List, [], _∷_}
-use lib.IntN.{ℤ, _-ℤ_}
-use lib.Signed.{ltZ, _<ℤ_, _≤ℤ_, clashℤ}
-use lib.ListN.{length, length-take, length-drop}
+use lib.IntN.{ℤ, pos, negsuc, natAbs, _-ℤ_}
+use lib.Signed.{ltZ, nonNeg, _<ℤ_, _≤ℤ_, clashℤ}
+use lib.ListN.{length, take, drop, length-take, length-drop}
 use lib.Seq.{getD-take, getD-drop}
 use denote.Ref.{RefT}
 use Rattle.unit.proofs.Cases.{by-test, by-ltb}
 use Rattle.quietest.specs.Quietest.{valueAt, larger, smaller, extreme, largest, smallest, spread, quieter, quietestPlace}
-use Rattle.quietest.specs.Quietest.{numberIn, placeIn, numberGiven, PartOf, Handed}
+use Rattle.quietest.specs.Quietest.{runSpread, numberIn, placeIn, numberGiven, PartOf, Handed}
 use Rattle.quietest.specs.declared.Place.{Place}
 use Rattle.quietest.specs.declared.Place.the-variants.{At, Refused}
-use Rattle.quietest.proofs.Order.{ge-trans, not-below-itself, one-way, below-at-most, less, at-most}
+use Rattle.quietest.proofs.Order.{ge-trans, not-below-itself, one-way, below-at-most, less, at-most, no-less}
 use Rattle.quietest.proofs.Join.{further}
 use Rattle.quietest.proofs.Inside.{by-width, not-refused, none, place-within, apart, same-start}
 
@@ -96,6 +96,44 @@ spread-means values from n =
       highest = λ k h. rw (← high .value) (at-most (valueAt values (from + k)) (largest values from (suc n)) (largest-over values from (suc n) k h));
       lowest = λ k h. rw (← low .value) (at-most (smallest values from (suc n)) (valueAt values (from + k)) (smallest-under values from (suc n) k h));
     }
+
+pub largest-not-less : (values : List ℤ) (from n : ℕ) → 0 < n → ltZ (largest values from n) (smallest values from n) ≡ false
+largest-not-less values from n h =
+    ge-trans (largest values from n) (valueAt values (from + 0)) (smallest values from n) (largest-over values from n 0 h) (smallest-under values from n 0 h)
+
+pub spread-of-none : (run : List ℤ) → length run ≡ 0 → runSpread run ≡ 0
+unfolding runSpread spread extreme
+spread-of-none [] h = refl
+spread-of-none (x ∷ xs) h = absurd (omega arith)
+
+size-of : (z : ℤ) → nonNeg z ≡ true → pos (natAbs z) ≡ z
+size-of (pos n) h = refl
+size-of (negsuc n) h = let z : _≡_ {A = ℕ} 0 1 = cc in absurd (omega arith)
+
+-- what is printed of a run that was handed back is the spread that it was chosen by
+same-value : (values : List ℤ) (start w k : ℕ) → k < w → valueAt (take w (drop start values)) k ≡ valueAt values (start + k)
+same-value values start w k h = getD-take w (drop start values) k (pos 0) h ∙ getD-drop start values k (pos 0)
+
+same-extreme :
+    (f : ℤ → ℤ → ℤ) (values : List ℤ) (start w n : ℕ) →
+    0 < w →
+    n ≤ w →
+    extreme f (take w (drop start values)) 0 n ≡ extreme f values start n
+unfolding extreme
+same-extreme f values start w zero p h = rw (same-value values start w 0 p, add-zero start)
+same-extreme f values start w (suc n) p h =
+    rw (same-extreme f values start w n p (omega arith), zero-add n, same-value values start w n (omega arith))
+
+pub printed-spread :
+    (values : List ℤ) (start w : ℕ) →
+    0 < w →
+    start + w ≤ length values →
+    pos (runSpread (take w (drop start values))) ≡ spread values start w
+unfolding runSpread spread
+printed-spread values start w p h =
+    let n : length (take w (drop start values)) ≡ w = rw (length-take, length-drop) (omega arith) in
+    rw (n, same-extreme larger values start w w p (omega arith), same-extreme smaller values start w w p (omega arith))
+    (size-of (spread values start w) (no-less (largest values start w) (smallest values start w) (largest-not-less values start w p)))
 
 -- ---- the quietest run
 

@@ -1,11 +1,11 @@
 -- The order of whole numbers by its test. Assumes nothing.
-use Prim.Native.Nat.{ℕ}
+use Prim.Native.Nat.{ℕ, zero, suc}
 use native.Mathlib.Omega.{arith}
 use mathlib.Core.Path.{_≡_, refl, sym, subst}
 use mathlib.Core.Bool.{Bool, true, false, not}
 use lib.Dec.{T}
-use lib.IntN.{ℤ, pos, negsuc}
-use lib.Signed.{ltZ, _<ℤ_, _≤ℤ_, ltZ-yes, ltZ-no}
+use lib.IntN.{ℤ, pos, negsuc, _-ℤ_}
+use lib.Signed.{ltZ, nonNeg, _<ℤ_, _≤ℤ_, ltZ-yes, ltZ-no}
 use borrow.Author.Tests.{lt-ltb, le-ltb, ltb-true, ltb-false}
 
 never : {A : Type 0} → true ≡ false → A
@@ -57,3 +57,12 @@ less a b e = ltZ-yes (subst T (sym e) tt)
 
 pub at-most : (a b : ℤ) → ltZ b a ≡ false → a ≤ℤ b
 at-most a b e = ltZ-no (subst (λ (t : Bool). T (not t)) (sym e) tt)
+
+-- a number less one that is not larger has no sign
+pub no-less : (a b : ℤ) → ltZ a b ≡ false → nonNeg (a -ℤ b) ≡ true
+no-less (pos a) (pos zero) e = refl
+no-less (pos a) (pos (suc b)) e = rw e
+no-less (pos a) (negsuc b) e = refl
+no-less (negsuc a) (pos zero) e = cc
+no-less (negsuc a) (pos (suc b)) e = cc
+no-less (negsuc a) (negsuc b) e = rw (le-ltb (suc b) (suc a) (omega (arith, ltb-false b a e)))

@@ -4,10 +4,10 @@ use native.Mathlib.Omega.{arith}
 use mathlib.Core.Path.{_≡_, sym, ap, _∙_, subst}
 use mathlib.Core.Bool.{Bool, true, false, cond}
 use lib.Dec.{ltb}
-use lib.IntN.{ℤ, pos, negsuc, subℕ, _-ℤ_}
+use lib.IntN.{ℤ, pos, negsuc, natAbs, subℕ, _-ℤ_}
 use lib.Signed.{ltZ, mag}
 use mir.Syntax.{Width, w32, w64}
-use mir.Val.{SFits, ofZ, toZ}
+use mir.Val.{SFits, Fits, ofZ, toZ}
 use mir.ValLaws.{toZ-ofZ}
 
 -- a comparison of what is read back is one of the numbers
@@ -40,6 +40,11 @@ back a h = toZ-ofZ w32 a (record { sfits = h })
 
 pub back-wide : (a : ℤ) → mag a < 2147483648 → toZ w64 (ofZ w64 a) ≡ a
 back-wide a h = toZ-ofZ w64 a (widened a (record { sfits = h }))
+
+-- the size of a 64-bit number fits 64 bits
+pub size-fits : (a : ℤ) → SFits w64 a → Fits w64 (natAbs a)
+size-fits (pos n) f = record { fits = omega (arith, f .sfits) }
+size-fits (negsuc n) f = record { fits = omega (arith, f .sfits) }
 
 -- the difference of two 32-bit numbers, as the machine forms it in 64 bits
 module _ (a b : ℤ) (f : mag a < 2147483648) (g : mag b < 2147483648) where

@@ -2,7 +2,7 @@
 use Prim.Native.Nat.{ℕ, zero, suc, _+_, _-_, _*_}
 use mathlib.Core.Path.{_≡_}
 use mathlib.Core.List.{List, [], _∷_}
-use lib.IntN.{ℤ, pos, _-ℤ_}
+use lib.IntN.{ℤ, pos, natAbs, _-ℤ_}
 use lib.Signed.{ltZ}
 use lib.ListN.{length, getD, take, drop}
 use lib.Dec.{ltb, eqb}
@@ -34,6 +34,10 @@ smallest = extreme smaller
 -- "largest less smallest" of the run of w neighbours that starts at a place
 unfoldable pub spread : List ℤ → ℕ → ℕ → ℤ
 spread values start w = largest values start w -ℤ smallest values start w
+
+-- the same of a whole run, as it is printed: a number without a sign, 0 of none
+unfoldable pub runSpread : List ℤ → ℕ
+runSpread run = natAbs (spread run 0 (length run))
 
 -- of the start s and the n starts from a place on, the first of the least spread: a later one only where its spread is less
 unfoldable pub quieter : List ℤ → ℕ → ℕ → ℕ → ℕ → ℕ

@@ -1,6 +1,9 @@
 // The largest and the smallest value of a run.
 ghost use mathlib.Core.Path.{_≡_};
 ghost use Prim.Native.Nat.{_≤_, _+_};
+ghost use mathlib.Core.Bool.{false};
+ghost use lib.IntN.{natAbs};
+ghost use lib.Signed.{ltZ};
 ghost use lib.ListN.{length};
 ghost use Rattle.quietest.specs.Quietest.{larger, smaller};
 ghost use Rattle.quietest.specs.Search.{extremesOf, joined, spreadOf};
@@ -37,6 +40,14 @@ pub fn spread_of(e: Extremes) -> i64
     ensures { λ r. ⌜ r ≡ spreadOf e ⌝ }
 {
     e.high as i64 - e.low as i64
+}
+
+// The same as a number without a sign.
+pub fn distance(e: Extremes) -> u64
+    requires { ⌜ ltZ (e .high) (e .low) ≡ false ⌝ }
+    ensures { λ r. ⌜ r ≡ natAbs (spreadOf e) ⌝ }
+{
+    (e.high as i64 - e.low as i64) as u64
 }
 
 // The extremes of `count` neighbours from a place on.

@@ -1,7 +1,7 @@
 // The quietest run of neighbours in a list of differences: the run whose largest value less its
 // smallest is least.
 ghost use mathlib.Core.Path.{_≡_};
-ghost use Rattle.quietest.specs.Quietest.{quietestPlace, numberGiven, Handed};
+ghost use Rattle.quietest.specs.Quietest.{quietestPlace, numberGiven, Handed, runSpread};
 
 mod extremes;
 mod search;
@@ -45,4 +45,14 @@ pub fn quietest<'a>(values: &'a [i32], width: usize, number: &mut u32) -> &'a [i
             &values[..0]
         }
     }
+}
+
+// How far the values of a run lie apart: the largest less the smallest, 0 of none.
+pub fn run_spread(run: &[i32]) -> u64
+    ensures { λ r. ⌜ r ≡ runSpread (now (run .entry)) ⌝ }
+{
+    if run.len() == 0 {
+        return 0;
+    }
+    extremes::distance(extremes::extremes_of(run, 0, run.len()))
 }

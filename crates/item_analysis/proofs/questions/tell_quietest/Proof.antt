@@ -6,9 +6,8 @@ use mathlib.Core.List.{List}
 use mathlib.Core.Path.{_≡_, ap, _∙_}
 use lib.IntN.{ℤ}
 use denote.Ref.{RefT}
-use Rattle.difference.specs.Spread.{spreadOf}
 use Rattle.quietest.specs.declared.Place.{Place}
-use Rattle.quietest.specs.Quietest.{quietestPlace, PartOf, Handed}
+use Rattle.quietest.specs.Quietest.{quietestPlace, PartOf, Handed, runSpread}
 use Rattle.item_analysis.specs.Lines.{quietestTold}
 use Rattle.item_state.specs.Log.{called}
 use Rattle.item_analysis.proofs.questions.tell_quietest.Statement.{statement}
@@ -24,8 +23,8 @@ enum-known-place c = search needs
 quietest-requires : tie.Need-quietest-requires
 quietest-requires c κs = search needs
 
-spread-requires : tie.Need-spread-requires
-spread-requires c κs = search needs
+run-spread-requires : tie.Need-run-spread-requires
+run-spread-requires c κs = search needs
 
 element-copy-out-put-quietest : tie.Need-element-copy-out-put-quietest
 element-copy-out-put-quietest c = search needs
@@ -53,7 +52,7 @@ same-length c = search needs
 
 returns : tie.Need-returns
 unfolding quietestTold called
-returns c = let run = handed (quietestPlace (c .before .before .before .before .before .before .before .before .before .before .before .before .before .before .args .values .now) (c .before .before .before .before .before .before .before .before .before .before .before .before .before .before .args .width)) (c .before .before .before .before .before .before .before .before .before .before .before .before .before .before .pre) (c .before .before .before .before .before .before .before .before .before .before .before .place .given .1) (c .before .before .before .before .before .before .before .before .quietest .ensures .0) in rw (c .before .before .before .before .before .before .before .before .before .before .before .place .given .1, ← (c .before .before .before .before .before .before .before .spread .ensures ∙ ap spreadOf (run .elements)), ← c .before .before .before .before .put-quietest .ensures .next, ← c .before .before .before .before .put-quietest .ensures .bytes, ← c .count .ensures)
+returns c = let run = handed (quietestPlace (c .before .before .before .before .before .before .before .before .before .before .before .before .before .before .args .values .now) (c .before .before .before .before .before .before .before .before .before .before .before .before .before .before .args .width)) (c .before .before .before .before .before .before .before .before .before .before .before .before .before .before .pre) (c .before .before .before .before .before .before .before .before .before .before .before .place .given .1) (c .before .before .before .before .before .before .before .before .quietest .ensures .0) in rw (c .before .before .before .before .before .before .before .before .before .before .before .place .given .1, ← (c .before .before .before .before .before .before .before .run-spread .ensures ∙ ap runSpread (run .elements)), ← c .before .before .before .before .put-quietest .ensures .next, ← c .before .before .before .before .put-quietest .ensures .bytes, ← c .count .ensures)
 
 same-length-2 : tie.Need-same-length-2
 same-length-2 c = search needs
@@ -68,7 +67,7 @@ tell-quietest-spec =
     (tie.spec
     enum-known-place
     quietest-requires
-    spread-requires
+    run-spread-requires
     element-copy-out-put-quietest
     put-quietest-requires
     count-requires

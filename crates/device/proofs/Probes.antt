@@ -9,9 +9,9 @@ use Rattle.device.specs.declared.Model.{Model}
 use Rattle.device.specs.declared.Reply.{Reply}
 use Rattle.device.specs.Model.{isSound}
 use Rattle.device.specs.Registers.{flightWord, registerWord}
-use Rattle.device.specs.Call.{Call, table, Verdict, accepted, refused, firstOf, verdict}
-use Rattle.device.specs.Reply.{refuse, replyBy, reply}
-use Rattle.device.specs.Probes.{OtherProbes, OtherProbesIn, none, next, flowRegisters, Flow, flowOf, flowThrough, ProbesClaim}
+use Rattle.device.specs.Call.{Call, transaction, tick, flight, temperature, stretch, table, Verdict, accepted, refused, firstOf, verdict}
+use Rattle.device.specs.Reply.{refuse, replyBy, reply, acceptedMemory, memoryOf, memoryBy, memory}
+use Rattle.device.specs.Probes.{OtherProbes, same, values, buffer, OtherProbesIn, none, next, lent, left, flowRegisters, Flow, flowOf, flowThrough, ProbesClaim}
 use Rattle.device.proofs.ProbesBlanked.{blank, model-alike, reported, report-alike, otherRows, rows-alike}
 use Rattle.device.proofs.Sound.{keeps-sound}
 
@@ -48,52 +48,102 @@ reply-alike m n {c} {d} s t e o = rw (verdict-alike m n s t e o) (go (verdict n 
     go accepted = record { models = model-alike m n e o; reports = report-alike m n e o }
     go (refused k) = record { models = e; reports = refl }
 
--- What is compared is the report and what the flight reads.
-unfoldable flowBy : Bool × ℕ → Flight → Flow
-flowBy r f = record { started = r .0; tick = r .1; words = map (flightWord f) flowRegisters }
+-- The memory that a run lends changes nothing of this, and both runs leave the same.
+lent-alike : (x : List ℕ) {c d : Call} → OtherProbes c d → OtherProbes (lent x c) (lent x d)
+lent-alike x (same c) = same (lent x c)
+lent-alike x (values v w l) = unfold lent in values v w l
+lent-alike x (buffer f o p y l) = unfold lent in buffer f o p x l
 
-flow-read : (r : Reply) → flowOf r ≡ flowBy (reported (r .answer)) (blank (r .model) .flight)
+unfoldable leftBy : Verdict → List ℕ → Call → List ℕ
+leftBy v x (transaction f o y) = memoryBy v (transaction f o x)
+leftBy v x tick = x
+leftBy v x (flight u d) = x
+leftBy v x (temperature w) = x
+leftBy v x (stretch n) = x
+
+left-by : (m : Model) (x : List ℕ) (c : Call) → left m x c ≡ leftBy (verdict m (lent x c)) x c
+unfolding left leftBy lent memory
+left-by m x (transaction f o y) = refl
+left-by m x tick = refl
+left-by m x (flight u d) = refl
+left-by m x (temperature w) = refl
+left-by m x (stretch n) = refl
+
+left-other : (v : Verdict) (x : List ℕ) {c d : Call} → OtherProbes c d → leftBy v x c ≡ leftBy v x d
+unfolding leftBy memoryBy acceptedMemory memoryOf
+left-other v x (same c) = refl
+left-other v x (values u w l) = refl
+left-other accepted x (buffer f o p y l) = refl
+left-other (refused n) x (buffer f o p y l) = refl
+
+left-alike :
+    (m n : Model) (x : List ℕ) {c d : Call} →
+    isSound m ≡ true →
+    isSound n ≡ true →
+    blank m ≡ blank n →
+    OtherProbes c d →
+    left m x c ≡ left n x d
+left-alike m n x {c} {d} s t e o =
+    left-by m x c ∙ ap (λ (v : Verdict). leftBy v x c) (verdict-alike m n s t e (lent-alike x o)) ∙
+    left-other (verdict n (lent x d)) x o ∙ sym (left-by n x d)
+
+-- What is compared is the report, what the flight reads, and the memory.
+unfoldable flowBy : Bool × ℕ → Flight → List ℕ → Flow
+flowBy r f x = record { started = r .0; tick = r .1; words = map (flightWord f) flowRegisters; memory = x }
+
+flow-read : (r : Reply) (x : List ℕ) → flowOf r x ≡ flowBy (reported (r .answer)) (blank (r .model) .flight) x
 unfolding flowOf flowBy reported registerWord flowRegisters blank
-flow-read r = refl
+flow-read r x = refl
 
-flow-alike : {r s : Reply} → Alike r s → flowOf r ≡ flowOf s
-flow-alike {r} {s} a =
-    flow-read r ∙ ap (λ (p : Model). flowBy (reported (r .answer)) (p .flight)) (a .models) ∙
-    ap (λ (p : Bool × ℕ). flowBy p (blank (s .model) .flight)) (a .reports) ∙
-    sym (flow-read s)
+flow-alike : {r s : Reply} {x y : List ℕ} → Alike r s → x ≡ y → flowOf r x ≡ flowOf s y
+flow-alike {r} {s} {x} {y} a e =
+    flow-read r x ∙ ap (λ (p : Model). flowBy (reported (r .answer)) (p .flight) x) (a .models) ∙
+    ap (λ (p : Bool × ℕ). flowBy p (blank (s .model) .flight) x) (a .reports) ∙
+    ap (flowBy (reported (s .answer)) (blank (s .model) .flight)) e ∙
+    sym (flow-read s y)
 
 -- Both lists.
 through-alike :
-    (m n : Model) {cs ds : List Call} →
+    (m n : Model) (x : List ℕ) {cs ds : List Call} →
     isSound m ≡ true →
     isSound n ≡ true →
     blank m ≡ blank n →
     OtherProbesIn cs ds →
-    flowThrough m cs ≡ flowThrough n ds
+    flowThrough m x cs ≡ flowThrough n x ds
 unfolding flowThrough
-through-alike m n s t e none = refl
-through-alike m n s t e (next c d cs ds o os) =
-    let a = reply-alike m n s t e o in
-    rw (flow-alike a)
-    (ap (λ (fs : List Flow). flowOf (reply n d) ∷ fs)
-    (through-alike (reply m c .model) (reply n d .model) (keeps-sound m c s) (keeps-sound n d t) (a .models) os))
+through-alike m n x s t e none = refl
+through-alike m n x s t e (next c d cs ds o os) =
+    let a = reply-alike m n s t e (lent-alike x o) in
+    let l = left-alike m n x s t e o in
+    rw (flow-alike a l, l)
+    (ap (λ (fs : List Flow). flowOf (reply n (lent x d)) (left n x d) ∷ fs)
+    (through-alike (reply m (lent x c) .model) (reply n (lent x d) .model) (left n x d) (keeps-sound m (lent x c) s)
+    (keeps-sound n (lent x d) t) (a .models) os))
 
--- A model that is not sound refuses every call, and stays.
+-- A model that is not sound refuses every call, and stays; so does the memory.
 unsound-refuses : (m : Model) (c : Call) → isSound m ≡ false → reply m c ≡ refuse 0 m
 unfolding reply replyBy verdict firstOf table
 unsound-refuses m c s = rw s
 
+unsound-left : (m : Model) (x : List ℕ) (c : Call) → isSound m ≡ false → left m x c ≡ x
+unfolding left memory memoryBy memoryOf verdict firstOf table
+unsound-left m x (transaction f o y) s = rw s
+unsound-left m x tick s = refl
+unsound-left m x (flight u d) s = refl
+unsound-left m x (temperature w) s = refl
+unsound-left m x (stretch n) s = refl
+
 unsound-through :
-    (m : Model) {cs ds : List Call} →
+    (m : Model) (x : List ℕ) {cs ds : List Call} →
     isSound m ≡ false →
     OtherProbesIn cs ds →
-    flowThrough m cs ≡ flowThrough m ds
+    flowThrough m x cs ≡ flowThrough m x ds
 unfolding flowThrough
-unsound-through m s none = refl
-unsound-through m s (next c d cs ds o os) =
-    rw (unsound-refuses m c s, unsound-refuses m d s)
-    (ap (λ (fs : List Flow). flowOf (refuse 0 m) ∷ fs) (unsound-through m s os))
+unsound-through m x s none = refl
+unsound-through m x s (next c d cs ds o os) =
+    rw (unsound-refuses m (lent x c) s, unsound-refuses m (lent x d) s, unsound-left m x c s, unsound-left m x d s)
+    (ap (λ (fs : List Flow). flowOf (refuse 0 m) x ∷ fs) (unsound-through m x s os))
 
 pub probes-leave-flow : ProbesClaim
-probes-leave-flow m cs ds o =
-    by-test (isSound m) (λ s. through-alike m m s s refl o) (λ s. unsound-through m s o)
+probes-leave-flow m x cs ds o =
+    by-test (isSound m) (λ s. through-alike m m x s s refl o) (λ s. unsound-through m x s o)

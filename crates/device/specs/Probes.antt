@@ -7,8 +7,8 @@ use lib.ListN.{length}
 use Rattle.device.specs.declared.Model.{Model}
 use Rattle.device.specs.declared.Reply.{Reply}
 use Rattle.device.specs.Registers.{registerWord, upwards}
-use Rattle.device.specs.Call.{Call, transaction, temperature}
-use Rattle.device.specs.Reply.{reply}
+use Rattle.device.specs.Call.{Call, transaction, tick, flight, temperature, stretch}
+use Rattle.device.specs.Reply.{reply, memory}
 use Rattle.device.specs.History.{differences, startReported, named}
 
 -- Calls "that differ only in the values of delivered temperature words": as many words, of any values.
@@ -40,22 +40,41 @@ pub record Flow : Type 0 where
   pub started : Bool
   pub tick : ℕ
   pub words : List ℕ
+  -- the user flash: no probe touches it
+  pub memory : List ℕ
 
-unfoldable pub flowOf : Reply → Flow
-flowOf r =
+unfoldable pub flowOf : Reply → List ℕ → Flow
+flowOf r x =
     record {
       started = startReported differences (r .answer);
       tick = named differences (r .answer) .started;
       words = map (registerWord (r .model)) flowRegisters;
+      memory = x;
     }
 
--- "after every call"
-unfoldable pub flowThrough : Model → List Call → List Flow
-flowThrough m [] = []
-flowThrough m (c ∷ cs) = flowOf (reply m c) ∷ flowThrough (reply m c .model) cs
+-- A run has one user flash: each transaction is lent the memory that the calls before it left, whatever memory the list has there.
+unfoldable pub lent : List ℕ → Call → Call
+lent x (transaction f o y) = transaction f o x
+lent x tick = tick
+lent x (flight u d) = flight u d
+lent x (temperature w) = temperature w
+lent x (stretch n) = stretch n
+
+unfoldable pub left : Model → List ℕ → Call → List ℕ
+left m x (transaction f o y) = memory m (transaction f o x)
+left m x tick = x
+left m x (flight u d) = x
+left m x (temperature w) = x
+left m x (stretch n) = x
+
+-- "after every call", from a model and a memory on
+unfoldable pub flowThrough : Model → List ℕ → List Call → List Flow
+flowThrough m x [] = []
+flowThrough m x (c ∷ cs) =
+    flowOf (reply m (lent x c)) (left m x c) ∷ flowThrough (reply m (lent x c) .model) (left m x c) cs
 
 -- "Two runs from equal models with equal call lists that differ only in the values of delivered temperature words must report
--- the same difference starts and the same .. words after every call." For every model, sound or not, and every list, refused
--- calls among them.
+-- the same difference starts and the same .. words after every call." For every model, sound or not, every memory and every list,
+-- refused calls among them.
 abbrev pub ProbesClaim : Type 0
-ProbesClaim = (m : Model) (cs ds : List Call) → OtherProbesIn cs ds → flowThrough m cs ≡ flowThrough m ds
+ProbesClaim = (m : Model) (x : List ℕ) (cs ds : List Call) → OtherProbesIn cs ds → flowThrough m x cs ≡ flowThrough m x ds

@@ -39,7 +39,7 @@ use Rattle.device.specs.History.{differences, periodOf, countOf, planOf, isTick
 use Rattle.device.specs.Claim.{tickCount, ticksIn as ticksCounted}
 use Rattle.device.specs.History.{Entry, after, log, isRefusal, mayFollow, onlyReads, startReported, named}
 use Rattle.device.specs.Claim.{command}
-use Rattle.device.specs.Probes.{OtherProbesIn, same, values, none, next, Flow, flowOf, flowThrough}
+use Rattle.device.specs.Probes.{OtherProbesIn, same, values, none, next, Flow, flowOf, lent, left, flowThrough}
 
 -- Every definition that the facts below compute with, named once: to unfold this one is to unfold them all.
 computed : Bool
@@ -105,9 +105,9 @@ probes-seen = refl
 
 -- and the command's answer reports a start
 pub start-seen :
-    map (λ (f : Flow). f .started) (flowThrough freshModel (withProbes cut))
+    map (λ (f : Flow). f .started) (flowThrough freshModel [] (withProbes cut))
     ≡ false ∷ false ∷ false ∷ true ∷ false ∷ false ∷ false ∷ false ∷ []
-unfolding computed
+unfolding computed lent
 start-seen = refl
 
 -- A continuous event of differences, N = 1, so that each start begins a group: a delivery with a late word, and a good one in the

@@ -14,8 +14,10 @@ use Rattle.device.specs.Model.{isSound}
 use Rattle.device.specs.Call.{opcode}
 use Rattle.device.proofs.Sound.{bounds-of}
 use Rattle.setup_frames.specs.declared.Framed.{Framed}
+use Rattle.setup_frames.specs.declared.Framed.the-variants.{Refused}
 use Rattle.setup_frames.specs.Frames.{starts, frameAt, framesFrom, frames, Written, numberIn}
-use Rattle.setup_frames.specs.Sending.{onlyWrites, Words, framesLeft, Brings}
+use Rattle.setup_frames.specs.Sending.{onlyWrites, framesLeft, Brings}
+use Rattle.setup_frames.proofs.Words.{Words}
 use Rattle.setup_frames.proofs.Outcome.{number-0}
 use Rattle.setup_frames.proofs.Least.{least}
 use Rattle.setup_frames.proofs.Sent.{same-words}
@@ -58,3 +60,7 @@ pub buffers-bring :
 buffers-bring m bytes lengths b l r w e sixteen =
     rw (frames-left m bytes lengths b l r w e)
     (frames-bring (m .setup) sixteen (bounds-of m (accepted-sound m bytes lengths b l r w e) .alarm))
+
+pub refusal-sends-none : {G : Type 0} (n : ℕ) → numberIn (Refused n) ≡ [] → G
+unfolding numberIn
+refusal-sends-none n e = let z : _≡_ {A = ℕ} 0 1 = cc in absurd (omega arith)

@@ -1,3 +1,4 @@
+pub mod Words
 pub mod Pace
 pub mod Weight
 pub mod Loops
@@ -5,7 +6,6 @@ pub mod Outcome
 pub mod Least
 pub mod Reached
 pub mod Sent
-pub mod Made
 pub mod Meaning
 pub mod Brought
 pub mod Examples

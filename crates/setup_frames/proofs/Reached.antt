@@ -14,7 +14,7 @@ use Rattle.frame.specs.Frame.{wordAt}
 use Rattle.device.specs.Write.{withWord, setupAfter}
 use Rattle.device.proofs.Table.{negated}
 use Rattle.setup_frames.specs.Frames.{differs, bytesOf}
-use Rattle.setup_frames.specs.Sending.{Words}
+use Rattle.setup_frames.proofs.Words.{Words}
 
 unfoldable pub reached : List ℕ → ℕ → List ℕ
 reached s e = take e s ++ drop e factory

@@ -26,7 +26,8 @@ use Rattle.device.proofs.Sound.{fresh-sound, keeps-sound}
 use Rattle.device.proofs.WriteTogether.{judged-by-alarm}
 use Rattle.reply_parts.proofs.Decode.{reply-write}
 use Rattle.setup_frames.specs.Frames.{differs, differsBefore, starts, runLength, bytesOf, frameAt, framesFrom, frames}
-use Rattle.setup_frames.specs.Sending.{sent, setupFrom, Words}
+use Rattle.setup_frames.specs.Sending.{sent, setupFrom}
+use Rattle.setup_frames.proofs.Words.{Words}
 use Rattle.setup_frames.proofs.Weight.{before-next, length-bytes, run-goes-on}
 use Rattle.setup_frames.proofs.Reached.{reached, reached-none, reached-all, reached-same, reached-alarm, reached-write}
 

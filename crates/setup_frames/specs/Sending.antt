@@ -1,9 +1,9 @@
 -- What the frames do when they are sent. Quotations are from Note 10 of the change requests.
-use Prim.Native.Nat.{ℕ, _<_, _≤_}
+use Prim.Native.Nat.{ℕ, _≤_}
 use mathlib.Core.Bool.{Bool, true}
 use mathlib.Core.List.{List, [], _∷_, map}
 use mathlib.Core.Path.{_≡_}
-use lib.ListN.{length, getD, take, drop}
+use lib.ListN.{length, take, drop}
 use Rattle.unit.specs.Choice.{both}
 use Rattle.frame.specs.Frame.{isWrite}
 use Rattle.device.specs.Model.{freshModel}
@@ -11,7 +11,7 @@ use Rattle.device.specs.Call.{Call, transaction, opcode}
 use Rattle.device.specs.History.{after}
 use Rattle.setup_frames.specs.declared.Framed.{Framed}
 use Rattle.setup_frames.specs.declared.Framed.the-variants.{Refused, Frames}
-use Rattle.setup_frames.specs.Frames.{allBytes}
+use Rattle.setup_frames.specs.Frames.{allBytes, numberIn}
 
 -- "Sending them": each frame is one transaction, with no output buffer and no memory
 abbrev pub sent : List (List ℕ) → List Call
@@ -25,11 +25,6 @@ setupFrom fs = after freshModel (sent fs) .setup
 unfoldable pub onlyWrites : List (List ℕ) → Bool
 onlyWrites [] = true
 onlyWrites (f ∷ fs) = both (isWrite (opcode f)) (onlyWrites fs)
-
--- "sixteen words", of 16 bits as every model's registers have them
-pub record Words (s : List ℕ) : Type 0 where
-  pub sixteen : length s ≡ 16
-  pub below : (i : ℕ) → i < 16 → getD s i 0 < 65536
 
 -- "Bytes go to one lent buffer, frame lengths to another": bytes cut into frames by their lengths
 unfoldable pub cut : List ℕ → List ℕ → List (List ℕ)
@@ -47,3 +42,7 @@ pub record Brings (fs : List (List ℕ)) (s : List ℕ) : Type 0 where
   pub writes : onlyWrites fs ≡ true
   pub same : setupFrom fs ≡ s
   pub fewest : (others : List (List ℕ)) → onlyWrites others ≡ true → setupFrom others ≡ s → length (allBytes fs) ≤ length (allBytes others)
+
+-- What an accepted call leaves, sent to a fresh model.
+abbrev pub Sent : List ℕ → Framed → List ℕ → List ℕ → Type 0
+Sent s r bytes lengths = numberIn r ≡ [] → Brings (framesLeft r bytes lengths) s

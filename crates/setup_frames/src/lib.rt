@@ -1,5 +1,6 @@
 // A model's set-up as the bus frames that bring a fresh model to it.
 ghost use Rattle.setup_frames.specs.Frames.{Written};
+ghost use Rattle.setup_frames.specs.Sending.{Sent};
 use device::Model;
 use model::state::is_sound;
 
@@ -25,7 +26,7 @@ pub enum Framed {
 
 // Writes the frames one after the other into the bytes, and the length of each into the lengths.
 pub fn setup_frames(m: Model, bytes: &mut [u8], lengths: &mut [u32]) -> Framed
-    ensures { λ r. ⌜ Written m (now (bytes .entry)) (now (lengths .entry)) r (now (bytes .exit)) (now (lengths .exit)) ⌝ }
+    ensures { λ r. ⌜ Written m (now (bytes .entry)) (now (lengths .entry)) r (now (bytes .exit)) (now (lengths .exit)) × Sent (m .setup) r (now (bytes .exit)) (now (lengths .exit)) ⌝ }
 {
     if is_sound(m) {
         if bytes.len() < MOST_BYTES {

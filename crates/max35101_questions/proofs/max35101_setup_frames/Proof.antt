@@ -26,10 +26,10 @@ returns c =
     let load = c .before .before .before .before .before .before .before .before .before .before .before .load in
     let frames = c .before .before .before .before .before .before .before .before .setup-frames in
     record {
-      number = rw (← load .ensures, ← frames .ensures .answer) (c .before .before .framed .ensures .0);
-      answer = rw (← load .ensures, ← frames .ensures .answer) (c .before .before .framed .ensures .1);
-      inBytes = rw (← load .ensures) (frames .ensures .inBytes);
-      inLengths = rw (← load .ensures) (frames .ensures .inLengths);
+      number = rw (← load .ensures, ← frames .ensures .0 .answer) (c .before .before .framed .ensures .0);
+      answer = rw (← load .ensures, ← frames .ensures .0 .answer) (c .before .before .framed .ensures .1);
+      inBytes = rw (← load .ensures) (frames .ensures .0 .inBytes);
+      inLengths = rw (← load .ensures) (frames .ensures .0 .inLengths);
     }
 
 pub max35101-setup-frames-spec : {M : Type 1} → statement M

@@ -2,10 +2,14 @@
 use native.Mathlib.Omega.{arith}
 use mathlib.Core.Logic.{inl, inr}
 use mathlib.Core.Path.{sym, _∙_}
-use lib.ListN.{length}
+use lib.ListN.{length, getD}
+use mir.Syntax.{w16}
+use mir.Val.{Fits}
 use denote.Ref.{now}
 use borrow.Author.Needs.{needs}
 use Rattle.setup_frames.proofs.Outcome.{unsound-refused, short-refused, room-accepted, nothing-written, frames-written}
+use Rattle.setup_frames.proofs.Words.{Words}
+use Rattle.setup_frames.proofs.Brought.{refusal-sends-none, buffers-bring}
 use Rattle.setup_frames.proofs.setup_frames.Statement.{statement}
 use Rattle.setup_frames.proofs.setup_frames.Tie as tie
 
@@ -18,7 +22,7 @@ returns c =
     let b = now (c .before .before .before .before .before .args .bytes) in
     let l = now (c .before .before .before .before .before .args .lengths) in
     let s = sym (c .before .before .is-sound .ensures) ∙ c .before .if1 .taken in
-    nothing-written m b l 19 (short-refused m (length b) (length l) s (inl (omega arith)))
+    (nothing-written m b l 19 (short-refused m (length b) (length l) s (inl (omega arith))), refusal-sends-none 19)
 
 returns-2 : tie.Need-returns-2
 returns-2 c =
@@ -26,7 +30,7 @@ returns-2 c =
     let b = now (c .before .before .before .before .before .before .args .bytes) in
     let l = now (c .before .before .before .before .before .before .args .lengths) in
     let s = sym (c .before .before .before .is-sound .ensures) ∙ c .before .before .if1 .taken in
-    nothing-written m b l 19 (short-refused m (length b) (length l) s (inr (omega arith)))
+    (nothing-written m b l 19 (short-refused m (length b) (length l) s (inr (omega arith))), refusal-sends-none 19)
 
 put-frames-requires : tie.Need-put-frames-requires
 put-frames-requires c κs = search needs
@@ -44,7 +48,10 @@ returns-3 c =
     let l = now (c .before .before .before .before .before .before .before .before .before .before .before .before .before .before .args .lengths) in
     let s = sym (c .before .before .before .before .before .before .before .before .before .before .before .is-sound .ensures) ∙ c .before .before .before .before .before .before .before .before .before .before .if1 .taken in
     let v = room-accepted m (length b) (length l) s (omega arith) (omega arith) in
-    frames-written m b l _ _ _ _ v (c .before .before .before .before .put-frames .ensures)
+    let typed = c .before .before .before .before .before .before .before .before .before .before .before .before .before .before .good .0 in
+    let words : Words (m .setup) = record { sixteen = search (needs, typed); below = λ i h. let f : Fits w16 (getD (m .setup) i 0) = search (needs, typed) in f .fits } in
+    let w = frames-written m b l _ _ _ _ v (c .before .before .before .before .put-frames .ensures) in
+    (w, λ e. buffers-bring m b l _ _ _ w e words)
 
 returns-4 : tie.Need-returns-4
 returns-4 c =
@@ -52,7 +59,7 @@ returns-4 c =
     let b = now (c .before .before .before .before .args .bytes) in
     let l = now (c .before .before .before .before .args .lengths) in
     let s = sym (c .before .is-sound .ensures) ∙ c .if1 .left in
-    nothing-written m b l 0 (unsound-refused m (length b) (length l) s)
+    (nothing-written m b l 0 (unsound-refused m (length b) (length l) s), refusal-sends-none 0)
 
 pub setup-frames-spec : {M : Type 1} → statement M
 setup-frames-spec =

@@ -47,14 +47,14 @@ same-length : tie.Need-same-length
 same-length c = search needs
 
 returns : tie.Need-returns
-returns c = rw (← frames-told (c .before .before .before .before .before .before .before .before .before .before .before .before .before .before .before .before .before .args .m) refl refl (c .before .before .before .before .before .before .before .before .before .before .before .before .before .setup-frames .ensures) (c .before .before .before .before .before .before .before .before .before .framed .given .1) _, ← c .before .before .before .before .before .first-words .ensures) (c .before .before .tell .ensures)
+returns c = rw (← frames-told (c .before .before .before .before .before .before .before .before .before .before .before .before .before .before .before .before .before .args .m) refl refl (c .before .before .before .before .before .before .before .before .before .before .before .before .before .setup-frames .ensures .0) (c .before .before .before .before .before .before .before .before .before .framed .given .1) _, ← c .before .before .before .before .before .first-words .ensures) (c .before .before .tell .ensures)
 
 same-length-2 : tie.Need-same-length-2
 same-length-2 c = search needs
 
 returns-2 : tie.Need-returns-2
 unfolding called
-returns-2 c = rw (← refusal-told (c .before .before .before .before .before .before .before .before .before .before .before .before .before .before .before .before .args .m) refl refl (c .before .before .before .before .before .before .before .before .before .before .before .before .setup-frames .ensures) (c .before .before .before .before .before .before .before .before .framed2 .given .1) _, ← c .before .before .before .before .put-frames-refused .ensures .next, ← c .before .before .before .before .put-frames-refused .ensures .bytes, ← c .count .ensures)
+returns-2 c = rw (← refusal-told (c .before .before .before .before .before .before .before .before .before .before .before .before .before .before .before .before .args .m) refl refl (c .before .before .before .before .before .before .before .before .before .before .before .before .setup-frames .ensures .0) (c .before .before .before .before .before .before .before .before .framed2 .given .1) _, ← c .before .before .before .before .put-frames-refused .ensures .next, ← c .before .before .before .before .put-frames-refused .ensures .bytes, ← c .count .ensures)
 
 pub frames-spec : {M : Type 1} → statement M
 frames-spec =

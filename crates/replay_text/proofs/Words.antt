@@ -17,9 +17,13 @@ use Rattle.device.specs.Model.{isSound}
 use Rattle.device.specs.Question.{peek}
 use Rattle.device.specs.Registers.{registerWord}
 use Rattle.device.proofs.RegisterMeaning.{reads-ups, reads-downs, reads-difference, reads-mean, reads-means, reads-ports}
+use Rattle.device.proofs.Sound.{bounds-of}
+use Rattle.setup_frames.specs.Frames.{frames}
+use Rattle.setup_frames.specs.Sending.{Brings}
+use Rattle.setup_frames.proofs.Brought.{frames-bring}
 use Rattle.register_words.specs.Words.{Words}
 use Rattle.register_words.proofs.Kept.{fresh-words}
-use Rattle.register_words.proofs.Registers.{difference-mean-small, port-mean-small, up-small, down-small, port-small, register-small}
+use Rattle.register_words.proofs.Registers.{difference-mean-small, port-mean-small, up-small, down-small, port-small, setup-small, register-small}
 use Rattle.line.specs.declared.Content.{Content}
 use Rattle.line.specs.Line.{lineReading}
 use Rattle.line_buffer.specs.Lines.{textLines, eachLine}
@@ -140,3 +144,10 @@ module _ (path : List ℕ) (check : Bool) (ls : List (List ℕ)) where
       pair-shown model sound (0xF0 + 2 * i) (portMean (getD (model .temperature .sums) i 0) (model .temperature .schedule .good))
       (omega arith) (omega arith) (reads-means model i h)
       (port-mean-small (getD (model .temperature .sums) i 0) (model .temperature .schedule .good))
+
+  -- The frames that a line `frames` prints here bring a fresh model to this set-up, and no list of write frames does so in fewer bytes.
+  pub frames-brought : Brings (frames (model .setup)) (model .setup)
+  frames-brought =
+      frames-bring (model .setup)
+      (record { sixteen = words-lines path check ls .setup .long; below = λ i h. setup-small model (words-lines path check ls) i })
+      (bounds-of model sound .alarm)

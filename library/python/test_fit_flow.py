@@ -88,7 +88,7 @@ class Said(unittest.TestCase):
     def test_examples_and_captures_are_read(self) -> None:
         for path, differences in (
             ("examples/difference.item", 2), ("examples/event.item", 4), ("examples/first.item", 1), ("examples/hour.item", 5),
-            ("capture/example.item", 1), ("examples/clock.item", 0), ("examples/customer.item", 0), ("examples/differs.item", 1),
+            ("capture/examples/example.item", 1), ("examples/clock.item", 0), ("examples/customer.item", 0), ("examples/differs.item", 1),
         ):  # fmt: skip
             with contextlib.redirect_stderr(io.StringIO()) as errors:
                 captures = fit_flow.replayed(ROOT / path)

@@ -1,11 +1,12 @@
-//! The worked items in examples/, and that of the capture, against their stored answers.
+//! The worked items in examples/, and those of captures, against their stored answers.
 
 use std::fs;
 use std::path::{Path, PathBuf};
 
 fn examples() -> Vec<PathBuf> {
     let root = Path::new(env!("CARGO_MANIFEST_DIR")).join("..");
-    let folders = ["examples", "capture"].map(|name| fs::read_dir(root.join(name)).unwrap());
+    let folders =
+        ["examples", "capture/examples"].map(|name| fs::read_dir(root.join(name)).unwrap());
     let paths = folders
         .into_iter()
         .flatten()
@@ -20,7 +21,7 @@ fn examples() -> Vec<PathBuf> {
 #[test]
 fn examples_answer_as_stored() {
     let paths = examples();
-    assert!(paths.len() >= 8, "{paths:?}");
+    assert!(paths.len() >= 9, "{paths:?}");
     for path in paths {
         let mut answers = Vec::new();
         peer::replay(&fs::read(&path).unwrap(), &mut answers).unwrap();

@@ -49,6 +49,11 @@ pub fn hit_count(s: [u16; 16]) -> u32
     stop_row(word(s, R39) / 8192 % 8)
 }
 
+// What the tables below give for a number that no three bits hold, and so no register: as their last rows.
+const HITS_PAST_TABLE: u32 = 6;
+
+const TIMEOUT_PAST_TABLE: u32 = 16384;
+
 // STOP[2:0] as data sheet 000's Table 11 prints it: the number of hits.
 pub fn stop_row(stop: u32) -> u32
     ensures { λ r. ⌜ r ≡ stopRow stop ⌝ }
@@ -61,7 +66,8 @@ pub fn stop_row(stop: u32) -> u32
         0b100 => 5,
         0b101 => 6,
         0b110 => 6,
-        _ => 6, // 111b
+        0b111 => 6,
+        _ => HITS_PAST_TABLE,
     }
 }
 
@@ -77,7 +83,8 @@ pub fn timeout_row(timeout: u32) -> u32
         0b100 => 2048,
         0b101 => 4096,
         0b110 => 8192,
-        _ => 16384, // 111b
+        0b111 => 16384,
+        _ => TIMEOUT_PAST_TABLE,
     }
 }
 

@@ -28,6 +28,7 @@ use status::joined;
 use status::ldo_bit;
 use status::no_bits;
 use status::without_ldo;
+use unit::Quanta;
 
 fn must_be_idle(op: u32) -> bool
     ensures { λ r. ⌜ r ≡ mustBeIdle op ⌝ }
@@ -156,11 +157,12 @@ fn flight_event(f: Flight, setup: [u16; 16]) -> Flight
     let planned = setup::difference_count(setup);
     let continuous = setup::event_continuous(setup);
     let schedule = start_event(period, planned, continuous);
+    let sum = Quanta(0);
     let mut n = f;
     n.schedule = schedule;
     n.up = true;
     n.down = true;
-    n.sum = 0;
+    n.sum = sum;
     n
 }
 
@@ -171,9 +173,11 @@ fn temperature_event(t: Temperature, setup: [u16; 16]) -> Temperature
     let planned = setup::temperature_count(setup);
     let continuous = setup::event_continuous(setup);
     let schedule = start_event(period, planned, continuous);
+    let zero = Quanta(0);
+    let sums = [zero, zero, zero, zero];
     let mut n = t;
     n.schedule = schedule;
-    n.sums = [0, 0, 0, 0];
+    n.sums = sums;
     n
 }
 

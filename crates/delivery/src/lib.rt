@@ -2,7 +2,7 @@
 ghost use mathlib.Core.Path.{_≡_};
 ghost use mathlib.Core.Bool.{true};
 ghost use Prim.Native.Nat.{_<_, _*_};
-ghost use Rattle.hit.specs.Words.{sixTotal, sixWords};
+ghost use Rattle.hit.specs.Words.{sixTotal};
 ghost use Rattle.device.specs.Model.{isSound, flightSound, temperatureSound};
 ghost use Rattle.device.specs.Parts.{flightFits, flightReply, temperatureReply};
 ghost use Rattle.device.specs.Delivery.{flightMiscounted, flightStatus, temperatureStatus, failedFlightModel, goodFlightModel, sameCount, failedTemperatureModel, goodTemperatureModel};
@@ -17,9 +17,9 @@ use evaluation::limit::any_from;
 use evaluation::limit::late_from;
 use evaluation::limit::open_from;
 use evaluation::limit::short_below;
-use evaluation::limit::sum_of;
 use evaluation::words::four_words;
 use evaluation::words::port_pairs;
+use evaluation::words::six_words;
 use results::failed_flight;
 use results::good_flight;
 use results::good_sums;
@@ -82,19 +82,12 @@ fn failed_flight_model(m: Model) -> Model
     next
 }
 
-fn good_flight_model(
-    m: Model,
-    hits: u32,
-    upward: u64,
-    downward: u64,
-    ups: &[u32],
-    downs: &[u32],
-) -> Model
-    requires { ⌜ (upward ≡ sixTotal (sixWords (now ups))) × (downward ≡ sixTotal (sixWords (now downs))) × (upward < hits * 2147483648) × (downward < hits * 2147483648) × (flightSound (m .flight) ≡ true) ⌝ }
-    ensures { λ r. ⌜ r ≡ goodFlightModel m hits (sixWords (now (ups .entry))) (sixWords (now (downs .entry))) ⌝ }
+fn good_flight_model(m: Model, hits: u32, ups: [u32; 6], downs: [u32; 6]) -> Model
+    requires { ⌜ (sixTotal ups < hits * 2147483648) × (sixTotal downs < hits * 2147483648) × (flightSound (m .flight) ≡ true) ⌝ }
+    ensures { λ r. ⌜ r ≡ goodFlightModel m hits ups downs ⌝ }
 {
     let f = m.flight;
-    let flight = good_flight(f, hits, upward, downward, ups, downs);
+    let flight = good_flight(f, hits, ups, downs);
     let status = flight_status(m, false);
     let mut next = m;
     next.status = status;
@@ -162,16 +155,9 @@ pub fn flight_reply(m: Model, up: &[u32], down: &[u32]) -> Reply
 {
     let setup = m.setup;
     let limit = late_from(setup::timeout(setup));
-    let upward = sum_of(limit, up);
-    if upward.late {
-        let model = failed_flight_model(m);
-        return Reply {
-            answer: Answer::Failed,
-            model,
-        };
-    }
-    let downward = sum_of(limit, down);
-    if downward.late {
+    let ups = six_words(up);
+    let downs = six_words(down);
+    if any_of(any_from(limit, up), any_from(limit, down)) {
         let model = failed_flight_model(m);
         return Reply {
             answer: Answer::Failed,
@@ -179,7 +165,7 @@ pub fn flight_reply(m: Model, up: &[u32], down: &[u32]) -> Reply
         };
     }
     let hits = setup::hit_count(setup);
-    let model = good_flight_model(m, hits, upward.total, downward.total, up, down);
+    let model = good_flight_model(m, hits, ups, downs);
     Reply {
         answer: Answer::Good,
         model,

@@ -12,10 +12,11 @@ use Rattle.unit.proofs.Cases.{by-test, by-ltb}
 use Rattle.unit.proofs.Joined.{neither}
 use Rattle.setup.specs.Setup.{wordOf, hitCount, timeout, portCycle}
 use Rattle.setup.proofs.Laws.{hits-bounds}
+use Rattle.unit.specs.declared.Quanta.{Quanta}
 use Rattle.hit.specs.Limit.{lateFrom, openFrom, anyFrom}
-use Rattle.hit.specs.Words.{sixWords, fourWords, average, plusEach}
-use Rattle.hit.specs.Difference.{differenceMean, portMean}
-use Rattle.hit.specs.Biased.{biased, InRange, biasedTotal}
+use Rattle.hit.specs.Words.{sixWords, fourWords, average, noQuanta, plus, plusEach}
+use Rattle.hit.specs.Difference.{biased, differenceMean, portMean}
+use Rattle.hit.specs.Biased.{InRange, biasedTotal}
 use Rattle.hit.specs.Mean.{All, sum, Averages, differenceBits, meanAverages, floorMeanWords}
 use Rattle.hit.proofs.Limits.{quotient-below}
 use Rattle.hit.proofs.Sum.{six-total}
@@ -53,14 +54,14 @@ use Rattle.device.proofs.NumberTen.{now-means, now-any}
 
 pub record FlightHeld (s : List ℕ) (h : History) (f : Flight) : Type 0 where
   pub going : Going (planOf differences s) h (f .schedule)
-  pub sum : f .sum ≡ biasedTotal (map (averagesOf s) (h .good))
+  pub sum : f .sum ≡ record { 0 = biasedTotal (map (averagesOf s) (h .good)) }
   pub range : All InRange (map (averagesOf s) (h .good))
   pub up : f .up ≡ true
   pub down : f .down ≡ true
   pub complete : All (Complete s) (h .good)
 
-abbrev portSum : ℕ → List Call → ℕ
-portSum i good = sum (map (portWord i) good)
+abbrev portSum : ℕ → List Call → Quanta
+portSum i good = record { 0 = sum (map (portWord i) good) }
 
 abbrev Below : ℕ → Type 0
 Below w = w < 2147483648
@@ -79,7 +80,7 @@ KindHeld temperatures s h m = TemperatureHeld s h (m .temperature)
 -- one more at a list's end
 total-more :
     (good : List Averages) (a : Averages) →
-    biasedTotal (good ++ (a ∷ [])) ≡ biasedTotal good + biased (record { 0 = a .up }) (record { 0 = a .down })
+    biasedTotal (good ++ (a ∷ [])) ≡ biasedTotal good + biased (record { 0 = a .up }) (record { 0 = a .down }) .0
 unfolding biasedTotal
 total-more [] a = omega arith
 total-more (b ∷ good) a = omega (arith, total-more good a)
@@ -89,7 +90,7 @@ unfolding sum
 sum-more [] w = omega arith
 sum-more (v ∷ ws) w = omega (arith, sum-more ws w)
 
-port-more : (i : ℕ) (good : List Call) (c : Call) → portSum i (good ++ (c ∷ [])) ≡ portSum i good + portWord i c
+port-more : (i : ℕ) (good : List Call) (c : Call) → portSum i (good ++ (c ∷ [])) ≡ plus (portSum i good) (portWord i c)
 port-more i good c = rw (map-append, sum-more)
 
 below-at : (ws : List ℕ) (i : ℕ) → All Below ws → Below (getD ws i 0)
@@ -129,8 +130,8 @@ both-counted f hits u d a b e =
     (same-as hits u p, same-as hits d q)
 
 -- What the good deliveries of an event, or of its current group, sum up to.
-record FlightTold (s : List ℕ) (good : List Call) (total : ℕ) : Type 0 where
-  sum : total ≡ biasedTotal (map (averagesOf s) good)
+record FlightTold (s : List ℕ) (good : List Call) (total : Quanta) : Type 0 where
+  sum : total ≡ record { 0 = biasedTotal (map (averagesOf s) good) }
   range : All InRange (map (averagesOf s) good)
   complete : All (Complete s) good
 
@@ -198,8 +199,7 @@ module _ (m : Model) (h : History) (i : FlightHeld (m .setup) h (m .flight)) whe
       record {
         going = going-good _ h k (i .going) (m .setup) (flight u d) w (rw l);
         sum =
-            rw (lt-ltb (k .settled) (k .planned) (unsettled _ h k (i .going) w), tu, td, map-append, total-more)
-            (omega arith);
+            rw (lt-ltb (k .settled) (k .planned) (unsettled _ h k (i .going) w), tu, td, i .sum, map-append, total-more);
         range =
             rw map-append
             (all-append InRange (map (averagesOf (m .setup)) (h .good)) (averagesOf (m .setup) (flight u d)) (i .range)
@@ -212,7 +212,7 @@ module _ (m : Model) (h : History) (i : FlightHeld (m .setup) h (m .flight)) whe
             all-append (Complete (m .setup)) (h .good) (flight u d) (i .complete) (cu, cd, in-time (m .setup) u lu, in-time (m .setup) d ld);
       }
 
-record PortsTold (s : List ℕ) (good : List Call) (totals : List ℕ) : Type 0 where
+record PortsTold (s : List ℕ) (good : List Call) (totals : List Quanta) : Type 0 where
   sums : totals ≡ portSum 0 good ∷ portSum 1 good ∷ portSum 2 good ∷ portSum 3 good ∷ []
   below : (i : ℕ) → All Below (map (portWord i) good)
   complete : All (Complete s) good
@@ -380,8 +380,8 @@ difference-average s h f i =
 port-average :
     (s : List ℕ) (h : History) (t : Temperature) (i : ℕ) →
     TemperatureHeld s h t →
-    getD (t .sums) i 0 ≡ portSum i (h .good) →
-    portMean (getD (t .sums) i 0) (t .schedule .good) ≡ floorMeanWords (map (portWord i) (h .good))
+    getD (t .sums) i noQuanta ≡ portSum i (h .good) →
+    portMean (getD (t .sums) i noQuanta) (t .schedule .good) ≡ floorMeanWords (map (portWord i) (h .good))
 port-average s h t i j e =
     rw (e, j .going .counted .good, ← (length-map (h .good) (portWord i)))
     (port-mean-words (map (portWord i) (h .good)) (j .below i))
@@ -403,10 +403,10 @@ held-claim differences s h m v i =
       averages = record { high = ap (λ w. w / 65536) a; low = ap (λ w. w % 65536) a };
     }
 held-claim temperatures s h m v i =
-    let a = port-average s h (m .temperature) 0 i (ap (λ l. getD l 0 0) (i .sums)) in
-    let b = port-average s h (m .temperature) 1 i (ap (λ l. getD l 1 0) (i .sums)) in
-    let c = port-average s h (m .temperature) 2 i (ap (λ l. getD l 2 0) (i .sums)) in
-    let d = port-average s h (m .temperature) 3 i (ap (λ l. getD l 3 0) (i .sums)) in
+    let a = port-average s h (m .temperature) 0 i (ap (λ l. getD l 0 noQuanta) (i .sums)) in
+    let b = port-average s h (m .temperature) 1 i (ap (λ l. getD l 1 noQuanta) (i .sums)) in
+    let c = port-average s h (m .temperature) 2 i (ap (λ l. getD l 2 noQuanta) (i .sums)) in
+    let d = port-average s h (m .temperature) 3 i (ap (λ l. getD l 3 noQuanta) (i .sums)) in
     record {
       starts = all-reached _ h (m .temperature .schedule) (i .going);
       group = in-group _ h (m .temperature .schedule) (i .going);

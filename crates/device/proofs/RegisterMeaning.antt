@@ -13,6 +13,7 @@ use Rattle.calendar.specs.Calendar.{start}
 use Rattle.calendar.specs.Words.{bcd, hourDigits, hundredthsOf, word30, word31, word32, word33}
 use Rattle.setup.specs.Setup.{factory, wordOf}
 use Rattle.frame.specs.Frame.{wordAt}
+use Rattle.hit.specs.Words.{noQuanta}
 use Rattle.hit.specs.Difference.{differenceMean, portMean}
 use Rattle.device.specs.declared.Model.{Model}
 use Rattle.device.specs.Event.{noSchedule}
@@ -156,7 +157,7 @@ module _ (m : Model) where
       0xF0 ≤ a →
       a < 0xF8 →
       registerWord m a
-      ≡ half (portMean (getD (m .temperature .sums) ((a - 0xF0) / 2) 0) (m .temperature .schedule .good)) (a - 0xF0)
+      ≡ half (portMean (getD (m .temperature .sums) ((a - 0xF0) / 2) noQuanta) (m .temperature .schedule .good)) (a - 0xF0)
   unfolding registerWord temperatureWord
   mean-word a h i =
       rw (
@@ -194,9 +195,9 @@ module _ (m : Model) where
   pub reads-means :
       (i : ℕ) →
       i < 4 →
-      Holds m (0xF0 + 2 * i) (portMean (getD (m .temperature .sums) i 0) (m .temperature .schedule .good))
+      Holds m (0xF0 + 2 * i) (portMean (getD (m .temperature .sums) i noQuanta) (m .temperature .schedule .good))
   reads-means i h =
-      pair m (λ (j : ℕ). portMean (getD (m .temperature .sums) j 0) (m .temperature .schedule .good)) 0xF0 i
+      pair m (λ (j : ℕ). portMean (getD (m .temperature .sums) j noQuanta) (m .temperature .schedule .good)) 0xF0 i
       (mean-word (0xF0 + 2 * i) (omega arith) (omega arith))
       (mean-word (0xF0 + 2 * i + 1) (omega arith) (omega arith))
 

@@ -20,9 +20,10 @@ use Rattle.setup.specs.Setup.{hitCount, timeout, portCycle, clockStands, eventC
 use Rattle.setup.proofs.Laws.{hits-bounds, cycle-below, difference-period-bounds, difference-count-bounds}
 use Rattle.setup.proofs.Laws.{temperature-period-bounds, temperature-count-bounds}
 use Rattle.frame.specs.Frame.{isCommand, isWrite, isFlash}
+use Rattle.unit.specs.declared.Quanta.{Quanta}
 use Rattle.hit.specs.Limit.{lateFrom, openFrom, anyFrom}
-use Rattle.hit.specs.Words.{sixWords, fourWords, average, sixTotal, plusEach}
-use Rattle.hit.specs.Biased.{biased}
+use Rattle.hit.specs.Words.{sixWords, fourWords, average, sixTotal, noQuanta, plusEach}
+use Rattle.hit.specs.Difference.{biased}
 use Rattle.hit.proofs.Limits.{quotient-below}
 use Rattle.hit.proofs.Sum.{hits-fit}
 use Rattle.hit.proofs.Ports.{Good, good-ports}
@@ -32,7 +33,7 @@ use Rattle.device.specs.Status.{noBits, porBit}
 use Rattle.device.specs.declared.Flight.{Flight}
 use Rattle.device.specs.declared.Temperature.{Temperature}
 use Rattle.device.specs.declared.Model.{Model}
-use Rattle.device.specs.Model.{isSound, isBusy, kindBusy, flightSound, temperatureSound, sumFits, freshWith, freshModel, resetModel, noFlight, noTemperature}
+use Rattle.device.specs.Model.{isSound, isBusy, kindBusy, flightSound, temperatureSound, sumFits, differenceMost, portMost, freshWith, freshModel, resetModel, noFlight, noTemperature}
 use Rattle.device.specs.Write.{ofCalendar, setupAfter, clockAfter, writeInvalid, writeModel}
 use Rattle.device.specs.Tick.{sumAfter, sumsAfter, flightTicked, flightAfter, temperatureAfter, clockTicked, tickModel}
 use Rattle.device.specs.Results.{failedFlight}
@@ -76,13 +77,13 @@ pub record ScheduleBounds (k : Schedule) : Type 0 where
 
 pub record FlightBounds (f : Flight) : Type 0 where
   pub schedule : ScheduleBounds (f .schedule)
-  pub sum : f .sum ≤ f .schedule .good * 4294967296
+  pub sum : f .sum .0 ≤ f .schedule .good * 4294967296
 
-pub record PortBounds (sums : List ℕ) (good : ℕ) : Type 0 where
-  pub first : getD sums 0 0 ≤ good * 2147483648
-  pub second : getD sums 1 0 ≤ good * 2147483648
-  pub third : getD sums 2 0 ≤ good * 2147483648
-  pub fourth : getD sums 3 0 ≤ good * 2147483648
+pub record PortBounds (sums : List Quanta) (good : ℕ) : Type 0 where
+  pub first : getD sums 0 noQuanta .0 ≤ good * 2147483648
+  pub second : getD sums 1 noQuanta .0 ≤ good * 2147483648
+  pub third : getD sums 2 noQuanta .0 ≤ good * 2147483648
+  pub fourth : getD sums 3 noQuanta .0 ≤ good * 2147483648
 
 pub record TemperatureBounds (t : Temperature) : Type 0 where
   pub schedule : ScheduleBounds (t .schedule)
@@ -206,19 +207,19 @@ schedule-sound k b =
     rest k b =
         by-test (inEvent k) (λ t. rw (t, balanced-test (k .left .0) (k .started) (k .settled) (b .balance t))) (λ t. rw t)
 
-sum-of : (s g most : ℕ) → sumFits s g most ≡ true → s ≤ g * most
+sum-of : (s : Quanta) (g : ℕ) (most : Quanta) → sumFits s g most ≡ true → s .0 ≤ g * most .0
 unfolding sumFits
-sum-of s g most e = leb-true s (g * most) e
+sum-of s g most e = leb-true (s .0) (g * most .0) e
 
-sum-fits : (s g most : ℕ) → s ≤ g * most → sumFits s g most ≡ true
+sum-fits : (s : Quanta) (g : ℕ) (most : Quanta) → s .0 ≤ g * most .0 → sumFits s g most ≡ true
 unfolding sumFits
-sum-fits s g most h = le-leb s (g * most) h
+sum-fits s g most h = le-leb (s .0) (g * most .0) h
 
 pub flight-of : (f : Flight) → flightSound f ≡ true → FlightBounds f
 unfolding flightSound
 flight-of f e =
     let (k, s) = both-true (scheduleSound (f .schedule)) _ e in
-    record { schedule = schedule-of (f .schedule) k; sum = sum-of (f .sum) (f .schedule .good) (2 ^ 32) s }
+    record { schedule = schedule-of (f .schedule) k; sum = sum-of (f .sum) (f .schedule .good) differenceMost s }
 
 flight-sound : (f : Flight) → FlightBounds f → flightSound f ≡ true
 unfolding flightSound
@@ -229,17 +230,17 @@ unfolding temperatureSound
 temperature-of t e =
     let g : ℕ = t .schedule .good in
     let (k, e0) = both-true (scheduleSound (t .schedule)) _ e in
-    let (a, e1) = both-true (sumFits (getD (t .sums) 0 0) g (2 ^ 31)) _ e0 in
-    let (b, e2) = both-true (sumFits (getD (t .sums) 1 0) g (2 ^ 31)) _ e1 in
-    let (c, d) = both-true (sumFits (getD (t .sums) 2 0) g (2 ^ 31)) _ e2 in
+    let (a, e1) = both-true (sumFits (getD (t .sums) 0 noQuanta) g portMost) _ e0 in
+    let (b, e2) = both-true (sumFits (getD (t .sums) 1 noQuanta) g portMost) _ e1 in
+    let (c, d) = both-true (sumFits (getD (t .sums) 2 noQuanta) g portMost) _ e2 in
     record {
       schedule = schedule-of (t .schedule) k;
       sums =
           record {
-            first = sum-of (getD (t .sums) 0 0) g (2 ^ 31) a;
-            second = sum-of (getD (t .sums) 1 0) g (2 ^ 31) b;
-            third = sum-of (getD (t .sums) 2 0) g (2 ^ 31) c;
-            fourth = sum-of (getD (t .sums) 3 0) g (2 ^ 31) d;
+            first = sum-of (getD (t .sums) 0 noQuanta) g portMost a;
+            second = sum-of (getD (t .sums) 1 noQuanta) g portMost b;
+            third = sum-of (getD (t .sums) 2 noQuanta) g portMost c;
+            fourth = sum-of (getD (t .sums) 3 noQuanta) g portMost d;
           };
     }
 
@@ -584,12 +585,12 @@ flight-after-bounds : (f : Flight) → FlightBounds f → FlightBounds (flightAf
 unfolding flightAfter flightTicked failedFlight
 flight-after-bounds f b =
     let k = tick-bounds (f .schedule) (b .schedule) in
-    let s : sumAfter f ≤ tickSchedule (f .schedule) .good * 4294967296 = sum-after in
+    let s : sumAfter f .0 ≤ tickSchedule (f .schedule) .good * 4294967296 = sum-after in
     chosen FlightBounds (fails (f .schedule))
     (record { schedule = k; sum = s })
     (record { schedule = k; sum = s })
   where
-    sum-after : sumAfter f ≤ tickSchedule (f .schedule) .good * 4294967296
+    sum-after : sumAfter f .0 ≤ tickSchedule (f .schedule) .good * 4294967296
     sum-after =
         unfold sumAfter tickSchedule goodAfter in
         by-test (beginsGroup (f .schedule)) (λ e. rw e (omega arith)) (λ e. rw e (b .sum))
@@ -614,7 +615,7 @@ flight-lost-bounds f a b =
     record { schedule = settle-bounds (f .schedule) false a (b .schedule); sum = rw (settle-good (f .schedule)) (b .sum) }
 
 -- An average below 2^31 keeps the biased difference below 2^32.
-biased-below : (u d : List ℕ) (h : ℕ) → sixTotal u < h * 2147483648 → biased (average u h) (average d h) ≤ 4294967296
+biased-below : (u d : List ℕ) (h : ℕ) → sixTotal u < h * 2147483648 → biased (average u h) (average d h) .0 ≤ 4294967296
 unfolding biased average
 biased-below u d h l = omega (arith, quotient-below (sixTotal u) h 2147483648 l)
 
@@ -951,8 +952,6 @@ fits-ready m u d s c = rw (s, c)
 pub good-hits :
     (m : Model) (u d : List ℕ) →
     flightFits m u d ≡ true →
-    anyFrom (lateFrom (timeout (m .setup))) u ≡ false →
-    anyFrom (lateFrom (timeout (m .setup))) d ≡ false →
+    anyLate m u d ≡ false →
     (sixTotal (sixWords u) < hitCount (m .setup) * 2147483648) × (sixTotal (sixWords d) < hitCount (m .setup) * 2147483648)
-unfolding anyLate
-good-hits m u d e lu ld = hits-below m u d (ready-of m u d e .counted) (rw (lu, ld))
+good-hits m u d e late = hits-below m u d (ready-of m u d e .counted) late

@@ -1,10 +1,11 @@
 -- Accepted commands and reads, and what may stand in a command's way.
 use Prim.Native.Nat.{ℕ, _+_}
 use mathlib.Core.Bool.{Bool, true, false}
-use mathlib.Core.List.{List, [], _∷_}
+use mathlib.Core.List.{List}
 use lib.Dec.{ltb, leb, eqb}
 use Rattle.unit.specs.Choice.{pick, either, both, negate}
 use Rattle.setup.specs.Setup.{flightUnset, temperatureUnset, clockStands, eventContinuous, differencePeriod, differenceCount, temperaturePeriod, temperatureCount}
+use Rattle.hit.specs.Words.{noQuanta, noSums}
 use Rattle.device.specs.declared.Flight.{Flight}
 use Rattle.device.specs.declared.Temperature.{Temperature}
 use Rattle.device.specs.declared.Model.{Model}
@@ -70,7 +71,7 @@ flightEvent f setup =
       schedule = startEvent (differencePeriod setup) (differenceCount setup) (eventContinuous setup);
       up = true;
       down = true;
-      sum = 0;
+      sum = noQuanta;
       ups = f .ups;
       downs = f .downs;
       difference = f .difference;
@@ -80,7 +81,7 @@ unfoldable pub temperatureEvent : Temperature → List ℕ → Temperature
 temperatureEvent t setup =
     record {
       schedule = startEvent (temperaturePeriod setup) (temperatureCount setup) (eventContinuous setup);
-      sums = 0 ∷ 0 ∷ 0 ∷ 0 ∷ [];
+      sums = noSums;
       ports = t .ports;
     }
 

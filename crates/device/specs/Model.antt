@@ -5,10 +5,12 @@ use mathlib.Core.List.{List, [], _∷_}
 use lib.ListN.{getD}
 use lib.Dec.{leb}
 use Rattle.unit.specs.Choice.{either, both}
+use Rattle.unit.specs.declared.Quanta.{Quanta}
 use Rattle.calendar.specs.declared.Clock.{Clock}
 use Rattle.calendar.specs.Calendar.{clockValid, start}
 use Rattle.calendar.specs.Words.{alarmValid}
 use Rattle.setup.specs.Setup.{factory, alarmWord}
+use Rattle.hit.specs.Words.{noQuanta, noSums}
 use Rattle.device.specs.declared.Schedule.{Schedule}
 use Rattle.device.specs.declared.Status.{Status}
 use Rattle.device.specs.declared.Flight.{Flight}
@@ -80,7 +82,7 @@ noFlight =
       schedule = noSchedule;
       up = false;
       down = false;
-      sum = 0;
+      sum = noQuanta;
       ups = 0 ∷ 0 ∷ 0 ∷ 0 ∷ 0 ∷ 0 ∷ 0 ∷ [];
       downs = 0 ∷ 0 ∷ 0 ∷ 0 ∷ 0 ∷ 0 ∷ 0 ∷ [];
       difference = 0;
@@ -88,7 +90,7 @@ noFlight =
 
 unfoldable pub noTemperature : Temperature
 noTemperature =
-    record { schedule = noSchedule; sums = 0 ∷ 0 ∷ 0 ∷ 0 ∷ []; ports = 0 ∷ 0 ∷ 0 ∷ 0 ∷ [] }
+    record { schedule = noSchedule; sums = noSums; ports = 0 ∷ 0 ∷ 0 ∷ 0 ∷ [] }
 
 -- "Fresh: not initialised; configuration at the factory values ..; results 0; alarm 0; clock 2000-01-01 00:00:00.00,
 -- weekday 1"; "A fresh model and Reset have the regulator off." (Note 8)
@@ -105,20 +107,27 @@ resetModel = freshWith noBits
 
 -- Sound: the clock and the alarm are valid, the schedule of each kind is one that the calls make, and each sum is at most the count
 -- times the largest value. The calls need it so that no field leaves its range.
-unfoldable pub sumFits : ℕ → ℕ → ℕ → Bool
-sumFits sum good most = leb sum (good * most)
+unfoldable pub sumFits : Quanta → ℕ → Quanta → Bool
+sumFits sum good most = leb (sum .0) (good * most .0)
+
+-- what a difference with 2^31 added, and a good word of a port, are below
+abbrev pub differenceMost : Quanta
+differenceMost = record { 0 = 2 ^ 32 }
+
+abbrev pub portMost : Quanta
+portMost = record { 0 = 2 ^ 31 }
 
 unfoldable pub flightSound : Flight → Bool
 flightSound f =
-    both (scheduleSound (f .schedule)) (sumFits (f .sum) (f .schedule .good) (2 ^ 32))
+    both (scheduleSound (f .schedule)) (sumFits (f .sum) (f .schedule .good) differenceMost)
 
 unfoldable pub temperatureSound : Temperature → Bool
 temperatureSound t =
     both (scheduleSound (t .schedule))
-    (both (sumFits (getD (t .sums) 0 0) (t .schedule .good) (2 ^ 31))
-    (both (sumFits (getD (t .sums) 1 0) (t .schedule .good) (2 ^ 31))
-    (both (sumFits (getD (t .sums) 2 0) (t .schedule .good) (2 ^ 31))
-    (sumFits (getD (t .sums) 3 0) (t .schedule .good) (2 ^ 31)))))
+    (both (sumFits (getD (t .sums) 0 noQuanta) (t .schedule .good) portMost)
+    (both (sumFits (getD (t .sums) 1 noQuanta) (t .schedule .good) portMost)
+    (both (sumFits (getD (t .sums) 2 noQuanta) (t .schedule .good) portMost)
+    (sumFits (getD (t .sums) 3 noQuanta) (t .schedule .good) portMost))))
 
 unfoldable pub isSound : Model → Bool
 isSound m =

@@ -5,6 +5,7 @@ use lib.ListN.{getD, set}
 use lib.Dec.{ltb, eqb}
 use Rattle.unit.specs.Choice.{pick}
 use Rattle.calendar.specs.Words.{word30, word31, word32, word33}
+use Rattle.hit.specs.Words.{noQuanta}
 use Rattle.hit.specs.Difference.{differenceMean, portMean}
 use Rattle.device.specs.declared.Flight.{Flight}
 use Rattle.device.specs.declared.Temperature.{Temperature}
@@ -38,7 +39,7 @@ unfoldable pub temperatureWord : Temperature → ℕ → ℕ
 temperatureWord t a =
     pick (ltb a 0xEF) (half (getD (t .ports) ((a - 0xE7) / 2) 0) (a - 0xE7))
     (pick (eqb a 0xEF) (t .schedule .good)
-    (half (portMean (getD (t .sums) ((a - 0xF0) / 2) 0) (t .schedule .good)) (a - 0xF0)))
+    (half (portMean (getD (t .sums) ((a - 0xF0) / 2) noQuanta) (t .schedule .good)) (a - 0xF0)))
 
 -- "Register w is read at w + 80h"; "F8h to FDh and the Control register FFh read 0"; "FEh is the interrupt status"
 unfoldable pub registerWord : Model → ℕ → ℕ

@@ -1,12 +1,11 @@
 -- What a good and a failed measurement leave in the results of its kind.
-use Prim.Native.Nat.{ℕ, _+_}
+use Prim.Native.Nat.{ℕ}
 use mathlib.Core.Bool.{true}
 use mathlib.Core.List.{List}
 use Rattle.unit.specs.Choice.{pick}
 use Rattle.unit.specs.declared.Quanta.{Quanta}
-use Rattle.hit.specs.Words.{average, filled, failedPairs, plusEach}
-use Rattle.hit.specs.Difference.{differenceWord}
-use Rattle.hit.specs.Biased.{biased}
+use Rattle.hit.specs.Words.{average, filled, failedPairs, plus, plusEach}
+use Rattle.hit.specs.Difference.{differenceWord, biased}
 use Rattle.device.specs.declared.Schedule.{Schedule}
 use Rattle.device.specs.declared.Flight.{Flight}
 use Rattle.device.specs.declared.Temperature.{Temperature}
@@ -17,9 +16,10 @@ unfoldable pub goodDifference : Flight → Quanta → Quanta → ℕ
 goodDifference f up down =
     pick (f .up) (pick (f .down) (differenceWord up down) (f .difference)) (f .difference)
 
--- "the averages become the sums of the good differences .. ÷ count"; of an event alone
-unfoldable pub goodSum : Flight → Quanta → Quanta → ℕ
-goodSum f up down = pick (toSettle (f .schedule)) (f .sum + biased up down) (f .sum)
+-- "the averages become the sums of the good differences .. ÷ count"; of an event alone. The sum has 2^31 added to each difference,
+-- which `differenceMean` takes off again.
+unfoldable pub goodSum : Flight → Quanta → Quanta → Quanta
+goodSum f up down = pick (toSettle (f .schedule)) (plus (f .sum) (biased up down .0)) (f .sum)
 
 -- "No word late: HIT pairs 1 to H hold the words, later HIT pairs 0, AVG the sum ÷ H rounded down"
 unfoldable pub goodFlight : Flight → ℕ → List ℕ → List ℕ → Flight
@@ -34,7 +34,7 @@ goodFlight f hits ups downs =
       difference = goodDifference f (average ups hits) (average downs hits);
     }
 
-unfoldable pub goodSums : Temperature → List ℕ → List ℕ
+unfoldable pub goodSums : Temperature → List ℕ → List Quanta
 goodSums t w = pick (toSettle (t .schedule)) (plusEach (t .sums) w) (t .sums)
 
 -- "the measurement fails, every HIT and AVG of the measured directions and, for a difference, TOF_DIFF become FFFFh"

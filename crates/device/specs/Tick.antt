@@ -1,13 +1,13 @@
 -- One tick.
-use Prim.Native.Nat.{ℕ}
 use mathlib.Core.Bool.{Bool}
-use mathlib.Core.List.{List, [], _∷_}
+use mathlib.Core.List.{List}
 use Rattle.unit.specs.Choice.{pick}
+use Rattle.unit.specs.declared.Quanta.{Quanta}
 use Rattle.calendar.specs.declared.Clock.{Clock}
 use Rattle.calendar.specs.Calendar.{tickClock}
 use Rattle.calendar.specs.Alarm.{alarmRings}
 use Rattle.setup.specs.Setup.{clockStands, alarmWord, alarmMode, eachInterrupt}
-use Rattle.hit.specs.Words.{failedPorts}
+use Rattle.hit.specs.Words.{failedPorts, noQuanta, noSums}
 use Rattle.device.specs.declared.Schedule.{Schedule}
 use Rattle.device.specs.declared.Status.{Status}
 use Rattle.device.specs.declared.Flight.{Flight}
@@ -20,11 +20,11 @@ use Rattle.device.specs.Results.{failedFlight}
 use Rattle.device.specs.Status.{joined, flightBits, temperatureBits, alarmBit}
 
 -- "at the first start of a group that kind's sums, count and averages go to 0" (Note 5)
-unfoldable pub sumAfter : Flight → ℕ
-sumAfter f = pick (beginsGroup (f .schedule)) 0 (f .sum)
+unfoldable pub sumAfter : Flight → Quanta
+sumAfter f = pick (beginsGroup (f .schedule)) noQuanta (f .sum)
 
-unfoldable pub sumsAfter : Temperature → List ℕ
-sumsAfter t = pick (beginsGroup (t .schedule)) (0 ∷ 0 ∷ 0 ∷ 0 ∷ []) (t .sums)
+unfoldable pub sumsAfter : Temperature → List Quanta
+sumsAfter t = pick (beginsGroup (t .schedule)) noSums (t .sums)
 
 unfoldable pub flightTicked : Flight → Flight
 flightTicked f =

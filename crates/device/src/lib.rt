@@ -1,6 +1,7 @@
 // The MAX35101 model as one value that each call takes and gives back: its clock, registers, measurements and events.
 // What each call does with it is defined in specs/, and the laws of those definitions are in proofs/.
 use calendar::Clock;
+use unit::Quanta;
 use unit::Ticks;
 
 // The measurements of one kind: the one awaited, and the event.
@@ -26,8 +27,8 @@ pub struct Flight {
     // The directions that the awaited or last measurement measures.
     pub up: bool,
     pub down: bool,
-    // Biased differences of the good measurements of the event, or of the current group.
-    pub sum: u64,
+    // The differences of the good measurements of the event, or of the current group, summed with 2^31 added to each.
+    pub sum: Quanta,
     // HIT 1 to 6, then AVG, as words of 32 bits.
     pub ups: [u32; 7],
     pub downs: [u32; 7],
@@ -37,7 +38,7 @@ pub struct Flight {
 pub struct Temperature {
     pub schedule: Schedule,
     // Words of the good measurements of the event, or of the current group, port by port.
-    pub sums: [u64; 4],
+    pub sums: [Quanta; 4],
     pub ports: [u32; 4],
 }
 

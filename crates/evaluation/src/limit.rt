@@ -1,9 +1,5 @@
 // The words that are late, open or short.
-ghost use mathlib.Core.Bool.{false};
 ghost use mathlib.Core.Path.{_≡_};
-ghost use Prim.Native.Nat.{_≤_};
-ghost use lib.ListN.{length};
-ghost use Rattle.hit.specs.Words.{sixTotal, sixWords};
 ghost use Rattle.hit.specs.Limit.{lateFrom, openFrom, shortBelow, anyFrom, anyBelow};
 use unit::Quanta;
 use unit::wide;
@@ -40,33 +36,6 @@ pub fn short_below() -> Quanta
     ensures { λ r. ⌜ r ≡ shortBelow ⌝ }
 {
     Quanta(SHORT)
-}
-
-// The sum of a direction's words; whether one of them is late, and then no sum.
-pub struct Sum {
-    pub late: bool,
-    pub total: u64,
-}
-
-// The words are looked at once for both.
-pub fn sum_of(limit: Quanta, words: &[u32]) -> Sum
-    requires { ⌜ length (now words) ≤ 6 ⌝ }
-    ensures { λ r. ⌜ (r .late ≡ anyFrom limit (now (words .entry))) × (r .late ≡ false → r .total ≡ sixTotal (sixWords (now (words .entry)))) ⌝ }
-{
-    let mut total: u64 = 0;
-    let mut i = 0;
-    while i < words.len() {
-        let w = wide(words[i]);
-        if limit.0 <= w {
-            return Sum {
-                late: true,
-                total: 0,
-            };
-        }
-        total += w;
-        i += 1;
-    }
-    Sum { late: false, total }
 }
 
 // Whether a word is at least the limit.

@@ -1,9 +1,9 @@
 // Delivered lists as arrays: the six hits of a direction, the four ports.
 ghost use mathlib.Core.Path.{_≡_};
-ghost use Prim.Native.Nat.{_<_, _≤_, _*_, _/_, _+_};
+ghost use Prim.Native.Nat.{_<_, _≤_, _*_};
 ghost use lib.ListN.{getD};
 ghost use Rattle.unit.specs.Choice.{pick};
-ghost use Rattle.hit.specs.Words.{wordOrZero, sixWords, fourWords, filled, failedPairs, failedPorts, plusEach, portPair, portPairs};
+ghost use Rattle.hit.specs.Words.{wordOrZero, sixWords, fourWords, sixTotal, average, filled, failedPairs, failedPorts, noQuanta, plus, plusEach, portPair, portPairs};
 use crate::limit::short_below;
 use unit::Quanta;
 use unit::wide;
@@ -41,12 +41,26 @@ pub fn four_words(words: &[u32]) -> [u32; 4]
     [a, b, c, d]
 }
 
-// The average of n hits by their sum, rounded down. It is below 2^31, as every word that is a hit.
-pub fn average(total: u64, n: u32) -> Quanta
-    requires { ⌜ total < n * 2147483648 ⌝ }
-    ensures { λ r. ⌜ (r ≡ record { 0 = total / n }) × (r .0 < 2147483648) ⌝ }
+// The sum of the hits of a direction.
+fn six_total(hits: [u32; 6]) -> Quanta
+    ensures { λ r. ⌜ r .0 ≡ sixTotal hits ⌝ }
 {
-    Quanta(total / (n as u64))
+    let a = wide(hits[0]);
+    let b = wide(hits[1]);
+    let c = wide(hits[2]);
+    let d = wide(hits[3]);
+    let e = wide(hits[4]);
+    let f = wide(hits[5]);
+    Quanta(a + b + c + d + e + f)
+}
+
+// The average of n hits, rounded down. It is below 2^31, as every word that is a hit.
+pub fn average(hits: [u32; 6], n: u32) -> Quanta
+    requires { ⌜ sixTotal hits < n * 2147483648 ⌝ }
+    ensures { λ r. ⌜ (r ≡ average hits n) × (r .0 < 2147483648) ⌝ }
+{
+    let total = six_total(hits);
+    Quanta(total.0 / (n as u64))
 }
 
 pub fn choose_pairs(test: bool, yes: [u32; 7], no: [u32; 7]) -> [u32; 7]
@@ -101,16 +115,16 @@ pub fn failed_ports() -> [u32; 4]
     [FAILED, FAILED, FAILED, FAILED]
 }
 
-fn plus(sum: u64, word: u32) -> u64
-    requires { ⌜ sum ≤ 1099511627776 ⌝ }
-    ensures { λ r. ⌜ r ≡ sum + word ⌝ }
+fn plus(sum: Quanta, word: u32) -> Quanta
+    requires { ⌜ sum .0 ≤ 1099511627776 ⌝ }
+    ensures { λ r. ⌜ r ≡ plus sum word ⌝ }
 {
-    sum + word as u64
+    Quanta(sum.0 + word as u64)
 }
 
 // The sums of the ports, each with its word more.
-pub fn plus_each(sums: [u64; 4], w: [u32; 4]) -> [u64; 4]
-    requires { ⌜ (getD sums 0 0 ≤ 1099511627776) × (getD sums 1 0 ≤ 1099511627776) × (getD sums 2 0 ≤ 1099511627776) × (getD sums 3 0 ≤ 1099511627776) ⌝ }
+pub fn plus_each(sums: [Quanta; 4], w: [u32; 4]) -> [Quanta; 4]
+    requires { ⌜ (getD sums 0 noQuanta .0 ≤ 1099511627776) × (getD sums 1 noQuanta .0 ≤ 1099511627776) × (getD sums 2 noQuanta .0 ≤ 1099511627776) × (getD sums 3 noQuanta .0 ≤ 1099511627776) ⌝ }
     ensures { λ r. ⌜ r ≡ plusEach sums w ⌝ }
 {
     let a = plus(sums[0], w[0]);

@@ -14,8 +14,8 @@ use Rattle.unit.specs.Choice.{pick}
 use Rattle.unit.proofs.Cases.{by-ltb, by-eqb}
 use Rattle.unit.specs.declared.Quanta.{Quanta}
 use Rattle.hit.specs.Mean.{All, sum, Averages, difference, total, floorMean, differenceBits, floorMeanWords, meanAverages}
-use Rattle.hit.specs.Difference.{differenceWord, differenceMean, portMean}
-use Rattle.hit.specs.Biased.{biased, InRange, biasedTotal}
+use Rattle.hit.specs.Difference.{differenceWord, biased, differenceMean, portMean}
+use Rattle.hit.specs.Biased.{InRange, biasedTotal}
 use Rattle.hit.proofs.Sum.{sum-short}
 use Rattle.hit.proofs.Integer.{sub-sum, sub-same, shr-sub}
 
@@ -55,11 +55,11 @@ word-of q = by-ltb q 2147483648 (λ l t. rw t (omega arith)) (λ l t. rw t (omeg
 
 -- The mean as the code has it: the floor of a sum without a sign is its quotient.
 pub mean-unsigned :
-    (s n : ℕ) →
-    differenceMean s n ≡ pick (eqb n 0) 0 ((s / n % 4294967296 + 2147483648) % 4294967296)
+    (s : Quanta) (n : ℕ) →
+    differenceMean s n ≡ pick (eqb n 0) 0 ((s .0 / n % 4294967296 + 2147483648) % 4294967296)
 unfolding differenceMean
 mean-unsigned s n =
-    by-eqb n 0 (λ e t. rw t) (λ e t. rw (t, shr-sub s n 2147483648 (omega arith)) (word-of (s / n)))
+    by-eqb n 0 (λ e t. rw t) (λ e t. rw (t, shr-sub (s .0) n 2147483648 (omega arith)) (word-of (s .0 / n)))
 
 rebased : (q : ℕ) → q ≤ 4294967295 → (q % 4294967296 + 2147483648) % 4294967296 ≡ differenceBits (subℕ q 2147483648)
 unfolding differenceBits
@@ -83,11 +83,11 @@ quotient-most a good h = div-le-of-le-mul (suc (length good)) (biased-most (a �
 pub mean-word :
     (good : List Averages) →
     All InRange good →
-    differenceMean (biasedTotal good) (length good) ≡ differenceBits (meanAverages good)
+    differenceMean (record { 0 = biasedTotal good }) (length good) ≡ differenceBits (meanAverages good)
 unfolding differenceMean meanAverages floorMean differenceBits
 mean-word [] h = refl
 mean-word (a ∷ good) h =
-    rw (mean-unsigned (biasedTotal (a ∷ good)) (suc (length good)), eqb·suc-zero (length good), mean-quotient a good h)
+    rw (mean-unsigned (record { 0 = biasedTotal (a ∷ good) }) (suc (length good)), eqb·suc-zero (length good), mean-quotient a good h)
     (rebased (biasedTotal (a ∷ good) / suc (length good)) (quotient-most a good h))
 
 -- the mean is in the range of a word, which gives it back
@@ -107,13 +107,13 @@ mean-fits (a ∷ good) h =
 pub mean-reads :
     (good : List Averages) →
     All InRange good →
-    toZ w32 (differenceMean (biasedTotal good) (length good)) ≡ meanAverages good
+    toZ w32 (differenceMean (record { 0 = biasedTotal good }) (length good)) ≡ meanAverages good
 unfolding differenceBits
 mean-reads good h = rw (mean-word good h) (toZ-ofZ (mean-fits good h))
 
-pub port-mean : (s n : ℕ) → s ≤ n * 2147483648 → portMean s n ≡ pick (eqb n 0) 0 (s / n)
+pub port-mean : (s : Quanta) (n : ℕ) → s .0 ≤ n * 2147483648 → portMean s n ≡ pick (eqb n 0) 0 (s .0 / n)
 unfolding portMean
-port-mean s n h = rw (mod-eq-of-lt {n = s / n} {m = 4294967296} (omega (arith, div-le-of-le-mul n {m = s} h)))
+port-mean s n h = rw (mod-eq-of-lt {n = s .0 / n} {m = 4294967296} (omega (arith, div-le-of-le-mul n {m = s .0} h)))
 
 pub words-fit : (ws : List ℕ) → All (λ w. w < 2147483648) ws → sum ws ≤ length ws * 2147483648
 words-fit ws h = omega (arith, sum-short 2147483648 ws h)
@@ -121,8 +121,8 @@ words-fit ws h = omega (arith, sum-short 2147483648 ws h)
 pub port-mean-words :
     (ws : List ℕ) →
     All (λ w. w < 2147483648) ws →
-    portMean (sum ws) (length ws) ≡ floorMeanWords ws
+    portMean (record { 0 = sum ws }) (length ws) ≡ floorMeanWords ws
 unfolding floorMeanWords
-port-mean-words [] h = port-mean (sum []) 0 (words-fit [] h)
+port-mean-words [] h = port-mean (record { 0 = sum [] }) 0 (words-fit [] h)
 port-mean-words (w ∷ ws) h =
-    rw (port-mean (sum (w ∷ ws)) (suc (length ws)) (words-fit (w ∷ ws) h), eqb·suc-zero (length ws))
+    rw (port-mean (record { 0 = sum (w ∷ ws) }) (suc (length ws)) (words-fit (w ∷ ws) h), eqb·suc-zero (length ws))

@@ -8,7 +8,7 @@ use lib.ListN.{length, getD}
 use borrow.Author.Tests.{lt-leb, le-leb, lt-ltb, le-ltb}
 use Rattle.unit.specs.declared.Quanta.{Quanta}
 use Rattle.hit.specs.Limit.{openFrom, shortBelow, anyFrom, anyBelow, anyFault}
-use Rattle.hit.specs.Words.{wordOrZero, fourWords, portPair, portPairs, failedPorts, plusEach}
+use Rattle.hit.specs.Words.{wordOrZero, fourWords, portPair, portPairs, failedPorts, noQuanta, plusEach}
 use Rattle.hit.specs.Mean.{All}
 use Rattle.unit.proofs.Joined.{neither}
 use Rattle.hit.proofs.Sum.{all-below, all-above}
@@ -89,7 +89,10 @@ all-open limit ws h i j k =
     rw (port-open limit _ h, port-open limit _ i, port-open limit _ j, port-open limit _ k)
 
 -- "or of the good words of each port": each port's word is added to its own sum
-pub sums-apart : (sums w : List ℕ) (i : ℕ) → i < 4 → getD (plusEach sums w) i 0 ≡ getD sums i 0 + getD w i 0
+pub sums-apart :
+    (sums : List Quanta) (w : List ℕ) (i : ℕ) →
+    i < 4 →
+    getD (plusEach sums w) i noQuanta .0 ≡ getD sums i noQuanta .0 + getD w i 0
 unfolding plusEach
 sums-apart sums w zero h = refl
 sums-apart sums w (suc zero) h = refl

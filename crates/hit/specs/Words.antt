@@ -52,10 +52,22 @@ portPairs limit w =
 unfoldable pub failedPorts : List ℕ
 failedPorts = 0xFFFFFFFF ∷ 0xFFFFFFFF ∷ 0xFFFFFFFF ∷ 0xFFFFFFFF ∷ []
 
-unfoldable pub plusEach : List ℕ → List ℕ → List ℕ
+-- no quanta: the sum of no words
+abbrev pub noQuanta : Quanta
+noQuanta = record { 0 = 0 }
+
+abbrev pub noSums : List Quanta
+noSums = noQuanta ∷ noQuanta ∷ noQuanta ∷ noQuanta ∷ []
+
+-- a sum with so many quanta more
+abbrev pub plus : Quanta → ℕ → Quanta
+plus sum w = record { 0 = sum .0 + w }
+
+-- the sums of the four ports, each with its own word more
+unfoldable pub plusEach : List Quanta → List ℕ → List Quanta
 plusEach sums w =
-    (getD sums 0 0 + getD w 0 0) ∷
-    (getD sums 1 0 + getD w 1 0) ∷
-    (getD sums 2 0 + getD w 2 0) ∷
-    (getD sums 3 0 + getD w 3 0) ∷
+    plus (getD sums 0 noQuanta) (getD w 0 0) ∷
+    plus (getD sums 1 noQuanta) (getD w 1 0) ∷
+    plus (getD sums 2 noQuanta) (getD w 2 0) ∷
+    plus (getD sums 3 noQuanta) (getD w 3 0) ∷
     []

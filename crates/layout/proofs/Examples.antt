@@ -40,8 +40,8 @@ example =
       status = record { timeout = false; alarm = true; tof = true; te = false; ldo = false; tofevtmg = false; tempevtmg = true; flash = true; halt = false; init = true; por = true };
       initialised = false;
       regulator = true;
-      flight = record { schedule = record { left = record { 0 = 0x1020304 }; wait = record { 0 = 0x5060708 }; period = record { 0 = 0x90A0B0C }; planned = 31; started = 32; settled = 33; continuous = true; good = 0x141 }; up = true; down = false; sum = 0x102030405060708; ups = 0x21000000 ∷ 0x21000001 ∷ 0x21000002 ∷ 0x21000003 ∷ 0x21000004 ∷ 0x21000005 ∷ 0x21000006 ∷ []; downs = 0x22000000 ∷ 0x22000100 ∷ 0x22000200 ∷ 0x22000300 ∷ 0x22000400 ∷ 0x22000500 ∷ 0x22000600 ∷ []; difference = 0xFFFFFFFE };
-      temperature = record { schedule = record { left = record { 0 = 0x11121314 }; wait = record { 0 = 0x15161718 }; period = record { 0 = 0x191A1B1C }; planned = 34; started = 35; settled = 36; continuous = false; good = 0x242 }; sums = 0x1112131415161700 ∷ 0x1112131415161701 ∷ 0x1112131415161702 ∷ 0x1112131415161703 ∷ []; ports = 0x23000000 ∷ 0x23010000 ∷ 0x23020000 ∷ 0x23030000 ∷ [] };
+      flight = record { schedule = record { left = record { 0 = 0x1020304 }; wait = record { 0 = 0x5060708 }; period = record { 0 = 0x90A0B0C }; planned = 31; started = 32; settled = 33; continuous = true; good = 0x141 }; up = true; down = false; sum = record { 0 = 0x102030405060708 }; ups = 0x21000000 ∷ 0x21000001 ∷ 0x21000002 ∷ 0x21000003 ∷ 0x21000004 ∷ 0x21000005 ∷ 0x21000006 ∷ []; downs = 0x22000000 ∷ 0x22000100 ∷ 0x22000200 ∷ 0x22000300 ∷ 0x22000400 ∷ 0x22000500 ∷ 0x22000600 ∷ []; difference = 0xFFFFFFFE };
+      temperature = record { schedule = record { left = record { 0 = 0x11121314 }; wait = record { 0 = 0x15161718 }; period = record { 0 = 0x191A1B1C }; planned = 34; started = 35; settled = 36; continuous = false; good = 0x242 }; sums = record { 0 = 0x1112131415161700 } ∷ record { 0 = 0x1112131415161701 } ∷ record { 0 = 0x1112131415161702 } ∷ record { 0 = 0x1112131415161703 } ∷ []; ports = 0x23000000 ∷ 0x23010000 ∷ 0x23020000 ∷ 0x23030000 ∷ [] };
     }
 
 pub example-stored :

@@ -7,11 +7,13 @@ use lib.ListN.{length, getD, take, drop}
 use lib.Seq.{drop-cons, take-all}
 use mathlib.Core.Bool.{true, false}
 use Rattle.unit.proofs.Cases.{by-eqb}
+use Rattle.unit.specs.declared.Quanta.{Quanta}
+use Rattle.hit.specs.Words.{noQuanta}
 use Rattle.calendar.specs.declared.Clock.{Clock}
 use Rattle.device.specs.declared.Flight.{Flight}
 use Rattle.device.specs.declared.Temperature.{Temperature}
 use Rattle.device.specs.declared.Model.{Model}
-use Rattle.layout.specs.Layout.{formed, part, double, quadruple, octuple, clockWords, waits}
+use Rattle.layout.specs.Layout.{formed, part, double, quadruple, clockWords, waits}
 
 pub part-taken : (l : List ℕ) (at n : ℕ) → at + n ≤ length l → part l at n ≡ take n (drop at l)
 part-taken l at zero h = refl
@@ -45,10 +47,22 @@ quadruple-parts c f t u d p =
     ∙ ap (λ (l : List ℕ). times ++ f .ups ++ l ++ f .difference ∷ part (t .ports) 0 4) (whole (f .downs) 7 d)
     ∙ ap (λ (l : List ℕ). times ++ f .ups ++ f .downs ++ f .difference ∷ l) (whole (t .ports) 4 p)
 
-pub octuple-parts :
-    (f : Flight) (t : Temperature) → length (t .sums) ≡ 4 → f .sum ∷ part (t .sums) 0 4 ≡ octuple f t
-unfolding octuple
-octuple-parts f t s = ap (λ (l : List ℕ). f .sum ∷ l) (whole (t .sums) 4 s)
+-- the four sums, one by one
+pub four-sums :
+    (l : List Quanta) →
+    length l ≡ 4 →
+    record { 0 = getD l 0 noQuanta .0 } ∷
+    record { 0 = getD l 1 noQuanta .0 } ∷
+    record { 0 = getD l 2 noQuanta .0 } ∷
+    record { 0 = getD l 3 noQuanta .0 } ∷
+    []
+    ≡ l
+four-sums [] e = absurd (omega arith)
+four-sums (a ∷ []) e = absurd (omega arith)
+four-sums (a ∷ b ∷ []) e = absurd (omega arith)
+four-sums (a ∷ b ∷ c ∷ []) e = absurd (omega arith)
+four-sums (a ∷ b ∷ c ∷ d ∷ []) e = refl
+four-sums (a ∷ b ∷ c ∷ d ∷ f ∷ l) e = absurd (omega arith)
 
 pub formed-length : (bs : List ℕ) → formed bs ≡ true → length bs ≡ 233
 unfolding formed

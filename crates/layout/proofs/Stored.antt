@@ -19,7 +19,7 @@ use Rattle.layout.specs.Number.{allBytes, numbers, value}
 use Rattle.layout.specs.Layout.{flagsFit, formed, single, double, quadruple, octuple, clockWords, waits, stored, part, clockOf, statusOf, flightOf, temperatureOf, modelOf, restored, nothing, loaded}
 use Rattle.layout.specs.Fits.{Below, Fits}
 use Rattle.layout.proofs.Loops.{length-all}
-use Rattle.layout.proofs.Parts.{whole, part-taken, double-parts, quadruple-parts, octuple-parts, formed-length}
+use Rattle.layout.proofs.Parts.{whole, part-taken, double-parts, quadruple-parts, four-sums, formed-length}
 use Rattle.layout.proofs.Meaning.{below-drop, numbers-all, all-numbers, length-numbers}
 
 flag-bit : (b : Bool) → eqb (boolByte b) 1 ≡ b
@@ -53,10 +53,10 @@ module _ (m : Model) (f : Fits m) (r : List ℕ) where
       temperatureOf (single m ++ r) (double m) (quadruple (m .clock) (m .flight) (m .temperature))
       (octuple (m .flight) (m .temperature))
       ≡ m .temperature
-  unfolding temperatureOf single clockWords waits
+  unfolding temperatureOf single octuple clockWords waits
   temperature-back =
-      rw (← double-parts m (f .setup), ← quadruple-parts (m .clock) (m .flight) (m .temperature) (f .ups) (f .downs) (f .ports), ← octuple-parts (m .flight) (m .temperature) (f .sums))
-      (simp (flag-bit, whole (m .temperature .sums) 4 (f .sums), whole (m .temperature .ports) 4 (f .ports)))
+      rw (← double-parts m (f .setup), ← quadruple-parts (m .clock) (m .flight) (m .temperature) (f .ups) (f .downs) (f .ports))
+      (simp (flag-bit, four-sums (m .temperature .sums) (f .sums), whole (m .temperature .ports) 4 (f .ports)))
 
   setup-back : part (double m) 0 16 ≡ m .setup
   setup-back = rw (← double-parts m (f .setup)) (whole (m .setup) 16 (f .setup))
@@ -87,7 +87,8 @@ module _ (m : Model) (f : Fits m) where
   length-quadruple = ap length (sym (quadruple-parts (m .clock) (m .flight) (m .temperature) (f .ups) (f .downs) (f .ports)))
 
   length-octuple : length (octuple (m .flight) (m .temperature)) ≡ 5
-  length-octuple = ap length (sym (octuple-parts (m .flight) (m .temperature) (f .sums)))
+  unfolding octuple
+  length-octuple = refl
 
   length-single : length (single m) ≡ 25
   unfolding single

@@ -7,6 +7,7 @@ use lib.Dec.{ltb, eqb}
 use mir.Val.{boolByte}
 use Rattle.unit.specs.Choice.{pick, both}
 use Rattle.calendar.specs.declared.Clock.{Clock}
+use Rattle.hit.specs.Words.{noQuanta}
 use Rattle.device.specs.declared.Schedule.{Schedule}
 use Rattle.device.specs.declared.Flight.{Flight}
 use Rattle.device.specs.declared.Temperature.{Temperature}
@@ -67,7 +68,13 @@ quadruple c f t =
 
 -- Places 193 to 232, eight bytes each: the sums of the events.
 unfoldable pub octuple : Flight → Temperature → List ℕ
-octuple f t = f .sum ∷ t .sums
+octuple f t =
+    f .sum .0 ∷
+    getD (t .sums) 0 noQuanta .0 ∷
+    getD (t .sums) 1 noQuanta .0 ∷
+    getD (t .sums) 2 noQuanta .0 ∷
+    getD (t .sums) 3 noQuanta .0 ∷
+    []
 
 unfoldable pub stored : Model → List ℕ
 stored m = single m ++ allBytes 2 (double m) ++ allBytes 4 (quadruple (m .clock) (m .flight) (m .temperature)) ++ allBytes 8 (octuple (m .flight) (m .temperature))
@@ -127,7 +134,7 @@ flightOf bs ds qs os =
           };
       up = flag bs 16;
       down = flag bs 17;
-      sum = getD os 0 0;
+      sum = record { 0 = getD os 0 0 };
       ups = part qs 14 7;
       downs = part qs 21 7;
       difference = getD qs 28 0;
@@ -147,7 +154,12 @@ temperatureOf bs ds qs os =
             continuous = flag bs 18;
             good = getD ds 17 0;
           };
-      sums = part os 1 4;
+      sums =
+          record { 0 = getD os 1 0 } ∷
+          record { 0 = getD os 2 0 } ∷
+          record { 0 = getD os 3 0 } ∷
+          record { 0 = getD os 4 0 } ∷
+          [];
       ports = part qs 29 4;
     }
 

@@ -11,16 +11,18 @@ use schedule::in_event;
 use schedule::is_awaited;
 use schedule::no_schedule;
 use schedule::schedule_sound;
+use unit::Quanta;
 
 pub fn no_flight() -> Flight
     ensures { λ r. ⌜ r ≡ noFlight ⌝ }
 {
     let schedule = no_schedule();
+    let sum = Quanta(0);
     Flight {
         schedule,
         up: false,
         down: false,
-        sum: 0,
+        sum,
         ups: [0, 0, 0, 0, 0, 0, 0],
         downs: [0, 0, 0, 0, 0, 0, 0],
         difference: 0,
@@ -31,9 +33,11 @@ pub fn no_temperature() -> Temperature
     ensures { λ r. ⌜ r ≡ noTemperature ⌝ }
 {
     let schedule = no_schedule();
+    let zero = Quanta(0);
+    let sums = [zero, zero, zero, zero];
     Temperature {
         schedule,
-        sums: [0, 0, 0, 0],
+        sums,
         ports: [0, 0, 0, 0],
     }
 }
@@ -57,11 +61,11 @@ pub fn fresh_with(status: Status) -> Model
 }
 
 // Whether a sum of so many values below the largest one fits.
-fn sum_fits(sum: u64, good: u16, most: u64) -> bool
-    requires { ⌜ most ≤ 4294967296 ⌝ }
+fn sum_fits(sum: Quanta, good: u16, most: Quanta) -> bool
+    requires { ⌜ most .0 ≤ 4294967296 ⌝ }
     ensures { λ r. ⌜ r ≡ sumFits sum good most ⌝ }
 {
-    if good as u64 * most < sum {
+    if good as u64 * most.0 < sum.0 {
         false
     } else {
         true
@@ -73,7 +77,8 @@ fn flight_sound(f: Flight) -> bool
 {
     let k = f.schedule;
     if schedule_sound(k) {
-        return sum_fits(f.sum, k.good, 4294967296);
+        let most = Quanta(4294967296);
+        return sum_fits(f.sum, k.good, most);
     }
     false
 }
@@ -83,11 +88,12 @@ fn temperature_sound(t: Temperature) -> bool
 {
     let k = t.schedule;
     let sums = t.sums;
+    let most = Quanta(2147483648);
     if schedule_sound(k) {
-        if sum_fits(sums[0], k.good, 2147483648) {
-            if sum_fits(sums[1], k.good, 2147483648) {
-                if sum_fits(sums[2], k.good, 2147483648) {
-                    return sum_fits(sums[3], k.good, 2147483648);
+        if sum_fits(sums[0], k.good, most) {
+            if sum_fits(sums[1], k.good, most) {
+                if sum_fits(sums[2], k.good, most) {
+                    return sum_fits(sums[3], k.good, most);
                 }
                 return false;
             }

@@ -389,14 +389,14 @@ busy =
       schedule = scheduleBy (ticks 8191) (ticks 16383) (ticks 16384) 16 2 1 true 1;
       up = true;
       down = true;
-      sum = 2147418112;
+      sum = record { 0 = 2147418112 };
       ups = 0x10000 ∷ 0x20000 ∷ 0x30000 ∷ 0x40000 ∷ 0x50000 ∷ 0x60000 ∷ 0x70000 ∷ [];
       downs = 0x80000 ∷ 0x90000 ∷ 0xA0000 ∷ 0xB0000 ∷ 0xC0000 ∷ 0xD0000 ∷ 0xE0000 ∷ [];
       difference = 0xFFFFFFFF;
     }
     record {
       schedule = scheduleBy (ticks 0) (ticks 9) (ticks 32768) 3 2 2 false 2;
-      sums = 0x340000 ∷ 0x360000 ∷ 0x380000 ∷ 0x3A0000 ∷ [];
+      sums = record { 0 = 0x340000 } ∷ record { 0 = 0x360000 } ∷ record { 0 = 0x380000 } ∷ record { 0 = 0x3A0000 } ∷ [];
       ports = 0x150000 ∷ 0x0 ∷ 0xFFFFFFFF ∷ 0x180000 ∷ [];
     }
 

@@ -11,6 +11,7 @@ use borrow.Author.Tests.{le-ltb, ne-eqb, leb-true}
 use Rattle.unit.specs.Choice.{both}
 use Rattle.unit.proofs.Cases.{by-eqb}
 use Rattle.unit.proofs.Joined.{both-true}
+use Rattle.hit.specs.Words.{noQuanta}
 use Rattle.hit.specs.Difference.{differenceMean, portMean}
 use Rattle.numeral.specs.declared.Number.the-variants.{Value}
 use Rattle.numeral.specs.Read.{readHex, readDecimal}
@@ -323,7 +324,7 @@ module _ (m : Model) (s : isSound m ≡ true) where
         (i : ℕ) →
         i < 4 →
         row m (48 + i)
-        ≡ pair m (getD meanLabels i "") (0xF0 + 2 * i) (measured (portMean (getD (m .temperature .sums) i 0) (m .temperature .schedule .good)))
+        ≡ pair m (getD meanLabels i "") (0xF0 + 2 * i) (measured (portMean (getD (m .temperature .sums) i noQuanta) (m .temperature .schedule .good)))
     unfolding page clockRows setupRows moreSetupRows upRows downRows differenceRows portRows
     mean-rows zero h = result-at _ 0xF0 _ (omega arith) (omega arith) (reads-means m 0 h)
     mean-rows (suc zero) h = result-at _ 0xF2 _ (omega arith) (omega arith) (reads-means m 1 h)
@@ -353,10 +354,10 @@ module _ (m : Model) (s : isSound m ≡ true) where
     pub mean-reads :
         (i : ℕ) →
         i < 4 →
-        let w : ℕ = portMean (getD (m .temperature .sums) i 0) (m .temperature .schedule .good) in
+        let w : ℕ = portMean (getD (m .temperature .sums) i noQuanta) (m .temperature .schedule .good) in
         ¬ (w ≡ 0xFFFFFFFF) → TimeText [] (getD (row m (48 + i)) 5 []) w
     mean-reads i h n =
-        rw (mean-rows i h, ne-eqb (portMean (getD (m .temperature .sums) i 0) (m .temperature .schedule .good)) 0xFFFFFFFF n)
+        rw (mean-rows i h, ne-eqb (portMean (getD (m .temperature .sums) i noQuanta) (m .temperature .schedule .good)) 0xFFFFFFFF n)
         (time-reads _ (few (0xF0 + 2 * i) _ (omega arith) (omega arith) (reads-means m i h)))
 
     pub difference-reads :

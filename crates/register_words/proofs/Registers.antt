@@ -7,6 +7,8 @@ use lib.Dec.{ltb, eqb}
 use lib.ListN.{getD}
 use Rattle.unit.specs.Choice.{pick}
 use Rattle.calendar.proofs.RoundTrip.{words-below}
+use Rattle.unit.specs.declared.Quanta.{Quanta}
+use Rattle.hit.specs.Words.{noQuanta}
 use Rattle.hit.specs.Difference.{differenceMean, portMean}
 use Rattle.device.specs.declared.Model.{Model}
 use Rattle.device.specs.Model.{isSound}
@@ -27,11 +29,11 @@ half-small : (w place : ℕ) → w < 4294967296 → Small (half w place)
 unfolding half
 half-small w place h = whichever (eqb (place % 2) 0) (omega arith) (omega arith)
 
-pub difference-mean-small : (sum n : ℕ) → differenceMean sum n < 2 ^ 32
+pub difference-mean-small : (sum : Quanta) (n : ℕ) → differenceMean sum n < 2 ^ 32
 unfolding differenceMean
 difference-mean-small sum n = picked (λ w. w < 2 ^ 32) (eqb n 0) (λ _. omega arith) (λ _. omega arith)
 
-pub port-mean-small : (sum n : ℕ) → portMean sum n < 2 ^ 32
+pub port-mean-small : (sum : Quanta) (n : ℕ) → portMean sum n < 2 ^ 32
 unfolding portMean
 port-mean-small sum n = picked (λ w. w < 2 ^ 32) (eqb n 0) (λ _. omega arith) (λ _. omega arith)
 
@@ -72,7 +74,7 @@ module _ (m : Model) (w : Words m) where
       whichever (ltb a 0xEF) (half-small _ (a - 0xE7) (port-small ((a - 0xE7) / 2)))
       (whichever (eqb a 0xEF) good
       (half-small _ (a - 0xF0)
-      (port-mean-small (getD (m .temperature .sums) ((a - 0xF0) / 2) 0) (m .temperature .schedule .good))))
+      (port-mean-small (getD (m .temperature .sums) ((a - 0xF0) / 2) noQuanta) (m .temperature .schedule .good))))
 
   pub register-small : isSound m ≡ true → (a : ℕ) → registerWord m a < 65536
   unfolding registerWord

@@ -8,6 +8,7 @@ use native.Mathlib.Omega.{arith}
 use lib.Dec.{ltb}
 use lib.ListN.{getD}
 use Rattle.unit.proofs.Cases.{by-test}
+use Rattle.hit.specs.Words.{noQuanta}
 use Rattle.hit.specs.Difference.{differenceMean, portMean}
 use Rattle.numeral.specs.declared.Number.the-variants.{Value}
 use Rattle.numeral.specs.Digit.{digits}
@@ -139,11 +140,11 @@ module _ (path : List ℕ) (check : Bool) (ls : List (List ℕ)) where
       (reads-mean model) (difference-mean-small (model .flight .sum) (model .flight .schedule .good))
 
   pub means-shown : (i : ℕ) → i < 4
-      → pairWord model (0xF0 + 2 * i) ≡ portMean (getD (model .temperature .sums) i 0) (model .temperature .schedule .good)
+      → pairWord model (0xF0 + 2 * i) ≡ portMean (getD (model .temperature .sums) i noQuanta) (model .temperature .schedule .good)
   means-shown i h =
-      pair-shown model sound (0xF0 + 2 * i) (portMean (getD (model .temperature .sums) i 0) (model .temperature .schedule .good))
+      pair-shown model sound (0xF0 + 2 * i) (portMean (getD (model .temperature .sums) i noQuanta) (model .temperature .schedule .good))
       (omega arith) (omega arith) (reads-means model i h)
-      (port-mean-small (getD (model .temperature .sums) i 0) (model .temperature .schedule .good))
+      (port-mean-small (getD (model .temperature .sums) i noQuanta) (model .temperature .schedule .good))
 
   -- The frames that a line `frames` prints here bring a fresh model to this set-up, and no list of write frames does so in fewer bytes.
   pub frames-brought : Brings (frames (model .setup)) (model .setup)

@@ -2,7 +2,7 @@
 ghost use mathlib.Core.Path.{_≡_};
 ghost use mathlib.Core.Bool.{true};
 ghost use Prim.Native.Nat.{_<_, _*_};
-ghost use Rattle.hit.specs.Words.{sixTotal, sixWords};
+ghost use Rattle.hit.specs.Words.{sixTotal};
 ghost use Rattle.device.specs.Model.{flightSound, temperatureSound};
 ghost use Rattle.device.specs.Results.{failedFlight, failedDifference};
 ghost use Rattle.device.specs.Results.{goodDifference, goodSum, goodFlight, goodSums};
@@ -16,7 +16,6 @@ use evaluation::words::choose_pairs;
 use evaluation::words::failed_pairs;
 use evaluation::words::filled;
 use evaluation::words::plus_each;
-use evaluation::words::six_words;
 use schedule::settle;
 use unit::Quanta;
 
@@ -38,6 +37,7 @@ pub fn failed_flight(f: Flight, schedule: Schedule) -> Flight
 {
     let old_ups = f.ups;
     let old_downs = f.downs;
+    let sum = f.sum;
     let ups = choose_pairs(f.up, failed_pairs(), old_ups);
     let downs = choose_pairs(f.down, failed_pairs(), old_downs);
     let difference = failed_difference(f);
@@ -45,7 +45,7 @@ pub fn failed_flight(f: Flight, schedule: Schedule) -> Flight
         schedule,
         up: f.up,
         down: f.down,
-        sum: f.sum,
+        sum,
         ups,
         downs,
         difference,
@@ -66,38 +66,33 @@ fn good_difference(f: Flight, up: Quanta, down: Quanta) -> u32
 }
 
 // The sum of differences after a good measurement: one of an event counts.
-fn good_sum(f: Flight, up: Quanta, down: Quanta) -> u64
+fn good_sum(f: Flight, up: Quanta, down: Quanta) -> Quanta
     requires { ⌜ (up .0 < 2147483648) × (down .0 < 2147483648) × (flightSound f ≡ true) ⌝ }
     ensures { λ r. ⌜ r ≡ goodSum f up down ⌝ }
 {
     let k = f.schedule;
+    let old = f.sum;
     if k.settled < k.planned {
-        return f.sum + biased(up, down);
+        let difference = biased(up, down);
+        return Quanta(old.0 + difference.0);
     }
-    f.sum
+    old
 }
 
-// The flight results after good hits: the words of each direction, and their sums, upward and downward.
-pub fn good_flight(
-    f: Flight,
-    hits: u32,
-    upward: u64,
-    downward: u64,
-    ups: &[u32],
-    downs: &[u32],
-) -> Flight
-    requires { ⌜ (upward ≡ sixTotal (sixWords (now ups))) × (downward ≡ sixTotal (sixWords (now downs))) × (upward < hits * 2147483648) × (downward < hits * 2147483648) × (flightSound f ≡ true) ⌝ }
-    ensures { λ r. ⌜ r ≡ goodFlight f hits (sixWords (now (ups .entry))) (sixWords (now (downs .entry))) ⌝ }
+// The flight results after good hits: so many words of each measured direction, and 0 past them.
+pub fn good_flight(f: Flight, hits: u32, ups: [u32; 6], downs: [u32; 6]) -> Flight
+    requires { ⌜ (sixTotal ups < hits * 2147483648) × (sixTotal downs < hits * 2147483648) × (flightSound f ≡ true) ⌝ }
+    ensures { λ r. ⌜ r ≡ goodFlight f hits ups downs ⌝ }
 {
     let old_ups = f.ups;
     let old_downs = f.downs;
     let k = f.schedule;
-    let up = average(upward, hits);
-    let down = average(downward, hits);
+    let up = average(ups, hits);
+    let down = average(downs, hits);
     let schedule = settle(k, true);
     let sum = good_sum(f, up, down);
-    let up_pairs = choose_pairs(f.up, filled(six_words(ups), up), old_ups);
-    let down_pairs = choose_pairs(f.down, filled(six_words(downs), down), old_downs);
+    let up_pairs = choose_pairs(f.up, filled(ups, up), old_ups);
+    let down_pairs = choose_pairs(f.down, filled(downs, down), old_downs);
     let difference = good_difference(f, up, down);
     Flight {
         schedule,
@@ -110,7 +105,7 @@ pub fn good_flight(
     }
 }
 
-pub fn good_sums(t: Temperature, w: [u32; 4]) -> [u64; 4]
+pub fn good_sums(t: Temperature, w: [u32; 4]) -> [Quanta; 4]
     requires { ⌜ temperatureSound t ≡ true ⌝ }
     ensures { λ r. ⌜ r ≡ goodSums t w ⌝ }
 {

@@ -8,6 +8,7 @@ use device::Model;
 use device::Schedule;
 use device::Status;
 use device::Temperature;
+use unit::Quanta;
 use unit::Ticks;
 
 fn clock_of(b: &[u8], q: [u32; 33]) -> Clock
@@ -66,11 +67,12 @@ fn flight_of(b: &[u8], d: [u16; 18], q: [u32; 33], o: [u64; 5]) -> Flight
     };
     let ups = [q[14], q[15], q[16], q[17], q[18], q[19], q[20]];
     let downs = [q[21], q[22], q[23], q[24], q[25], q[26], q[27]];
+    let sum = Quanta(o[0]);
     Flight {
         schedule,
         up: b[16] == 1,
         down: b[17] == 1,
-        sum: o[0],
+        sum,
         ups,
         downs,
         difference: q[28],
@@ -94,7 +96,11 @@ fn temperature_of(b: &[u8], d: [u16; 18], q: [u32; 33], o: [u64; 5]) -> Temperat
         continuous: b[18] == 1,
         good: d[17],
     };
-    let sums = [o[1], o[2], o[3], o[4]];
+    let s1 = Quanta(o[1]);
+    let s2 = Quanta(o[2]);
+    let s3 = Quanta(o[3]);
+    let s4 = Quanta(o[4]);
+    let sums = [s1, s2, s3, s4];
     let ports = [q[29], q[30], q[31], q[32]];
     Temperature {
         schedule,
@@ -257,5 +263,6 @@ pub fn octuple_of(f: Flight, t: Temperature) -> [u64; 5]
     ensures { λ r. ⌜ (r ≡ octuple f t) × (length (t .sums) ≡ 4) ⌝ }
 {
     let s = t.sums;
-    [f.sum, s[0], s[1], s[2], s[3]]
+    let sum = f.sum;
+    [sum.0, s[0].0, s[1].0, s[2].0, s[3].0]
 }

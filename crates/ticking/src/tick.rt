@@ -18,25 +18,27 @@ use status::alarm_bit;
 use status::flight_bits;
 use status::joined;
 use status::temperature_bits;
+use unit::Quanta;
 
 // The sums that the first start of a group sets to 0.
-fn sum_after(f: Flight) -> u64
+fn sum_after(f: Flight) -> Quanta
     ensures { λ r. ⌜ r ≡ sumAfter f ⌝ }
 {
     let k = f.schedule;
     if begins_group(k) {
-        return 0;
+        return Quanta(0);
     }
     f.sum
 }
 
-fn sums_after(t: Temperature) -> [u64; 4]
+fn sums_after(t: Temperature) -> [Quanta; 4]
     ensures { λ r. ⌜ r ≡ sumsAfter t ⌝ }
 {
     let k = t.schedule;
     let sums = t.sums;
     if begins_group(k) {
-        return [0, 0, 0, 0];
+        let zero = Quanta(0);
+        return [zero, zero, zero, zero];
     }
     sums
 }

@@ -6,8 +6,7 @@ use Rattle.calendar.specs.Words.{hundredthsOf, minuteIn, twelveIn, hourNamed, h
 use Rattle.setup.specs.Setup.{factory, hitCount, differencePeriod, differenceCount, eventContinuous}
 use Rattle.hit.specs.Limit.{lateFrom, openFrom, shortBelow, anyWord, anyFrom, anyBelow, anyFault}
 use Rattle.hit.specs.Words.{wordOrZero, sixWords, sixTotal, average}
-use Rattle.hit.specs.Difference.{differenceWord, differenceMean}
-use Rattle.hit.specs.Biased.{biased}
+use Rattle.hit.specs.Difference.{biased, differenceWord, differenceMean}
 use Rattle.hit.specs.Mean.{All, differenceBits}
 use Rattle.device.specs.Event.{noSchedule, startSingle, startEvent, isAwaited, startsLeft, begins, beginsGroup, fails, settle, tickSchedule}
 use Rattle.device.specs.Event.{leftAfter, waitAfter, startedAfter, settledAfter, goodAfter}

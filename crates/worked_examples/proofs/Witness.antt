@@ -13,8 +13,7 @@ use Rattle.setup.specs.Setup.{differenceCount, temperatureCount, differencePeri
 use Rattle.frame.specs.Frame.{isCommand, isWrite, isFlash, isRead, notWhole, pastEnd, wordAt}
 use Rattle.hit.specs.Limit.{lateFrom, openFrom, shortBelow, anyWord, anyFrom, anyBelow, anyFault}
 use Rattle.hit.specs.Words.{wordOrZero, sixWords, fourWords, sixTotal, average, filled, portPair, portPairs, plusEach}
-use Rattle.hit.specs.Difference.{differenceWord, differenceMean, portMean}
-use Rattle.hit.specs.Biased.{biased}
+use Rattle.hit.specs.Difference.{biased, differenceWord, differenceMean, portMean}
 use Rattle.hit.specs.Mean.{differenceBits}
 use Rattle.device.specs.Event.{noSchedule, countsSound, waitSound, balanceSound, scheduleSound, isAwaited, inEvent, startsLeft, beginsGroup, fails, startEvent, tickSchedule, begins, leftAfter, waitAfter, startedAfter}
 use Rattle.device.specs.Event.{settledAfter, goodAfter, settle}

@@ -18,7 +18,7 @@ start-event-requires c κs = search needs
 
 returns : tie.Need-returns
 unfolding temperatureEvent
-returns c = simp (← c .before .start-event .ensures, ← c .before .before .event-continuous .ensures, ← c .before .before .before .temperature-count .ensures, ← c .before .before .before .before .temperature-period .ensures)
+returns c = simp (← c .start-event .ensures, ← c .before .event-continuous .ensures, ← c .before .before .temperature-count .ensures, ← c .before .before .before .temperature-period .ensures)
 
 pub temperature-event-spec : {M : Type 1} → statement M
 temperature-event-spec =

@@ -8,7 +8,7 @@ use Rattle.model.proofs.state.sum_fits.Statement.{statement}
 use Rattle.model.proofs.state.sum_fits.Tie as tie
 
 mul-if1 : tie.Need-mul-if1
-mul-if1 c = omega (arith, mul-le-mul-left (c .args .good) (c .pre))
+mul-if1 c = omega (arith, mul-le-mul-left (c .before .args .good) (c .before .pre))
 
 returns : tie.Need-returns
 unfolding sumFits

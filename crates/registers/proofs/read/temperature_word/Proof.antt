@@ -43,8 +43,8 @@ cast-sum c = search needs
 mul-sum : tie.Need-mul-sum
 mul-sum c = search needs
 
-array-read-sum : tie.Need-array-read-sum
-array-read-sum c = search needs
+array-copy-out-sum : tie.Need-array-copy-out-sum
+array-copy-out-sum c = search needs
 
 cast-port-mean : tie.Need-cast-port-mean
 cast-port-mean c = search needs
@@ -60,7 +60,7 @@ half-requires-2 c κs = search needs
 
 returns-3 : tie.Need-returns-3
 unfolding temperatureWord
-returns-3 c = simp (← c .half2 .ensures, ← c .before .port-mean .ensures, ne-eqb _ _ (c .before .before .before .if2 .left), le-ltb _ _ (c .before .before .before .before .if1 .left))
+returns-3 c = simp (← c .half2 .ensures, ← c .before .port-mean .ensures, ne-eqb _ _ (c .before .before .before .before .if2 .left), le-ltb _ _ (c .before .before .before .before .before .if1 .left))
 
 pub temperature-word-spec : {M : Type 1} → statement M
 temperature-word-spec =
@@ -78,7 +78,7 @@ temperature-word-spec =
     sub-place-2
     cast-sum
     mul-sum
-    array-read-sum
+    array-copy-out-sum
     cast-port-mean
     port-mean-requires
     sub-half-2

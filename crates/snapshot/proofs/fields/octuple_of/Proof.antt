@@ -1,24 +1,33 @@
 -- `snapshot::fields::octuple_of` meets its contract.
-use Rattle.layout.proofs.Parts.{octuple-parts}
+use Rattle.layout.specs.Layout.{octuple}
+use mathlib.Core.Path.{refl}
+use lib.ListN.{length-map}
 use borrow.Author.Needs.{needs}
 use Rattle.snapshot.proofs.fields.octuple_of.Statement.{statement}
 use Rattle.snapshot.proofs.fields.octuple_of.Tie as tie
 
-array-read-t6 : tie.Need-array-read-t6
-array-read-t6 c = search needs
+element-copy-out-t7 : tie.Need-element-copy-out-t7
+element-copy-out-t7 c = search needs
 
-array-read-t9 : tie.Need-array-read-t9
-array-read-t9 c = search needs
+element-copy-out-t10 : tie.Need-element-copy-out-t10
+element-copy-out-t10 c = search needs
 
-array-read-t12 : tie.Need-array-read-t12
-array-read-t12 c = search needs
+element-copy-out-t13 : tie.Need-element-copy-out-t13
+element-copy-out-t13 c = search needs
 
-array-read-t15 : tie.Need-array-read-t15
-array-read-t15 c = search needs
+element-copy-out-t16 : tie.Need-element-copy-out-t16
+element-copy-out-t16 c = search needs
 
 returns : tie.Need-returns
-returns c = (octuple-parts _ _ (search needs), search needs)
+unfolding octuple
+returns c = (refl, rw length-map at (c .before .before .good .1 .0 .1 .1 .1 .0 .1 .0 .1))
 
 pub octuple-of-spec : {M : Type 1} → statement M
 octuple-of-spec =
-    tie.close (tie.spec array-read-t6 array-read-t9 array-read-t12 array-read-t15 returns)
+    tie.close
+    (tie.spec
+    element-copy-out-t7
+    element-copy-out-t10
+    element-copy-out-t13
+    element-copy-out-t16
+    returns)

@@ -13,7 +13,7 @@ returns c = simp (c .if1 .taken, ← c .before .begins-group .ensures)
 
 returns-2 : tie.Need-returns-2
 unfolding sumAfter
-returns-2 c = simp (c .if1 .left, ← c .before .begins-group .ensures)
+returns-2 c = simp (c .before .if1 .left, ← c .before .before .begins-group .ensures)
 
 pub sum-after-spec : {M : Type 1} → statement M
 sum-after-spec = tie.close (tie.spec begins-group-requires returns returns-2)

@@ -3,13 +3,11 @@ use Prim.Native.Nat.{ℕ, _+_, _≤_}
 use mathlib.Core.Path.{_≡_, refl}
 use mathlib.Core.Bool.{true, false}
 use mathlib.Core.List.{List}
-use lib.Dec.{ltb, leb}
-use borrow.Author.Tests.{ltb-false}
-use Rattle.unit.specs.Choice.{either}
-use Rattle.unit.proofs.Cases.{by-test}
+use borrow.Author.Tests.{ltb-false, lt-ltb, le-ltb, le-leb, lt-leb}
+use Rattle.unit.specs.Choice.{pick, either}
+use Rattle.unit.proofs.Cases.{by-test, by-ltb, by-leb}
 use Rattle.calendar.specs.Bounds.{afterTicks}
 use Rattle.setup.specs.Setup.{clockStands, hitCount, portCycle}
-use Rattle.frame.specs.Frame.{isCommand, isWrite, isFlash}
 use Rattle.frame.proofs.Laws.{read-alone}
 use Rattle.hit.specs.Limit.{openFrom}
 use Rattle.hit.specs.Words.{sixWords, fourWords}
@@ -28,17 +26,20 @@ use Rattle.device.specs.Call.{noFrame, notCarried, wrongLength, pastRegi
 use Rattle.device.specs.Call.{badCalendar, notInitialised, badSetup, notAwaited, miscounted, tooLong}
 use Rattle.device.specs.Call.{table, Verdict, accepted, refused, firstOf, verdict}
 use Rattle.device.specs.Reply.{anyLate, anyOpen, portFault}
-use Rattle.device.specs.Reply.{acceptedAnswer, acceptedModel, refuse, replyBy, reply}
+use Rattle.device.specs.Reply.{numberIn, acceptedAnswer, acceptedModel, refuse, replyBy, reply}
 use Rattle.device.specs.Parts.{accept}
-use Rattle.device.specs.History.{isRefusal, mayFollow, isTick, spanOf, stretchIn}
-use Rattle.device.specs.Claim.{ticksIn}
-use Rattle.device.proofs.Table.{NoneHolds, none-holds}
+use Rattle.device.specs.History.{isRefusal, mayFollow, readsStatus}
+use Rattle.device.specs.Claim.{ticksMoved}
+use Rattle.device.proofs.Table.{NoneHolds, none-holds, accepted-number}
 use Rattle.device.proofs.Stretch.{setup-ticked, clock-ticked}
 
 pub data Step (m : Model) : Call → Reply → Type 0 where
-  refusal : (c : Call) (n : ℕ) → isTick c ≡ false → Step m c (refuse n m)
+  refusal : (c : Call) (n : ℕ) → Step m c (refuse n m)
   -- a read leaves all but the status
-  reading : (f o x : List ℕ) (s : Status) → Step m (transaction f o x) (accept false false (withStatus m s))
+  reading :
+      (f o x : List ℕ) (s : Status) →
+      s ≡ pick (readsStatus f) noBits (m .status) →
+      Step m (transaction f o x) (accept false false (withStatus m s))
   ticking :
       Step m tick
       (record {
@@ -75,21 +76,20 @@ pub data Step (m : Model) : Call → Reply → Type 0 where
         model = modelTicked n m;
       })
 
--- an accepted transaction is no refusal
-pub no-refusal : (m : Model) (f o x : List ℕ) → isRefusal (acceptedAnswer m (transaction f o x)) ≡ false
-unfolding isRefusal acceptedAnswer
-no-refusal m f o x =
-    by-test (isCommand (opcode f)) (λ c. rw c)
-    (λ c. rw c
-    (by-test (isWrite (opcode f)) (λ w. rw w)
-    (λ w. rw w (by-test (isFlash (opcode f)) (λ u. rw u) (λ u. rw u)))))
+-- an accepted call is no refusal
+pub no-refusal : (m : Model) (c : Call) → isRefusal (acceptedAnswer m c) ≡ false
+unfolding isRefusal
+no-refusal m c = rw (accepted-number m c)
 
 read-step : (m : Model) (f o x : List ℕ) → Step m (transaction f o x) (accept false false (readModel m (opcode f) (words f)))
 unfolding readModel
 read-step m f o x =
-    by-test (ltb 0xFE (opcode f)) (λ e. rw e (reading f o x (m .status)))
-    (λ e. rw e
-    (by-test (leb (opcode f + words f) 0xFE) (λ l. rw l (reading f o x (m .status))) (λ l. rw l (reading f o x noBits))))
+    by-ltb 0xFE (opcode f)
+    (λ l e. rw e (reading f o x (m .status) (rw (lt-leb (opcode f) 0xFE l))))
+    (λ l e. rw e
+    (by-leb (opcode f + words f) 0xFE
+    (λ n g. rw g (reading f o x (m .status) (rw (le-leb (opcode f) 0xFE l, le-ltb 0xFE (opcode f + words f) n))))
+    (λ n g. rw g (reading f o x noBits (rw (le-leb (opcode f) 0xFE l, lt-ltb 0xFE (opcode f + words f) n))))))
 
 accepted-step :
     (m : Model) (c : Call) →
@@ -98,7 +98,7 @@ accepted-step :
     Step m c (record { answer = acceptedAnswer m c; model = acceptedModel m c })
 unfolding acceptedAnswer acceptedModel mayFollow tooLong
 accepted-step m (transaction f o x) n p =
-    let (c, w, u) = read-alone (opcode f) (rw (no-refusal m f o x) at p) in rw (c, w, u) (read-step m f o x)
+    let (c, w, u) = read-alone (opcode f) (rw (no-refusal m (transaction f o x)) at p) in rw (c, w, u) (read-step m f o x)
 accepted-step m tick n p = ticking
 accepted-step m (flight u d) n p =
     by-test (anyLate m u d) (λ l. rw l (flight-failed u d n l)) (λ l. rw l (flight-good u d n l))
@@ -110,14 +110,6 @@ accepted-step m (stretch k) n p = stretching k (ltb-false 16384 k (n .row12))
 pub tick-accepted : (m : Model) → isSound m ≡ true → verdict m tick ≡ accepted
 unfolding verdict firstOf table noFrame notCarried wrongLength pastRegisters shortOutput whileBusy supplyOff unreachable unerased badCalendar notInitialised badSetup notAwaited miscounted tooLong
 tick-accepted m v = rw v
-
-refused-other : (m : Model) (c : Call) (n : ℕ) → isSound m ≡ true → verdict m c ≡ refused n → isTick c ≡ false
-unfolding isTick
-refused-other m (transaction f o x) n v e = refl
-refused-other m tick n v e = cc (tick-accepted m v)
-refused-other m (flight u d) n v e = refl
-refused-other m (temperature w) n v e = refl
-refused-other m (stretch k) n v e = refl
 
 pub stepped :
     (m : Model) (c : Call) →
@@ -133,13 +125,13 @@ stepped m c v = go (verdict m c) refl
         either (isRefusal (replyBy t m c .answer)) (mayFollow c) ≡ true →
         Step m c (replyBy t m c)
     go accepted e p = accepted-step m c (none-holds m c e) p
-    go (refused n) e p = refusal c n (refused-other m c n v e)
+    go (refused n) e p = refusal c n
 
 -- no such call changes the set-up, and only ticks move the clock
 pub setup-kept : (m : Model) {c : Call} {r : Reply} → Step m c r → r .model .setup ≡ m .setup
 unfolding tickModel failedFlightModel goodFlightModel failedTemperatureModel goodTemperatureModel
-setup-kept m (refusal c n t) = refl
-setup-kept m (reading f o x s) = refl
+setup-kept m (refusal c n) = refl
+setup-kept m (reading f o x s e) = refl
 setup-kept m ticking = refl
 setup-kept m (flight-failed u d n l) = refl
 setup-kept m (flight-good u d n l) = refl
@@ -151,10 +143,10 @@ pub clock-step :
     (m : Model) {c : Call} {r : Reply} →
     Step m c r →
     clockStands (m .setup) ≡ false →
-    r .model .clock ≡ afterTicks (ticksIn (record { call = c; answer = r .answer })) (m .clock)
-unfolding tickModel clockTicked failedFlightModel goodFlightModel failedTemperatureModel goodTemperatureModel isTick ticksIn stretchIn spanOf isRefusal afterTicks
-clock-step m (refusal c n t) e = rw t
-clock-step m (reading f o x s) e = refl
+    r .model .clock ≡ afterTicks (ticksMoved (record { call = c; answer = r .answer })) (m .clock)
+unfolding tickModel clockTicked failedFlightModel goodFlightModel failedTemperatureModel goodTemperatureModel ticksMoved isRefusal numberIn afterTicks
+clock-step m (refusal c n) e = refl
+clock-step m (reading f o x s p) e = refl
 clock-step m ticking e = rw e
 clock-step m (flight-failed u d n l) e = refl
 clock-step m (flight-good u d n l) e = refl

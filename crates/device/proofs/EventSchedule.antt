@@ -7,6 +7,7 @@ use mathlib.Core.Path.{_≡_, refl, sym, _∙_}
 use mathlib.Core.Bool.{Bool, true, false}
 use mathlib.Core.List.{List, [], _∷_, _++_, append-nil}
 use lib.ListN.{length, length-append}
+use lib.Dec.{eqb}
 use borrow.Author.Tests.{lt-ltb, le-leb, lt-leb, eq-eqb, ne-eqb}
 use Rattle.unit.specs.Choice.{pick, both, negate}
 use Rattle.unit.proofs.Cases.{by-test, by-ltb, by-eqb}
@@ -15,8 +16,7 @@ use Rattle.hit.specs.Mean.{All}
 use Rattle.device.specs.declared.Schedule.{Schedule}
 use Rattle.device.specs.Event.{isAwaited, startsLeft, begins, beginsGroup, fails, startEvent, leftAfter, waitAfter, startedAfter}
 use Rattle.device.specs.Event.{settledAfter, goodAfter, tickSchedule, settle}
-use Rattle.device.specs.Call.{Call}
-use Rattle.device.specs.History.{Plan, History, Expiry, opensGroup, noteTick, noteGood, noteFailed, wordsGood}
+use Rattle.device.specs.History.{Entry, valueAt, Plan, History, Expiry, settledOf, opensGroup, noteTick, noteDelivery, noteRead}
 use Rattle.device.specs.Claim.{reached, plannedStarts}
 use Rattle.device.proofs.TickCases.{by-begins, by-group, no-group, one-less}
 
@@ -45,11 +45,10 @@ pub record Placed (N total started turns : ℕ) (continuous : Bool) : Type 0 whe
   pub alone : continuous ≡ false → turns ≡ 0
 
 -- What was told good and failed, against the numbers settled and good.
-pub record Counted (told : List Call) (failedPairs : ℕ) (expiries : List Expiry) (misjudged settled count : ℕ) : Type 0 where
-  pub all : settled ≡ length told + failedPairs
-  pub good : count ≡ length told
-  pub timely : All Timely expiries
-  pub judged : misjudged ≡ 0
+pub record Counted (h : History) (settled count : ℕ) : Type 0 where
+  pub all : settled ≡ settledOf h
+  pub good : count ≡ length (h .good)
+  pub timely : All Timely (h .expiries)
 
 -- What holds of the schedule `k` of an event of plan p from its start on: `h` is what was told.
 pub record Going (p : Plan) (h : History) (k : Schedule) : Type 0 where
@@ -61,7 +60,7 @@ pub record Going (p : Plan) (h : History) (k : Schedule) : Type 0 where
   pub begun : Begun (p .period) (h .starts) (h .last) (h .ticks) (k .wait .0) total (startsLeft k)
   pub placed : Placed (p .count) total (k .started) turns (p .continuous)
   pub told : h .started ≡ k .started
-  pub counted : Counted (h .good) (h .failed) (h .expiries) (h .misjudged) (k .settled) (k .good)
+  pub counted : Counted h (k .settled) (k .good)
   pub since : 0 < k .left .0 → k .left .0 + h .ticks ≡ h .last + 8192
   pub idle : k .left .0 ≡ 0 → k .started ≡ k .settled
   pub busy : 0 < k .left .0 → k .started ≡ k .settled + 1
@@ -172,7 +171,7 @@ module _ (p : Plan) (h : History) (k : Schedule) (g : Going p h k) where
               alone = g .placed .alone;
             };
         told = omega (arith, g .told);
-        counted = g .counted;
+        counted = record { all = g .counted .all; good = g .counted .good; timely = g .counted .timely };
         since = λ u. omega arith;
         idle = λ u. absurd (omega arith);
         busy = λ u. omega (arith, g .idle z);
@@ -207,7 +206,7 @@ module _ (p : Plan) (h : History) (k : Schedule) (g : Going p h k) where
               alone = λ e. let z : _≡_ {A = ℕ} 0 1 = cc (g .continuous) in absurd (omega arith);
             };
         told = refl;
-        counted = record { all = refl; good = refl; timely = g .counted .timely; judged = g .counted .judged };
+        counted = record { all = refl; good = refl; timely = g .counted .timely };
         since = λ u. omega arith;
         idle = λ u. absurd (omega arith);
         busy = λ u. refl;
@@ -258,7 +257,6 @@ module _ (p : Plan) (h : History) (k : Schedule) (g : Going p h k) where
               all = omega arith;
               good = g .counted .good;
               timely = all-append Timely (h .expiries) e (g .counted .timely) (omega arith);
-              judged = g .counted .judged;
             };
         since = λ u. absurd (omega arith);
         idle = λ u. d;
@@ -285,7 +283,7 @@ module _ (p : Plan) (h : History) (k : Schedule) (g : Going p h k) where
         begun = begun-on f;
         placed = g .placed;
         told = g .told;
-        counted = g .counted;
+        counted = record { all = g .counted .all; good = g .counted .good; timely = g .counted .timely };
         since = λ u. omega (arith, more u, g .since (omega (arith, more u)));
         idle = λ u. g .idle (none u);
         busy = λ u. g .busy (omega (arith, more u));
@@ -306,12 +304,12 @@ module _ (p : Plan) (h : History) (k : Schedule) (g : Going p h k) where
   pub unsettled : 0 < k .left .0 → k .settled < k .planned
   unsettled l = omega (arith, g .busy l, g .placed .most, g .planned)
 
-  -- a delivery answered good, and one answered failed, as its words are
-  pub going-good :
-      (s : List ℕ) (c : Call) → 0 < k .left .0 → wordsGood s c ≡ true → Going p (noteGood s c h) (settle k true)
-  unfolding noteGood settle startsLeft
-  going-good s c l e =
-      rw (e, lt-ltb (k .settled) (k .planned) (unsettled l))
+  -- a delivery, good or failed as its answer says
+  pub going-settles :
+      (e : Entry) → 0 < k .left .0 → Going p (noteDelivery p e h) (settle k (eqb (valueAt 0 (e .answer)) 1))
+  unfolding noteDelivery settle startsLeft
+  going-settles e l =
+      rw (lt-ltb (k .settled) (k .planned) (unsettled l))
       (record {
         period = g .period;
         planned = g .planned;
@@ -322,23 +320,25 @@ module _ (p : Plan) (h : History) (k : Schedule) (g : Going p h k) where
         placed = g .placed;
         told = g .told;
         counted =
-            record {
-              all = omega (arith, one-longer (h .good) c);
-              good = omega (arith, one-longer (h .good) c);
+            by-test (eqb (valueAt 0 (e .answer)) 1)
+            (λ v. rw v
+            (record {
+              all = omega (arith, g .counted .all, one-longer (h .good) (e .call));
+              good = omega (arith, g .counted .good, one-longer (h .good) (e .call));
               timely = g .counted .timely;
-              judged = g .counted .judged;
-            };
+            }))
+            (λ v. rw v
+            (record { all = omega (arith, g .counted .all); good = g .counted .good; timely = g .counted .timely }));
         since = λ u. absurd (omega arith);
         idle = λ u. g .busy l;
         busy = λ u. absurd (omega arith);
       })
 
-  pub going-failed :
-      (s : List ℕ) (c : Call) → 0 < k .left .0 → wordsGood s c ≡ false → Going p (noteFailed s c h) (settle k false)
-  unfolding noteFailed settle startsLeft
-  going-failed s c l e =
-      rw (e, lt-ltb (k .settled) (k .planned) (unsettled l))
-      (record {
+  -- a read tells nothing of it
+  pub going-read : (f : List ℕ) → Going p (noteRead f h) k
+  unfolding noteRead
+  going-read f =
+      record {
         period = g .period;
         planned = g .planned;
         continuous = g .continuous;
@@ -347,17 +347,11 @@ module _ (p : Plan) (h : History) (k : Schedule) (g : Going p h k) where
         begun = g .begun;
         placed = g .placed;
         told = g .told;
-        counted =
-            record {
-              all = omega arith;
-              good = g .counted .good;
-              timely = g .counted .timely;
-              judged = g .counted .judged;
-            };
-        since = λ u. absurd (omega arith);
-        idle = λ u. g .busy l;
-        busy = λ u. absurd (omega arith);
-      })
+        counted = record { all = g .counted .all; good = g .counted .good; timely = g .counted .timely };
+        since = g .since;
+        idle = g .idle;
+        busy = g .busy;
+      }
 
   -- "exactly at those elapsed ticks j × P, j below N, .. that the list reaches", and "every j" of a continuous event
   total-below : k .continuous ≡ true → g .total ≤ h .ticks + 1
@@ -390,7 +384,7 @@ module _ (p : Plan) (h : History) (k : Schedule) (g : Going p h k) where
       (omega (arith, g .told, g .placed .some))
 
   -- "started = good + failed + awaited"
-  pub balanced : h .started ≡ length (h .good) + h .failed + pick (negate (isAwaited k)) 0 1
+  pub balanced : h .started ≡ settledOf h + pick (negate (isAwaited k)) 0 1
   unfolding isAwaited
   balanced =
       by-ltb 0 (k .left .0)
@@ -405,14 +399,14 @@ module _ (p : Plan) (h : History) (k : Schedule) (g : Going p h k) where
 
 -- at acceptance
 pub going-start :
-    (p : Ticks) (N : ℕ) (c : Bool) →
+    (p : Ticks) (N : ℕ) (c each : Bool) (evtmg own : ℕ) →
     16384 ≤ p .0 →
     1 ≤ N →
-    Going (record { period = p .0; count = N; continuous = c })
-    (record { ticks = 0; starts = 0 ∷ []; last = 0; expiries = []; misjudged = 0; started = 1; good = []; failed = 0 })
+    Going (record { period = p .0; count = N; continuous = c; each = each })
+    (record { ticks = 0; starts = 0 ∷ []; last = 0; expiries = []; deliveries = []; started = 1; good = []; failed = 0; evtmg = evtmg; own = own })
     (startEvent p N c)
 unfolding startEvent multiples
-going-start p N c l o =
+going-start p N c each evtmg own l o =
     record {
       period = refl;
       planned = refl;
@@ -430,7 +424,7 @@ going-start p N c l o =
           };
       placed = record { some = omega arith; most = o; place = omega arith; alone = λ e. refl };
       told = refl;
-      counted = record { all = refl; good = refl; timely = tt; judged = refl };
+      counted = record { all = refl; good = refl; timely = tt };
       since = λ u. omega arith;
       idle = λ u. absurd (omega arith);
       busy = λ u. refl;

@@ -16,7 +16,7 @@ use Rattle.device.specs.declared.Model.{Model}
 use Rattle.device.specs.Model.{freshModel}
 use Rattle.device.specs.FlashFrame.{flashAddress, flashData, flashUnreachable, flashMemory}
 use Rattle.device.specs.Call.{Call, transaction, tick, flight, temperature, stretch, opcode, unreachable, Verdict, accepted, refused, verdict}
-use Rattle.device.specs.Reply.{acceptedMemory, reply, replyBy, memory, memoryBy, memoryOf}
+use Rattle.device.specs.Reply.{numberIn, acceptedMemory, reply, replyBy, memory, memoryBy, memoryOf}
 use Rattle.device.specs.History.{isRefusal}
 use Rattle.device.specs.FlashRun.{lent, memoryLeft, memoryThrough, flashOperation, operationOf, operations, FlashClaim}
 use Rattle.device.proofs.Table.{none-holds}
@@ -70,7 +70,7 @@ idle-done m x true = (refl, tt)
 idle-done m x false = (refl, tt)
 
 call-done : (m : Model) (x : List ℕ) (c : Call) → Done x (memoryLeft m x c) (Told m x c)
-unfolding memoryLeft lent operationOf reply replyBy memory memoryBy memoryOf isRefusal afterAll
+unfolding memoryLeft lent operationOf reply replyBy memory memoryBy memoryOf isRefusal numberIn afterAll
 call-done m x (transaction f o y) = go (verdict m (transaction f o x)) refl
   where
     go :
@@ -79,7 +79,7 @@ call-done m x (transaction f o y) = go (verdict m (transaction f o x)) refl
         Done x (memoryBy v (transaction f o x))
         (pick (isRefusal (replyBy v m (transaction f o x) .answer)) [] (operationOf (transaction f o y)))
     go accepted e =
-        rw (no-refusal m f o x) (accepted-done f o x (none-holds m (transaction f o x) e .row16))
+        rw (no-refusal m (transaction f o x)) (accepted-done f o x (none-holds m (transaction f o x) e .row16))
     go (refused n) e = (refl, tt)
 call-done m x tick = idle-done m x (isRefusal (reply m tick .answer))
 call-done m x (flight u d) = idle-done m x (isRefusal (reply m (flight u d) .answer))

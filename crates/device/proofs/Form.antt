@@ -24,7 +24,7 @@ use Rattle.device.specs.FlashFrame.{flashModel}
 use Rattle.device.specs.Bus.{supplied, unsupplied, isEvent, startedEvent, initialisedModel, haltedModel, singleStarted, runModel, readModel}
 use Rattle.device.specs.Call.{Call, transaction, tick, flight, temperature, stretch, opcode, words}
 use Rattle.device.specs.Call.{Verdict, accepted, refused, verdict}
-use Rattle.device.specs.Reply.{anyLate, portFault, acceptedAnswer, acceptedModel, replyBy, reply}
+use Rattle.device.specs.Reply.{numberIn, anyLate, portFault, acceptedAnswer, acceptedModel, replyBy, reply}
 use Rattle.device.specs.History.{isRefusal, after, log}
 use Rattle.device.specs.Form.{formGiven, lastForm, FormClaim}
 use Rattle.device.proofs.Sound.{Bounds, bounds-of, fresh-sound, keeps-sound, ticked-bounds}
@@ -78,7 +78,7 @@ Given m c =
     (formOf (acceptedModel m c) ≡ formGiven c (formOf m)) × (isRefusal (acceptedAnswer m c) ≡ false)
 
 given : (m : Model) (c : Call) → isSound m ≡ true → Given m c
-unfolding acceptedModel acceptedAnswer formGiven isRefusal failedFlightModel goodFlightModel failedTemperatureModel goodTemperatureModel
+unfolding acceptedModel acceptedAnswer formGiven isRefusal numberIn failedFlightModel goodFlightModel failedTemperatureModel goodTemperatureModel
 given m (transaction f o x) s =
     by-test (isCommand (opcode f)) (λ c. rw c (run-form m (opcode f), refl))
     (λ c. by-test (isWrite (opcode f))
@@ -95,7 +95,7 @@ given m (stretch n) s = (ticked-form n m (bounds-of m s), refl)
 step-form : (m : Model) (c : Call) →
     isSound m ≡ true →
     formOf (reply m c .model) ≡ pick (isRefusal (reply m c .answer)) (formOf m) (formGiven c (formOf m))
-unfolding reply replyBy isRefusal
+unfolding reply replyBy isRefusal numberIn
 step-form m c s = go (verdict m c)
   where
     go : (v : Verdict) →

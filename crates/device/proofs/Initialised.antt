@@ -18,7 +18,7 @@ use Rattle.device.specs.FlashFrame.{flashModel}
 use Rattle.device.specs.Bus.{supplied, unsupplied, isEvent, startedEvent, initialisedModel, haltedModel, singleStarted, runModel, readModel}
 use Rattle.device.specs.Call.{Call, transaction, tick, flight, temperature, stretch, opcode, words}
 use Rattle.device.specs.Call.{Verdict, accepted, refused, verdict}
-use Rattle.device.specs.Reply.{anyLate, portFault, acceptedAnswer, acceptedModel, replyBy, reply}
+use Rattle.device.specs.Reply.{numberIn, anyLate, portFault, acceptedAnswer, acceptedModel, replyBy, reply}
 use Rattle.device.specs.History.{isRefusal, after, log}
 use Rattle.device.specs.Initialised.{initialisedBy, lastInitialised, InitialisedClaim}
 
@@ -67,7 +67,7 @@ abbrev Given : Model → Call → Type 0
 Given m c = (acceptedModel m c .initialised ≡ initialisedBy c (m .initialised)) × (isRefusal (acceptedAnswer m c) ≡ false)
 
 given : (m : Model) (c : Call) → Given m c
-unfolding acceptedModel acceptedAnswer initialisedBy isRefusal failedFlightModel goodFlightModel failedTemperatureModel goodTemperatureModel writeModel tickModel
+unfolding acceptedModel acceptedAnswer initialisedBy isRefusal numberIn failedFlightModel goodFlightModel failedTemperatureModel goodTemperatureModel writeModel tickModel
 given m (transaction f o x) =
     by-test (isCommand (opcode f)) (λ c. rw c (run-ready m (opcode f), refl))
     (λ c. rw (others (opcode f) (m .initialised) c)
@@ -84,7 +84,7 @@ given m (stretch n) = (ticked-ready n m, refl)
 -- One call, accepted or refused.
 step-ready : (m : Model) (c : Call) →
     reply m c .model .initialised ≡ pick (isRefusal (reply m c .answer)) (m .initialised) (initialisedBy c (m .initialised))
-unfolding reply replyBy isRefusal
+unfolding reply replyBy isRefusal numberIn
 step-ready m c = go (verdict m c)
   where
     go : (v : Verdict) →

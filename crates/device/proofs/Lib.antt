@@ -24,7 +24,9 @@ pub mod ClockMeaning
 pub mod CallSteps
 pub mod NumberTen
 pub mod EventSums
+pub mod EventBits
 pub mod Others
+pub mod EventHeld
 pub mod ThirdDemand
 pub mod SoundMeaning
 pub mod FlashRun

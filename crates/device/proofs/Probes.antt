@@ -7,12 +7,14 @@ use Rattle.unit.proofs.Cases.{by-test}
 use Rattle.device.specs.declared.Flight.{Flight}
 use Rattle.device.specs.declared.Model.{Model}
 use Rattle.device.specs.declared.Reply.{Reply}
+use Rattle.device.specs.declared.Answer.the-variants.{Refused}
 use Rattle.device.specs.Model.{isSound}
 use Rattle.device.specs.Registers.{flightWord, registerWord}
 use Rattle.device.specs.Call.{Call, transaction, tick, flight, temperature, stretch, table, Verdict, accepted, refused, firstOf, verdict}
-use Rattle.device.specs.Reply.{refuse, replyBy, reply, acceptedMemory, memoryOf, memoryBy, memory}
-use Rattle.device.specs.Probes.{OtherProbes, same, values, buffer, OtherProbesIn, none, next, lent, left, flowRegisters, Flow, flowOf, flowThrough, ProbesClaim}
-use Rattle.device.proofs.ProbesBlanked.{blank, model-alike, reported, report-alike, otherRows, rows-alike}
+use Rattle.device.specs.Reply.{valuesIn, refuse, replyBy, reply, acceptedMemory, memoryOf, memoryBy, memory}
+use Rattle.device.specs.Probes.{OtherProbes, same, values, buffer, OtherProbesIn, none, next, flowRegisters, Flow, startOf, flowOf, flowThrough, ProbesClaim}
+use Rattle.device.specs.FlashRun.{lent, memoryLeft}
+use Rattle.device.proofs.ProbesBlanked.{blank, model-alike, report-alike, otherRows, rows-alike}
 use Rattle.device.proofs.Sound.{keeps-sound}
 
 -- A call of two sound models: the same number or none, and then the rest.
@@ -30,9 +32,17 @@ pub verdict-alike :
 verdict-alike m n {c} {d} s t e o =
     sound-verdict m c s ∙ ap firstOf (rows-alike m n e o) ∙ sym (sound-verdict n d t)
 
-pub record Alike (r s : Reply) : Type 0 where
+pub record Alike (c d : Call) (r s : Reply) : Type 0 where
   pub models : blank (r .model) ≡ blank (s .model)
-  pub reports : reported (r .answer) ≡ reported (s .answer)
+  pub reports : startOf c (r .answer) ≡ startOf d (s .answer)
+
+refused-none : (c : Call) (n : ℕ) → startOf c (Refused n) ≡ 0
+unfolding startOf valuesIn
+refused-none (transaction f o x) n = refl
+refused-none tick n = refl
+refused-none (flight u d) n = refl
+refused-none (temperature w) n = refl
+refused-none (stretch k) n = refl
 
 pub reply-alike :
     (m n : Model) {c d : Call} →
@@ -40,13 +50,13 @@ pub reply-alike :
     isSound n ≡ true →
     blank m ≡ blank n →
     OtherProbes c d →
-    Alike (reply m c) (reply n d)
+    Alike c d (reply m c) (reply n d)
 unfolding reply replyBy
 reply-alike m n {c} {d} s t e o = rw (verdict-alike m n s t e o) (go (verdict n d))
   where
-    go : (v : Verdict) → Alike (replyBy v m c) (replyBy v n d)
+    go : (v : Verdict) → Alike c d (replyBy v m c) (replyBy v n d)
     go accepted = record { models = model-alike m n e o; reports = report-alike m n e o }
-    go (refused k) = record { models = e; reports = refl }
+    go (refused k) = record { models = e; reports = refused-none c k ∙ sym (refused-none d k) }
 
 -- The memory that a run lends changes nothing of this, and both runs leave the same.
 lent-alike : (x : List ℕ) {c d : Call} → OtherProbes c d → OtherProbes (lent x c) (lent x d)
@@ -61,8 +71,8 @@ leftBy v x (flight u d) = x
 leftBy v x (temperature w) = x
 leftBy v x (stretch n) = x
 
-left-by : (m : Model) (x : List ℕ) (c : Call) → left m x c ≡ leftBy (verdict m (lent x c)) x c
-unfolding left leftBy lent memory
+left-by : (m : Model) (x : List ℕ) (c : Call) → memoryLeft m x c ≡ leftBy (verdict m (lent x c)) x c
+unfolding memoryLeft leftBy lent memory
 left-by m x (transaction f o y) = refl
 left-by m x tick = refl
 left-by m x (flight u d) = refl
@@ -82,25 +92,25 @@ left-alike :
     isSound n ≡ true →
     blank m ≡ blank n →
     OtherProbes c d →
-    left m x c ≡ left n x d
+    memoryLeft m x c ≡ memoryLeft n x d
 left-alike m n x {c} {d} s t e o =
     left-by m x c ∙ ap (λ (v : Verdict). leftBy v x c) (verdict-alike m n s t e (lent-alike x o)) ∙
     left-other (verdict n (lent x d)) x o ∙ sym (left-by n x d)
 
 -- What is compared is the report, what the flight reads, and the memory.
-unfoldable flowBy : Bool × ℕ → Flight → List ℕ → Flow
-flowBy r f x = record { started = r .0; tick = r .1; words = map (flightWord f) flowRegisters; memory = x }
+unfoldable flowBy : ℕ → Flight → List ℕ → Flow
+flowBy started f x = record { started = started; words = map (flightWord f) flowRegisters; memory = x }
 
-flow-read : (r : Reply) (x : List ℕ) → flowOf r x ≡ flowBy (reported (r .answer)) (blank (r .model) .flight) x
-unfolding flowOf flowBy reported registerWord flowRegisters blank
-flow-read r x = refl
+flow-read : (c : Call) (r : Reply) (x : List ℕ) → flowOf c r x ≡ flowBy (startOf c (r .answer)) (blank (r .model) .flight) x
+unfolding flowOf flowBy registerWord flowRegisters blank
+flow-read c r x = refl
 
-flow-alike : {r s : Reply} {x y : List ℕ} → Alike r s → x ≡ y → flowOf r x ≡ flowOf s y
-flow-alike {r} {s} {x} {y} a e =
-    flow-read r x ∙ ap (λ (p : Model). flowBy (reported (r .answer)) (p .flight) x) (a .models) ∙
-    ap (λ (p : Bool × ℕ). flowBy p (blank (s .model) .flight) x) (a .reports) ∙
-    ap (flowBy (reported (s .answer)) (blank (s .model) .flight)) e ∙
-    sym (flow-read s y)
+flow-alike : {c d : Call} {r s : Reply} {x y : List ℕ} → Alike c d r s → x ≡ y → flowOf c r x ≡ flowOf d s y
+flow-alike {c} {d} {r} {s} {x} {y} a e =
+    flow-read c r x ∙ ap (λ (p : Model). flowBy (startOf c (r .answer)) (p .flight) x) (a .models) ∙
+    ap (λ (t : ℕ). flowBy t (blank (s .model) .flight) x) (a .reports) ∙
+    ap (flowBy (startOf d (s .answer)) (blank (s .model) .flight)) e ∙
+    sym (flow-read d s y)
 
 -- Both lists.
 through-alike :
@@ -116,8 +126,8 @@ through-alike m n x s t e (next c d cs ds o os) =
     let a = reply-alike m n s t e (lent-alike x o) in
     let l = left-alike m n x s t e o in
     rw (flow-alike a l, l)
-    (ap (λ (fs : List Flow). flowOf (reply n (lent x d)) (left n x d) ∷ fs)
-    (through-alike (reply m (lent x c) .model) (reply n (lent x d) .model) (left n x d) (keeps-sound m (lent x c) s)
+    (ap (λ (fs : List Flow). flowOf (lent x d) (reply n (lent x d)) (memoryLeft n x d) ∷ fs)
+    (through-alike (reply m (lent x c) .model) (reply n (lent x d) .model) (memoryLeft n x d) (keeps-sound m (lent x c) s)
     (keeps-sound n (lent x d) t) (a .models) os))
 
 -- A model that is not sound refuses every call, and stays; so does the memory.
@@ -125,8 +135,8 @@ unsound-refuses : (m : Model) (c : Call) → isSound m ≡ false → reply m c �
 unfolding reply replyBy verdict firstOf table
 unsound-refuses m c s = rw s
 
-unsound-left : (m : Model) (x : List ℕ) (c : Call) → isSound m ≡ false → left m x c ≡ x
-unfolding left memory memoryBy memoryOf verdict firstOf table
+unsound-left : (m : Model) (x : List ℕ) (c : Call) → isSound m ≡ false → memoryLeft m x c ≡ x
+unfolding memoryLeft memory memoryBy memoryOf verdict firstOf table
 unsound-left m x (transaction f o y) s = rw s
 unsound-left m x tick s = refl
 unsound-left m x (flight u d) s = refl
@@ -141,8 +151,11 @@ unsound-through :
 unfolding flowThrough
 unsound-through m x s none = refl
 unsound-through m x s (next c d cs ds o os) =
-    rw (unsound-refuses m (lent x c) s, unsound-refuses m (lent x d) s, unsound-left m x c s, unsound-left m x d s)
-    (ap (λ (fs : List Flow). flowOf (refuse 0 m) x ∷ fs) (unsound-through m x s os))
+    let a : Alike (lent x c) (lent x d) (refuse 0 m) (refuse 0 m) =
+    record { models = refl; reports = refused-none (lent x c) 0 ∙ sym (refused-none (lent x d) 0) } in
+    let e : x ≡ x = refl in
+    rw (unsound-refuses m (lent x c) s, unsound-refuses m (lent x d) s, unsound-left m x c s, unsound-left m x d s, flow-alike a e)
+    (ap (λ (fs : List Flow). flowOf (lent x d) (refuse 0 m) x ∷ fs) (unsound-through m x s os))
 
 pub probes-leave-flow : ProbesClaim
 probes-leave-flow m x cs ds o =

@@ -6,15 +6,12 @@ use mathlib.Core.List.{List, []}
 use mathlib.Core.Path.{_≡_, refl, ap, sym, _∙_}
 use lib.ListN.{drop}
 use lib.Dec.{ltb, leb, eqb}
-use Rattle.unit.specs.Choice.{pick}
 use Rattle.unit.proofs.Cases.{by-test}
 use Rattle.unit.specs.declared.Quanta.{Quanta}
 use Rattle.frame.specs.Frame.{isCommand, isWrite, isFlash}
 use Rattle.device.specs.declared.Schedule.{Schedule}
 use Rattle.device.specs.declared.Temperature.{Temperature}
 use Rattle.device.specs.declared.Model.{Model}
-use Rattle.device.specs.declared.Answer.{Answer}
-use Rattle.device.specs.declared.Answer.the-variants.{Good, Failed}
 use Rattle.device.specs.Event.{isAwaited, inEvent, startsLeft, begins, beginsGroup, fails, startSingle, leftAfter, waitAfter, startedAfter, settledAfter, goodAfter, tickSchedule, settle, haltSchedule}
 use Rattle.device.specs.Status.{noBits}
 use Rattle.device.specs.Model.{kindBusy, isBusy, withTemperature}
@@ -29,9 +26,8 @@ use Rattle.device.specs.FlashFrame.{flashModel}
 use Rattle.device.specs.Call.{Call, transaction, tick, flight, temperature, stretch, opcode, words, Row, table}
 use Rattle.device.specs.Call.{noFrame, notCarried, wrongLength, pastRegisters, shortOutput, whileBusy, supplyOff, unreachable, unerased}
 use Rattle.device.specs.Call.{badCalendar, notInitialised, badSetup, notAwaited, miscounted, tooLong}
-use Rattle.device.specs.Reply.{anyLate, portFault, acceptedAnswer, acceptedModel}
-use Rattle.device.specs.History.{differences, startReported, named}
-use Rattle.device.specs.Probes.{OtherProbes, same, values, buffer}
+use Rattle.device.specs.Reply.{anyLate, portFault, valuesIn, acceptedAnswer, acceptedModel}
+use Rattle.device.specs.Probes.{OtherProbes, same, values, buffer, startOf}
 
 -- The count of good temperatures, the sums, the ports and the status.
 unfoldable pub uncounted : Schedule → Schedule
@@ -192,42 +188,29 @@ pub model-alike :
 model-alike m n e o = alike (λ (m : Model) (c : Call). blank (acceptedModel m c)) model-same m n e (model-other n o)
 
 -- What its answer reports of difference starts; a delivery's reports none.
-unfoldable pub reported : Answer → Bool × ℕ
-reported a = (startReported differences a, named differences a .started)
+abbrev reported : Model → Call → ℕ
+reported m c = startOf c (acceptedAnswer m c)
 
-delivery-reports : (t : Bool) → reported (pick t Failed Good) ≡ (false, 0)
-unfolding reported startReported named
-delivery-reports true = refl
-delivery-reports false = refl
-
-flight-reports : (m : Model) (u d : List ℕ) → reported (acceptedAnswer m (flight u d)) ≡ (false, 0)
-unfolding acceptedAnswer
-flight-reports m u d = delivery-reports (anyLate m u d)
-
-temperature-reports : (m : Model) (w : List ℕ) → reported (acceptedAnswer m (temperature w)) ≡ (false, 0)
-unfolding acceptedAnswer
-temperature-reports m w = delivery-reports (portFault m w)
-
-report-same : (m : Model) (c : Call) → reported (acceptedAnswer m c) ≡ reported (acceptedAnswer (blank m) c)
-unfolding reported startReported named acceptedAnswer blank
+report-same : (m : Model) (c : Call) → reported m c ≡ reported (blank m) c
+unfolding startOf valuesIn acceptedAnswer blank
 report-same m (transaction f o x) = refl
 report-same m tick = refl
-report-same m (flight u d) = flight-reports m u d ∙ sym (flight-reports (blank m) u d)
-report-same m (temperature w) = temperature-reports m w ∙ sym (temperature-reports (blank m) w)
+report-same m (flight u d) = refl
+report-same m (temperature w) = refl
 report-same m (stretch n) = refl
 
-report-other : (m : Model) {c d : Call} → OtherProbes c d → reported (acceptedAnswer m c) ≡ reported (acceptedAnswer m d)
+report-other : (m : Model) {c d : Call} → OtherProbes c d → reported m c ≡ reported m d
+unfolding startOf acceptedAnswer
 report-other m (same c) = refl
-report-other m (values v w l) = temperature-reports m v ∙ sym (temperature-reports m w)
-report-other m (buffer f o p x l) = unfold acceptedAnswer in refl
+report-other m (values v w l) = refl
+report-other m (buffer f o p x l) = refl
 
 pub report-alike :
     (m n : Model) {c d : Call} →
     blank m ≡ blank n →
     OtherProbes c d →
-    reported (acceptedAnswer m c) ≡ reported (acceptedAnswer n d)
-report-alike m n e o =
-    alike (λ (m : Model) (c : Call). reported (acceptedAnswer m c)) report-same m n e (report-other n o)
+    startOf c (acceptedAnswer m c) ≡ startOf d (acceptedAnswer n d)
+report-alike m n e o = alike reported report-same m n e (report-other n o)
 
 -- The rows of the table after that of number 0. None looks at more than the number of words and the buffer's length.
 abbrev pub otherRows : Model → Call → List Row

@@ -1,7 +1,6 @@
 -- Over every list of calls each register of the set-up has the word last written to it since Reset.
 use Prim.Native.Nat.{ℕ, zero, suc, _+_, _-_, _≤_, _<_}
 use native.Mathlib.Omega.{arith}
-use mathlib.Core.Bool.{false}
 use mathlib.Core.List.{List, [], _∷_, map}
 use mathlib.Core.Path.{_≡_, refl, ap, sym, _∙_}
 use lib.ListN.{length, getD, drop}
@@ -20,11 +19,12 @@ use Rattle.device.specs.FlashFrame.{flashModel}
 use Rattle.device.specs.Bus.{supplied, unsupplied, isEvent, startedEvent, initialisedModel, haltedModel, singleStarted, runModel, readModel}
 use Rattle.device.specs.Call.{Call, transaction, tick, flight, temperature, stretch, opcode, words}
 use Rattle.device.specs.Call.{Verdict, accepted, refused, verdict}
-use Rattle.device.specs.Reply.{anyLate, portFault, acceptedAnswer, acceptedModel, replyBy, reply}
+use Rattle.device.specs.Reply.{numberIn, anyLate, portFault, acceptedModel, replyBy, reply}
 use Rattle.device.specs.History.{isRefusal, after, log}
-use Rattle.device.specs.SetupTold.{wordGiven, lastWord, setupTold, SetupClaim}
+use Rattle.device.specs.SetupTold.{wordGiven, lastWritten, setupTold, SetupClaim}
 use Rattle.device.proofs.RegisterMeaning.{setup-length, setup-means}
 use Rattle.device.proofs.Stretch.{setup-ticked}
+use Rattle.device.proofs.CallSteps.{no-refusal}
 
 run-setup : (m : Model) (op : ℕ) → runModel m op .setup ≡ pick (eqb op 4) factory (m .setup)
 unfolding runModel resetModel freshWith initialisedModel haltedModel supplied unsupplied startedEvent singleStarted
@@ -49,11 +49,10 @@ flash-setup : (m : Model) (op : ℕ) → flashModel m op .setup ≡ m .setup
 unfolding flashModel
 flash-setup m op = by-test (eqb op 0x90) (λ e. rw e) (λ e. rw e)
 
--- What one accepted call does to the set-up, and that its answer is no refusal.
+-- What one accepted call does to the set-up.
 pub record Given (m : Model) (c : Call) : Type 0 where
   pub long : length (acceptedModel m c .setup) ≡ 16
   pub word : (a : ℕ) → 0x34 ≤ a → a ≤ 0x43 → wordOf (acceptedModel m c .setup) a ≡ wordGiven a c (wordOf (m .setup) a)
-  told : isRefusal (acceptedAnswer m c) ≡ false
 
 factory-long : length factory ≡ 16
 unfolding factory
@@ -82,42 +81,38 @@ unfolding writeModel
 write-long m bytes op n l = setup-length bytes op (m .setup) n ∙ l
 
 pub given : (m : Model) (c : Call) → length (m .setup) ≡ 16 → Given m c
-unfolding acceptedModel acceptedAnswer wordGiven isRefusal written tickModel failedFlightModel goodFlightModel failedTemperatureModel goodTemperatureModel
+unfolding acceptedModel wordGiven written tickModel failedFlightModel goodFlightModel failedTemperatureModel goodTemperatureModel
 given m (transaction f o x) l =
     by-test (isCommand (opcode f))
     (λ c. record {
       long = rw c (run-long m (opcode f) l);
       word = λ a h i. rw c (run-word m (opcode f) a);
-      told = rw c;
     })
     (λ c. by-test (isWrite (opcode f))
     (λ w. record {
       long = rw (c, w) (write-long m (drop 1 f) (opcode f) (words f) l);
       word = λ a h i. rw (c, w) (write-word m (drop 1 f) (opcode f) (words f) a l h i);
-      told = rw (c, w);
     })
     (λ w. by-test (isFlash (opcode f))
     (λ u. record {
       long = rw (c, w, u, flash-setup m (opcode f)) l;
       word = λ a h i. rw (c, w, u, flash-setup m (opcode f));
-      told = rw (c, w, u);
     })
     (λ u. record {
       long = rw (c, w, u, read-setup m (opcode f) (words f)) l;
       word = λ a h i. rw (c, w, u, read-setup m (opcode f) (words f));
-      told = rw (c, w, u);
     })))
-given m tick l = record { long = l; word = λ a h i. refl; told = refl }
+given m tick l = record { long = l; word = λ a h i. refl }
 given m (flight u d) l =
     by-test (anyLate m u d)
-    (λ e. record { long = rw e l; word = λ a h i. rw e; told = rw e })
-    (λ e. record { long = rw e l; word = λ a h i. rw e; told = rw e })
+    (λ e. record { long = rw e l; word = λ a h i. rw e })
+    (λ e. record { long = rw e l; word = λ a h i. rw e })
 given m (temperature w) l =
     by-test (portFault m w)
-    (λ e. record { long = rw e l; word = λ a h i. rw e; told = rw e })
-    (λ e. record { long = rw e l; word = λ a h i. rw e; told = rw e })
+    (λ e. record { long = rw e l; word = λ a h i. rw e })
+    (λ e. record { long = rw e l; word = λ a h i. rw e })
 given m (stretch n) l =
-    record { long = rw (setup-ticked n m) l; word = λ a h i. rw (setup-ticked n m); told = refl }
+    record { long = rw (setup-ticked n m) l; word = λ a h i. rw (setup-ticked n m) }
 
 -- One call, accepted or refused.
 step-long : (m : Model) (c : Call) → length (m .setup) ≡ 16 → length (reply m c .model .setup) ≡ 16
@@ -135,13 +130,13 @@ step-word :
     a ≤ 0x43 →
     wordOf (reply m c .model .setup) a
     ≡ pick (isRefusal (reply m c .answer)) (wordOf (m .setup) a) (wordGiven a c (wordOf (m .setup) a))
-unfolding reply replyBy isRefusal
+unfolding reply replyBy isRefusal numberIn
 step-word m c a l h i = go (verdict m c)
   where
     go : (v : Verdict) →
         wordOf (replyBy v m c .model .setup) a
         ≡ pick (isRefusal (replyBy v m c .answer)) (wordOf (m .setup) a) (wordGiven a c (wordOf (m .setup) a))
-    go accepted = rw (given m c l .told) (given m c l .word a h i)
+    go accepted = rw (no-refusal m c) (given m c l .word a h i)
     go (refused n) = refl
 
 pub all-long : (cs : List Call) (m : Model) → length (m .setup) ≡ 16 → length (after m cs .setup) ≡ 16
@@ -154,12 +149,12 @@ all-words :
     length (m .setup) ≡ 16 →
     0x34 ≤ a →
     a ≤ 0x43 →
-    wordOf (after m cs .setup) a ≡ lastWord a (log m cs) (wordOf (m .setup) a)
-unfolding after log lastWord
+    wordOf (after m cs .setup) a ≡ lastWritten a (log m cs) (wordOf (m .setup) a)
+unfolding after log lastWritten
 all-words [] m a l h i = refl
 all-words (c ∷ cs) m a l h i =
     all-words cs (reply m c .model) a (step-long m c l) h i ∙
-    ap (lastWord a (log (reply m c .model) cs)) (step-word m c a l h i)
+    ap (lastWritten a (log (reply m c .model) cs)) (step-word m c a l h i)
 
 -- A list of sixteen words is its words one by one.
 shifted :
@@ -193,8 +188,8 @@ setup-told cs =
     let l : length (freshModel .setup) ≡ 16 = unfold freshModel freshWith in factory-long in
     let s : List ℕ = after freshModel cs .setup in
     sixteen s (all-long cs freshModel l) ∙
-    same-map (wordOf s) (λ (a : ℕ). lastWord a (log freshModel cs) (wordOf factory a)) 0x34 16
+    same-map (wordOf s) (λ (a : ℕ). lastWritten a (log freshModel cs) (wordOf factory a)) 0x34 16
     (λ a h i. all-words cs freshModel a l h (omega arith) ∙ fresh-word a)
   where
-    fresh-word : (a : ℕ) → lastWord a (log freshModel cs) (wordOf (freshModel .setup) a) ≡ lastWord a (log freshModel cs) (wordOf factory a)
+    fresh-word : (a : ℕ) → lastWritten a (log freshModel cs) (wordOf (freshModel .setup) a) ≡ lastWritten a (log freshModel cs) (wordOf factory a)
     fresh-word a = unfold freshModel freshWith in refl

@@ -2,9 +2,9 @@
 use Prim.Native.Nat.{ℕ, _+_, _≤_, _<_}
 use native.Mathlib.Omega.{arith}
 use mathlib.Core.Bool.{true, false}
-use mathlib.Core.List.{List, [], _∷_}
+use mathlib.Core.List.{List, [], _∷_, map}
 use mathlib.Core.Logic.{_⊎_, inl, inr, ⊎-elim}
-use mathlib.Core.Path.{_≡_, refl, ap, sym, _∙_}
+use mathlib.Core.Path.{_≡_, ap}
 use lib.Dec.{eqb}
 use Rattle.unit.specs.Choice.{negate}
 use Rattle.unit.proofs.Cases.{by-test}
@@ -12,29 +12,27 @@ use Rattle.calendar.proofs.Validity.{AlarmValid, alarm-means}
 use Rattle.setup.specs.Setup.{wordOf, alarmWord}
 use Rattle.frame.specs.Frame.{isCommand}
 use Rattle.hit.specs.Mean.{All}
-use Rattle.device.specs.declared.Schedule.{Schedule}
 use Rattle.device.specs.declared.Model.{Model}
 use Rattle.device.specs.declared.Answer.the-variants.{Ticked}
-use Rattle.device.specs.Event.{begins, fails}
 use Rattle.device.specs.Model.{isSound, freshModel}
 use Rattle.device.specs.Tick.{reportOf}
-use Rattle.device.specs.Stretch.{modelTicked, scheduleTicked, stretchReport}
+use Rattle.device.specs.Stretch.{modelTicked, stretchReport}
 use Rattle.device.specs.Bus.{mustBeIdle, startsFlight, startsTemperature, isEvent, commandBusy, beforeInitialize}
 use Rattle.device.specs.Bus.{flightSideUnset, temperatureSideUnset, eventSideUnset, commandUnset, runModel}
 use Rattle.device.specs.Call.{Call, Row, tick, stretch, noFrame, notCarried, wrongLength, pastRegisters, shortOutput, whileBusy}
 use Rattle.device.specs.Call.{supplyOff, unreachable, unerased, badCalendar, notInitialised, badSetup, notAwaited, miscounted, tooLong}
 use Rattle.device.specs.Call.{table, firstOf, accepted, refused, verdict}
-use Rattle.device.specs.Reply.{acceptedAnswer, acceptedModel, reply, replyBy}
-use Rattle.device.specs.History.{Kind, differences, temperatures, after, startReported, failureReported, named}
+use Rattle.device.specs.Reply.{acceptedAnswer, acceptedModel, flag, valuesIn, reply, replyBy}
+use Rattle.device.specs.History.{differences, temperatures, after}
 use Rattle.device.specs.Claim.{command, NotBusy}
 use Rattle.device.specs.FirstDemand.{First}
 use Rattle.device.proofs.Table.{refused-means}
-use Rattle.device.proofs.TickCases.{by-begins}
-use Rattle.device.proofs.Sound.{ScheduleBounds, bounds-of, sound-of, ticked-bounds, fresh-sound, keeps-sound}
+use Rattle.device.proofs.Sound.{bounds-of, sound-of, ticked-bounds, fresh-sound, keeps-sound}
 use Rattle.device.proofs.Awaited.{halt-idle}
 use Rattle.device.proofs.CommandMeaning.{run-others}
 use Rattle.device.proofs.StartMeaning.{halt-ticks}
-use Rattle.device.proofs.Stretch.{scheduleOf, schedule-ticked, Apart, start-named, failure-named}
+use Rattle.device.proofs.Stretch.{start-named, failure-named}
+use Rattle.device.proofs.Replies.{reply-tick}
 use Rattle.device.proofs.CallSteps.{tick-accepted}
 use Rattle.device.proofs.ThirdDemand.{sound-after, write-idle}
 
@@ -108,53 +106,24 @@ never-zero cs c e =
 pub sound-alarm : (m : Model) → isSound m ≡ true → AlarmValid (wordOf (m .setup) 0x35)
 sound-alarm m s = unfold alarmWord in alarm-means (wordOf (m .setup) 0x35) .0 (bounds-of m s .alarm)
 
--- "periods are long enough that there is at most one of each": what a stretch names is exactly what its ticks would report
-sound-apart : (k : Schedule) → ScheduleBounds k → Apart k
-sound-apart k b =
-    record {
-      long = λ u. b .wait u .long;
-      alone = λ e. by-begins k (λ l w _. absurd (omega (arith, b .wait l .apart (omega arith)))) (λ f n. n);
-      before = λ e l. omega (arith, b .wait l .apart (omega arith));
-    }
-
-ticked-apart : (m : Model) → isSound m ≡ true → (k : Kind) (j : ℕ) → Apart (scheduleTicked j (scheduleOf k m))
-ticked-apart m s differences j =
-    rw (← schedule-ticked differences j m)
-    (sound-apart (modelTicked j m .flight .schedule) (ticked-bounds j m (bounds-of m s) .flight .schedule))
-ticked-apart m s temperatures j =
-    rw (← schedule-ticked temperatures j m)
-    (sound-apart (modelTicked j m .temperature .schedule) (ticked-bounds j m (bounds-of m s) .temperature .schedule))
-
-tick-reports :
-    (k : Kind) (m : Model) →
+-- "a start or failure named in its answer as reported by that tick" (Note 1): each of the four values of tick j + 1's answer says
+-- whether that value of the stretch's answer names this tick
+pub named-exactly :
+    (m : Model) (n j : ℕ) →
     isSound m ≡ true →
-    (startReported k (reply m tick .answer) ≡ begins (scheduleOf k m)) × (failureReported k (reply m tick .answer) ≡ fails (scheduleOf k m))
-unfolding reply replyBy acceptedAnswer startReported failureReported reportOf
-tick-reports differences m s = rw (tick-accepted m s) (refl, refl)
-tick-reports temperatures m s = rw (tick-accepted m s) (refl, refl)
-
-stretch-names :
-    (k : Kind) (m : Model) (n : ℕ) → named k (acceptedAnswer m (stretch n)) ≡ stretchReport (scheduleOf k m) n
-unfolding acceptedAnswer named
-stretch-names differences m n = refl
-stretch-names temperatures m n = refl
-
-module _ (m : Model) (s : isSound m ≡ true) (k : Kind) (n j : ℕ) (l : j < n) (u : n ≤ 16384) where
-  pub start-exactly :
-      startReported k (reply (modelTicked j m) tick .answer) ≡ eqb (named k (acceptedAnswer m (stretch n)) .started) (j + 1)
-  unfolding stretchReport
-  start-exactly =
-      tick-reports k (modelTicked j m) (sound-of (modelTicked j m) (ticked-bounds j m (bounds-of m s))) .0 ∙
-      ap begins (schedule-ticked k j m) ∙
-      sym (rw (stretch-names k m n) (start-named (scheduleOf k m) n j l u (ticked-apart m s k j)))
-
-  pub failure-exactly :
-      failureReported k (reply (modelTicked j m) tick .answer) ≡ eqb (named k (acceptedAnswer m (stretch n)) .failed) (j + 1)
-  unfolding stretchReport
-  failure-exactly =
-      tick-reports k (modelTicked j m) (sound-of (modelTicked j m) (ticked-bounds j m (bounds-of m s))) .1 ∙
-      ap fails (schedule-ticked k j m) ∙
-      sym (rw (stretch-names k m n) (failure-named (scheduleOf k m) n j l u (ticked-apart m s k j)))
+    j < n →
+    n ≤ 16384 →
+    valuesIn (reply (modelTicked j m) tick .answer)
+    ≡ map (λ (t : ℕ). flag (eqb t (j + 1))) (valuesIn (acceptedAnswer m (stretch n)))
+unfolding acceptedAnswer valuesIn stretchReport reportOf
+named-exactly m n j s l u =
+    rw (
+      reply-tick (modelTicked j m) (sound-of (modelTicked j m) (ticked-bounds j m (bounds-of m s))),
+      start-named m s differences n j l u,
+      failure-named m s differences n j l u,
+      start-named m s temperatures n j l u,
+      failure-named m s temperatures n j l u,
+    )
 
 -- "0Ah HALT drops awaited measurements, ends the event, .. also when idle": it is accepted, number 6 is not given for a write after it,
 -- and no tick reports a start or a failure

@@ -18,17 +18,18 @@ use Rattle.device.specs.Event.{startsLeft, begins, fails, leftAfter, wai
 use Rattle.device.specs.Results.{failedFlight}
 use Rattle.device.specs.Tick.{flightTicked, flightAfter, temperatureAfter, clockTicked, tickModel}
 use Rattle.device.specs.Stretch.{modelTicked, scheduleTicked, lastTick}
-use Rattle.device.specs.History.{Kind, differences, temperatures, Plan, History}
+use Rattle.device.specs.Model.{isSound}
+use Rattle.device.specs.History.{Kind, differences, temperatures, Plan, History, noteTick, noteTicks}
 use Rattle.device.proofs.Table.{picked}
 use Rattle.device.proofs.TickCases.{by-begins, left-before}
-use Rattle.device.proofs.EventSchedule.{Going, none-awaited}
+use Rattle.device.proofs.Sound.{ScheduleBounds, Bounds, bounds-of, ticked-bounds}
 
 -- The schedule of a kind.
 abbrev pub scheduleOf : Kind → Model → Schedule
 scheduleOf differences m = m .flight .schedule
 scheduleOf temperatures m = m .temperature .schedule
 
-schedule-tick : (k : Kind) (m : Model) → scheduleOf k (tickModel m) ≡ tickSchedule (scheduleOf k m)
+pub schedule-tick : (k : Kind) (m : Model) → scheduleOf k (tickModel m) ≡ tickSchedule (scheduleOf k m)
 unfolding tickModel flightAfter flightTicked failedFlight temperatureAfter
 schedule-tick differences m = by-test (fails (m .flight .schedule)) (λ e. rw e) (λ e. rw e)
 schedule-tick temperatures m = by-test (fails (m .temperature .schedule)) (λ e. rw e) (λ e. rw e)
@@ -64,7 +65,7 @@ last-below test k (suc n) =
     picked (λ x. x ≤ suc n) (test (scheduleTicked n k)) (λ _. omega arith) (λ _. omega (arith, last-below test k n))
 
 -- where what the test asks happens once in n ticks, the named tick is where it happens
-pub named-once :
+named-once :
     (test : Schedule → Bool) (k : Schedule) (n j : ℕ) →
     j < n →
     ((i : ℕ) → j < i → i < n → test (scheduleTicked j k) ≡ true → test (scheduleTicked i k) ≡ false) →
@@ -116,7 +117,7 @@ begins-waits k e = by-begins k (λ l w b. w) (λ f b. let z : _≡_ {A = ℕ} 0 
 waits-rests : (k : Schedule) → 1 < k .wait .0 → begins k ≡ false
 waits-rests k v = by-begins k (λ l w b. absurd (omega arith)) (λ f b. b)
 
-pub starts-once :
+starts-once :
     (k : Schedule) (j i : ℕ) →
     16384 ≤ k .period .0 →
     j < i →
@@ -178,21 +179,17 @@ rests-tick : (j i : ℕ) (k : Schedule) → Rests j i k → Rests j (suc i) (tic
 rests-tick j i k r = by-begins k (rests-starts j i k r) (rests-on j i k r)
 
 -- What is asked of the schedule before the failure: it is apart from starts.
-pub record Apart (k : Schedule) : Type 0 where
-  pub long : startsLeft k ≡ true → 16384 ≤ k .period .0
-  pub alone : k .left .0 ≡ 1 → begins k ≡ false
-  pub before : k .left .0 ≡ 1 → startsLeft k ≡ true → 8193 ≤ k .wait .0
+record Apart (k : Schedule) : Type 0 where
+  long : startsLeft k ≡ true → 16384 ≤ k .period .0
+  alone : k .left .0 ≡ 1 → begins k ≡ false
+  before : k .left .0 ≡ 1 → startsLeft k ≡ true → 8193 ≤ k .wait .0
 
-pub apart : (p : Plan) (h : History) (k : Schedule) → Going p h k → Apart k
-apart p h k g =
+sound-apart : (k : Schedule) → ScheduleBounds k → Apart k
+sound-apart k b =
     record {
-      long = λ _. omega (arith, g .period, g .begun .long);
-      alone =
-          λ e.
-          by-begins k
-          (λ l w b. absurd (omega (arith, none-awaited p h k g l w)))
-          (λ f b. b);
-      before = λ e l. omega (arith, g .since (omega arith), g .begun .next l, g .begun .long, g .begun .last);
+      long = λ u. b .wait u .long;
+      alone = λ e. by-begins k (λ l w _. absurd (omega (arith, b .wait l .apart (omega arith)))) (λ f n. n);
+      before = λ e l. omega (arith, b .wait l .apart (omega arith));
     }
 
 first-rest : (j : ℕ) (k : Schedule) → Apart k → k .left .0 ≡ 1 → Rests j (suc j) (tickSchedule k)
@@ -226,7 +223,7 @@ left-fails : (k : Schedule) → ¬ (k .left .0 ≡ 1) → fails k ≡ false
 unfolding fails
 left-fails k n = rw (ne-eqb (k .left .0) 1 n)
 
-pub fails-once :
+fails-once :
     (k : Schedule) (j i : ℕ) →
     Apart (scheduleTicked j k) →
     j < i →
@@ -239,23 +236,45 @@ fails-once k j i a l b e =
     ⊎-elim (λ p. omega arith) (λ r. omega arith)
     (rests-all k j i a (fails-left (scheduleTicked j k) e) l))
 
--- So the tick that a stretch names is exactly the tick that reports a start, or a failure.
-pub start-named :
-    (k : Schedule) (n j : ℕ) →
-    j < n →
-    n ≤ 16384 →
-    Apart (scheduleTicked j k) →
-    eqb (lastTick begins k n) (j + 1) ≡ begins (scheduleTicked j k)
-start-named k n j l m a =
-    named-once begins k n j l
-    (λ i c d e.
-    starts-once k j i (omega (arith, a .long (begins-some (scheduleTicked j k) e), ap (λ (p : Ticks). p .0) (period-ticked j k))) c
-    (omega arith) e)
+-- So the tick that a stretch of a sound model names is exactly the tick that reports a start, or a failure: "periods are long enough
+-- that there is at most one of each" (Note 1).
+module _ (m : Model) (s : isSound m ≡ true) (k : Kind) (n j : ℕ) (l : j < n) (u : n ≤ 16384) where
+  apart-then : Apart (scheduleTicked j (scheduleOf k m))
+  apart-then =
+      rw (← schedule-ticked k j m) (sound-apart (scheduleOf k (modelTicked j m)) (bounds k (ticked-bounds j m (bounds-of m s))))
+    where
+      bounds : (k : Kind) → Bounds (modelTicked j m) → ScheduleBounds (scheduleOf k (modelTicked j m))
+      bounds differences b = b .flight .schedule
+      bounds temperatures b = b .temperature .schedule
 
-pub failure-named :
-    (k : Schedule) (n j : ℕ) →
-    j < n →
+  pub start-named : eqb (lastTick begins (scheduleOf k m) n) (j + 1) ≡ begins (scheduleOf k (modelTicked j m))
+  start-named =
+      let c : Schedule = scheduleOf k m in
+      rw (schedule-ticked k j m)
+      (named-once begins c n j l
+      (λ i a d e.
+      starts-once c j i
+      (omega (arith, apart-then .long (begins-some (scheduleTicked j c) e), ap (λ (p : Ticks). p .0) (period-ticked j c))) a
+      (omega arith) e))
+
+  pub failure-named : eqb (lastTick fails (scheduleOf k m) n) (j + 1) ≡ fails (scheduleOf k (modelTicked j m))
+  failure-named =
+      let c : Schedule = scheduleOf k m in
+      rw (schedule-ticked k j m) (named-once fails c n j l (λ i a d e. fails-once c j i apart-then a (omega arith) e))
+
+-- What each tick keeps of what was told, a stretch keeps: up to tick j of its n.
+pub over-ticks :
+    (k : Kind) (p : Plan) (P : History → Model → Type 0) →
+    ((h : History) (m : Model) → P h m → isSound m ≡ true) →
+    ((h : History) (m : Model) → P h m → P (noteTick p (begins (scheduleOf k m)) (fails (scheduleOf k m)) h) (tickModel m)) →
+    (m : Model) (h : History) (n j : ℕ) →
     n ≤ 16384 →
-    Apart (scheduleTicked j k) →
-    eqb (lastTick fails k n) (j + 1) ≡ fails (scheduleTicked j k)
-failure-named k n j l m a = named-once fails k n j l (λ i c d e. fails-once k j i a c (omega arith) e)
+    j ≤ n →
+    P h m →
+    P (noteTicks p j (lastTick begins (scheduleOf k m) n) (lastTick fails (scheduleOf k m) n) h) (modelTicked j m)
+unfolding noteTicks modelTicked
+over-ticks k p P sound each m h n zero l u i = i
+over-ticks k p P sound each m h n (suc j) l u i =
+    let s = sound h m i in
+    rw (start-named m s k n j (omega arith) l, failure-named m s k n j (omega arith) l)
+    (each _ (modelTicked j m) (over-ticks k p P sound each m h n j l (omega arith) i))

@@ -18,7 +18,7 @@ use Rattle.device.specs.FlashFrame.{flashModel}
 use Rattle.device.specs.Bus.{isEvent, startedEvent, initialisedModel, haltedModel, singleStarted, supplied, unsupplied, runModel, readModel}
 use Rattle.device.specs.Call.{Call, transaction, tick, flight, temperature, stretch, opcode, words}
 use Rattle.device.specs.Call.{Verdict, accepted, refused, verdict}
-use Rattle.device.specs.Reply.{anyLate, portFault, acceptedAnswer, acceptedModel, replyBy, reply}
+use Rattle.device.specs.Reply.{numberIn, anyLate, portFault, acceptedAnswer, acceptedModel, replyBy, reply}
 use Rattle.device.specs.History.{isRefusal, after, log}
 use Rattle.device.specs.Supply.{supplyGiven, lastSupply, SupplyClaim}
 
@@ -56,7 +56,7 @@ ticked-supply (suc n) m = ticked-supply n m
 given :
     (m : Model) (c : Call) →
     (acceptedModel m c .regulator ≡ supplyGiven c (m .regulator)) × (isRefusal (acceptedAnswer m c) ≡ false)
-unfolding acceptedModel acceptedAnswer supplyGiven isRefusal writeModel tickModel failedFlightModel goodFlightModel failedTemperatureModel goodTemperatureModel
+unfolding acceptedModel acceptedAnswer supplyGiven isRefusal numberIn writeModel tickModel failedFlightModel goodFlightModel failedTemperatureModel goodTemperatureModel
 given m (transaction f o x) =
     by-test (isCommand (opcode f)) (λ c. rw c (run-supply m (opcode f), refl))
     (λ c. by-test (isWrite (opcode f)) (λ w. rw (c, w) (refl, refl))
@@ -71,7 +71,7 @@ given m (stretch n) = (ticked-supply n m, refl)
 step-supply :
     (m : Model) (c : Call) →
     reply m c .model .regulator ≡ pick (isRefusal (reply m c .answer)) (m .regulator) (supplyGiven c (m .regulator))
-unfolding reply replyBy isRefusal
+unfolding reply replyBy isRefusal numberIn
 step-supply m c = go (verdict m c)
   where
     go :

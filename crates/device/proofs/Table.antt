@@ -110,7 +110,7 @@ unfolding memory memoryBy
 refused-memory m c n e = rw e
 
 -- "A refusal answers its number": the number in the answer is the verdict's.
-accepted-number : (m : Model) (c : Call) → numberIn (acceptedAnswer m c) ≡ []
+pub accepted-number : (m : Model) (c : Call) → numberIn (acceptedAnswer m c) ≡ []
 unfolding numberIn acceptedAnswer
 accepted-number m (transaction f o x) =
     picked (λ a. numberIn a ≡ []) (isCommand (getD f 0 0)) (λ _. refl)

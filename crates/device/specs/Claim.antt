@@ -1,7 +1,7 @@
 -- The third demand. Quotations are from 01, but for those beside the claims, which are the demand's own words. What differs for a
 -- continuous event: `plannedStarts` has "every j in place of j below N" (Note 5), and `unended` at the end is about it alone.
 use Prim.Native.Nat.{ℕ, zero, suc, _+_, _*_, _/_, _%_, _-_, _^_, _<_, _≤_, min}
-use mathlib.Core.Bool.{Bool, true, false}
+use mathlib.Core.Bool.{true, false}
 use mathlib.Core.List.{List, [], _∷_, _++_, map}
 use mathlib.Core.Logic.{_↔_}
 use mathlib.Core.Path.{_≡_}
@@ -12,14 +12,16 @@ use Rattle.calendar.specs.Calendar.{clockValid}
 use Rattle.calendar.specs.Moment.{moment, century, midnights}
 use Rattle.calendar.specs.Words.{clockFrom}
 use Rattle.setup.specs.Setup.{wordOf, hitCount, eventContinuous}
-use Rattle.hit.specs.Mean.{All, differenceBits, meanAverages, floorMeanWords}
+use Rattle.hit.specs.Mean.{All, sum, differenceBits, meanAverages, floorMeanWords}
 use Rattle.device.specs.declared.Model.{Model}
+use Rattle.device.specs.declared.Reply.{Reply}
+use Rattle.device.specs.declared.Answer.{Answer}
 use Rattle.device.specs.Registers.{registerWord, upwards}
 use Rattle.device.specs.Model.{freshModel}
-use Rattle.device.specs.Call.{Call, transaction, tick, flight, temperature, stretch, Verdict, verdict, accepted, refused}
-use Rattle.device.specs.Reply.{reply}
-use Rattle.device.specs.History.{after, Entry, log, onlyReads, Kind, countOf, Plan, planOf, runs, isTick, isTransaction, isDelivery, startReported}
-use Rattle.device.specs.History.{averagesOf, portWord, Expiry, History, beginning, stretchIn, history, differences, temperatures}
+use Rattle.device.specs.Call.{Call, transaction, tick, flight, temperature, stretch, onTime}
+use Rattle.device.specs.Reply.{numberIn, valuesIn, reply}
+use Rattle.device.specs.History.{after, Entry, log, isRefusal, isTransaction, onlyReads, Kind, differences, temperatures, byKind, Plan, planOf, runs}
+use Rattle.device.specs.History.{isDelivery, averagesOf, portWord, Expiry, History, settledOf, statusBit, evtmgPlace, ownPlace, atAcceptance, history}
 use Rattle.device.specs.SetupTold.{setupTold}
 
 -- "those elapsed ticks j × P, j below N, .. that the list reaches": "The list reaches an elapsed tick that is not above its
@@ -33,16 +35,9 @@ unfoldable pub plannedStarts : Plan → ℕ → List ℕ
 plannedStarts p t = reached (p .period) (pick (p .continuous) (t + 1) (p .count)) t
 
 -- "Awaited is then 1, exactly when number 10 would not be given for it, else 0.": by the number that a delivery would get
-unfoldable pub isTen : Verdict → Bool
-isTen accepted = false
-isTen (refused n) = eqb n 10
-
-unfoldable pub deliveryOf : Kind → Call
-deliveryOf differences = flight [] []
-deliveryOf temperatures = temperature []
-
 unfoldable pub awaitedNow : Kind → Model → ℕ
-awaitedNow k m = pick (isTen (verdict m (deliveryOf k))) 0 1
+awaitedNow k m =
+    pick (eqb (getD (numberIn (reply m (byKind k (flight [] []) (temperature [])) .answer)) 0 0) 10) 0 1
 
 -- The registers of a pair hold a word.
 pub record Holds (m : Model) (int : ℕ) (w : ℕ) : Type 0 where
@@ -70,65 +65,58 @@ Whole s w =
 abbrev pub InTime : List ℕ → List ℕ → Type 0
 InTime s w = (i : ℕ) → i < length w → getD w i 0 < min (512 * 2 ^ (wordOf s 0x39 % 8) * 65536) (2 ^ 31)
 
--- A good delivery had all its words, and none at fault: "an up list and a down list, each of H words"; "four words, T1 to T4". "For users the mean
--- of a port runs from then on over cycles where all four words are neither short nor open." (Note 3)
-abbrev pub Complete : List ℕ → Call → Type 0
-Complete s (transaction f o x) = ⊥
-Complete s tick = ⊥
-Complete s (flight u d) = (length u ≡ hitCount s) × (length d ≡ hitCount s) × InTime s u × InTime s d
-Complete s (temperature w) = (length w ≡ 4) × Whole s w
-Complete s (stretch n) = ⊥
-
--- "cycle counts (E4h, EFh)"
-unfoldable pub countRegister : Kind → ℕ
-countRegister differences = 0xE4
-countRegister temperatures = 0xEF
+-- "By the set-up at acceptance, an accepted flight delivery is answered good exactly when none of its words is late, a temperature one
+-- exactly when none is open", or short: "the third demand's good is read so" (Note 3). Its answer's one value is then 1. And an accepted
+-- one has all its words: "an up list and a down list, each of H words"; "four words, T1 to T4".
+abbrev pub Judged : List ℕ → Call → Answer → Type 0
+Judged s (transaction f o x) a = ⊥
+Judged s tick a = ⊥
+Judged s (flight u d) a =
+    (length u ≡ hitCount s) × (length d ≡ hitCount s) × ((valuesIn a ≡ 1 ∷ []) ↔ (InTime s u × InTime s d))
+Judged s (temperature w) a = (length w ≡ 4) × ((valuesIn a ≡ 1 ∷ []) ↔ Whole s w)
+Judged s (stretch n) a = ⊥
 
 -- The claim for one kind: s is the set-up at acceptance, h what the list tells, m the model at its end.
 pub record KindClaim (k : Kind) (s : List ℕ) (h : History) (m : Model) : Type 0 where
   -- "Its starts were exactly at those elapsed ticks j × P, j below N, with its own P and N, that the list reaches."
   pub starts : h .starts ≡ plannedStarts (planOf k s) (h .ticks)
   -- The starts reported so far, cut by N: all of them where the event is not continuous.
-  pub group : h .started ≡ (length (h .starts) - 1) % countOf k s + 1
+  pub group : h .started ≡ (length (h .starts) - 1) % planOf k s .count + 1
   -- "Since acceptance, started = good + failed + awaited, counted from the answers", or "the current group in place of since
   -- acceptance" (Note 5)
-  pub balance : h .started ≡ length (h .good) + h .failed + awaitedNow k m
+  pub balance : h .started ≡ settledOf h + awaitedNow k m
   -- whatever words a delivery of the kind brings
-  pub awaited : (c : Call) → isDelivery k c ≡ true → (verdict m c ≡ refused 10) ↔ (awaitedNow k m ≡ 0)
+  pub awaited : (c : Call) → isDelivery k c ≡ true → (numberIn (reply m c .answer) ≡ 10 ∷ []) ↔ (awaitedNow k m ≡ 0)
   -- "the failures that ticks report, each in the 8,192nd tick after its start"
   pub timely : All (λ (e : Expiry). e .at ≡ e .start + 8192) (h .expiries)
   -- "A kind is awaited only while its last start lies fewer than 8,192 ticks back."
   pub recent : awaitedNow k m ≡ 1 → h .ticks < h .last + 8192
-  -- "answered good exactly when none of its words is late, .. open", or short (Note 3)
-  pub judged : h .misjudged ≡ 0
-  pub complete : All (Complete s) (h .good)
-  -- "A good measurement of an event adds one to its count"
-  pub count : registerWord m (countRegister k) ≡ length (h .good)
+  pub judged : All (λ (e : Entry). Judged s (e .call) (e .answer)) (h .deliveries)
+  -- "A good measurement of an event adds one to its count": "cycle counts (E4h, EFh)"
+  pub count : registerWord m (byKind k 0xE4 0xEF) ≡ length (h .good)
   pub averages : AveragesHeld k s (h .good) m
 
 -- The registers of a kind: results, count and averages.
 unfoldable pub registersOf : Kind → List ℕ
-registersOf differences = upwards 0xC4 35
-registersOf temperatures = upwards 0xE7 17
+registersOf k = byKind k (upwards 0xC4 35) (upwards 0xE7 17)
 
 -- The claim for a kind that the command does not run: none of it starts, fails or is delivered, and its registers stay.
 pub record OtherClaim (k : Kind) (h : History) (m end : Model) : Type 0 where
   pub starts : h .starts ≡ []
   pub expiries : h .expiries ≡ []
-  pub good : h .good ≡ []
-  pub failed : h .failed ≡ 0
+  pub deliveries : h .deliveries ≡ []
   pub awaited : awaitedNow k end ≡ 0
   pub kept : map (registerWord end) (registersOf k) ≡ map (registerWord m) (registersOf k)
 
 -- "And the clock shows the moment that lies as many ticks after acceptance as the list holds, 2000 following 2099." "Its
 -- weekday has stepped once for each midnight passed." "The clock claim is about the moment, in either form." (Note 2): the
 -- form stays, and what B0h to B3h read in it is this clock.
-unfoldable pub ticksIn : Entry → ℕ
-ticksIn e = pick (isTick (e .call)) 1 (stretchIn e)
+unfoldable pub ticksMoved : Entry → ℕ
+ticksMoved e = pick (isRefusal (e .answer)) 0 (onTime (e .call) 0 1 (λ n. n))
 
 unfoldable pub tickCount : List Entry → ℕ
 tickCount [] = 0
-tickCount (e ∷ es) = ticksIn e + tickCount es
+tickCount (e ∷ es) = ticksMoved e + tickCount es
 
 pub record ClockClaim (m : Model) (n : ℕ) (end : Model) : Type 0 where
   pub shown : moment (end .clock) ≡ (moment (m .clock) + n) % century
@@ -145,73 +133,57 @@ pub record ClockClaim (m : Model) (n : ℕ) (end : Model) : Type 0 where
       registerWord end 0xB0 / 256 ≡ h / 10 * 16 + h % 10
 
 -- While an event runs, a write of one word to any register is number 6, busy; once it has ended, it is not.
-abbrev pub write : ℕ → ℕ → ℕ → List ℕ → List ℕ → Call
-write a high low o x = transaction (a ∷ high ∷ low ∷ []) o x
+abbrev pub writeNumber : Model → ℕ → ℕ → ℕ → List ℕ → List ℕ → List ℕ
+writeNumber m a high low o x = numberIn (reply m (transaction (a ∷ high ∷ low ∷ []) o x) .answer)
 
 abbrev pub StillBusy : Model → Type 0
-StillBusy m =
-    (a high low : ℕ) (o x : List ℕ) → 0x30 ≤ a → a ≤ 0x43 → verdict m (write a high low o x) ≡ refused 6
+StillBusy m = (a high low : ℕ) (o x : List ℕ) → 0x30 ≤ a → a ≤ 0x43 → writeNumber m a high low o x ≡ 6 ∷ []
 
 abbrev pub NotBusy : Model → Type 0
-NotBusy m =
-    (a high low : ℕ) (o x : List ℕ) → 0x30 ≤ a → a ≤ 0x43 → ¬ (verdict m (write a high low o x) ≡ refused 6)
+NotBusy m = (a high low : ℕ) (o x : List ℕ) → 0x30 ≤ a → a ≤ 0x43 → ¬ (writeNumber m a high low o x ≡ 6 ∷ [])
 
--- A transaction of the list reports no start: of those that may follow, none is a command.
-abbrev pub Silent : Entry → Type 0
-Silent e = (k : Kind) → isTransaction (e .call) ≡ true → startReported k (e .answer) ≡ false
-
--- The whole claim: `m` accepted event command `op` (with output buffer `o` and memory `x`), and then the calls `later` were made. `s` is
--- the set-up at acceptance.
-abbrev pub command : ℕ → List ℕ → List ℕ → Call
-command op o x = transaction (op ∷ []) o x
-
-abbrev pub toldOf : Kind → List ℕ → Model → ℕ → List ℕ → List ℕ → List Call → History
-toldOf k s m op o x later =
-    history k s (log (reply m (command op o x) .model) later) (beginning k (reply m (command op o x) .answer))
-
--- good and failed, those of the current group
-abbrev pub settledOf : History → ℕ
-settledOf h = length (h .good) + h .failed
-
-pub record EventClaim (s : List ℕ) (m : Model) (op : ℕ) (o x : List ℕ) (later : List Call) : Type 0 where
-  pub kinds :
-      (k : Kind) →
-      runs k op ≡ true →
-      KindClaim k s (toldOf k s m op o x later) (after (reply m (command op o x) .model) later)
-  pub others :
-      (k : Kind) →
-      runs k op ≡ false →
-      OtherClaim k (toldOf k s m op o x later) m (after (reply m (command op o x) .model) later)
+-- The whole claim: `m` accepted event command `op`, `s` being the set-up at acceptance; the calls that followed and their answers are
+-- `es`, `told` is what these tell of each kind, and `end` the model at their end.
+pub record EventClaim (s : List ℕ) (m : Model) (op : ℕ) (es : List Entry) (told : Kind → History) (end : Model) : Type 0 where
+  pub kinds : (k : Kind) → runs k op ≡ true → KindClaim k s (told k) end
+  pub others : (k : Kind) → runs k op ≡ false → OtherClaim k (told k) m end
+  -- "Settling the N-th sets TOF_EVTMG or TEMP_EVTMG." "With CONT_INT .. each settled one sets TOF or TE.", and nothing else sets them:
+  -- each bit is the one told, of a kind that is not run too.
+  pub evtmg : (k : Kind) → statusBit end (evtmgPlace k) ≡ told k .evtmg
+  pub own : (k : Kind) → statusBit end (ownPlace k) ≡ told k .own
   -- The histories of both kinds count the same ticks.
-  pub ticks :
-      (k : Kind) → (toldOf k s m op o x later) .ticks ≡ tickCount (log (reply m (command op o x) .model) later)
-  -- "The start at 0 is reported by the command's answer, later ones by their tick."
-  pub silent : All Silent (log (reply m (command op o x) .model) later)
-  pub clock :
-      ClockClaim m (tickCount (log (reply m (command op o x) .model) later))
-      (after (reply m (command op o x) .model) later)
+  pub ticks : (k : Kind) → told k .ticks ≡ tickCount es
+  -- "The start at 0 is reported by the command's answer, later ones by their tick.": no transaction reports one
+  pub silent : All (λ (e : Entry). isTransaction (e .call) ≡ true → sum (valuesIn (e .answer)) ≡ 0) es
+  pub clock : ClockClaim m (tickCount es) end
   -- "The event ends when all are settled.", not before
-  pub running :
-      (k : Kind) →
-      runs k op ≡ true →
-      settledOf (toldOf k s m op o x later) < countOf k s →
-      StillBusy (after (reply m (command op o x) .model) later)
+  pub running : (k : Kind) → runs k op ≡ true → settledOf (told k) < planOf k s .count → StillBusy end
   pub ended :
       eventContinuous s ≡ false →
-      ((k : Kind) → runs k op ≡ true → settledOf (toldOf k s m op o x later) ≡ countOf k s) →
-      NotBusy (after (reply m (command op o x) .model) later)
+      ((k : Kind) → runs k op ≡ true → settledOf (told k) ≡ planOf k s .count) →
+      NotBusy end
   -- A continuous event "ends only by HALT or Reset" (Note 5).
-  pub unended : eventContinuous s ≡ true → StillBusy (after (reply m (command op o x) .model) later)
+  pub unended : eventContinuous s ≡ true → StillBusy end
 
 -- The third demand: "Let a model grow from a fresh one by any list of transactions, ticks and deliveries, refused ones among
 -- them, and then accept an event command. For every list of ticks, deliveries, register reads and refused calls that
 -- follows, whatever hit words are delivered, this holds at its end for each kind that the command runs." The set-up at acceptance is
--- what the calls before it last wrote.
+-- what the calls before it last wrote. The command has an output buffer `o` and a memory `x`, as every transaction.
+abbrev pub command : ℕ → List ℕ → List ℕ → Call
+command op o x = transaction (op ∷ []) o x
+
+abbrev pub toldOf : List ℕ → Model → Reply → List Entry → Kind → History
+toldOf s m r es k = history k (planOf k s) es (atAcceptance k m (r .answer))
+
 abbrev pub ThirdDemand : Type 0
 ThirdDemand =
     (before : List Call) (op : ℕ) (o x : List ℕ) (later : List Call) →
     0x07 ≤ op →
     op ≤ 0x09 →
-    verdict (after freshModel before) (command op o x) ≡ accepted →
-    onlyReads (log (reply (after freshModel before) (command op o x) .model) later) ≡ true →
-    EventClaim (setupTold (log freshModel before)) (after freshModel before) op o x later
+    let s : List ℕ = setupTold (log freshModel before) in
+    let m : Model = after freshModel before in
+    let r : Reply = reply m (command op o x) in
+    let es : List Entry = log (r .model) later in
+    numberIn (r .answer) ≡ [] →
+    onlyReads es ≡ true →
+    EventClaim s m op es (toldOf s m r es) (after (r .model) later)

@@ -1,23 +1,20 @@
--- What the calls after an accepted event command, and their answers, tell of a kind of measurement. Quotations are from 01. One
--- statement serves both sorts of event: where a continuous one begins a group, `opensGroup`, what is told of starts anew, "in place of
--- since acceptance" (Note 5).
-use Prim.Native.Nat.{ℕ, zero, suc, _+_, _/_}
+-- What the calls after an accepted event command tell of a kind of measurement: the calls, and of their answers 01's number and
+-- values. Quotations are from 01. One statement serves both sorts of event: where a continuous one begins a group, `opensGroup`, what
+-- is told of starts anew, "in place of since acceptance" (Note 5).
+use Prim.Native.Nat.{ℕ, zero, suc, _+_, _/_, _%_, _^_}
 use mathlib.Core.Bool.{Bool, true, false}
 use mathlib.Core.List.{List, [], _∷_, _++_}
-use lib.ListN.{getD}
-use lib.Dec.{eqb}
+use lib.ListN.{length, getD}
+use lib.Dec.{ltb, leb, eqb}
 use Rattle.unit.specs.Choice.{pick, both, either, negate}
-use Rattle.setup.specs.Setup.{hitCount, timeout, portCycle, differencePeriod, differenceCount, temperaturePeriod, temperatureCount, eventContinuous}
+use Rattle.setup.specs.Setup.{hitCount, differencePeriod, differenceCount, temperaturePeriod, temperatureCount, eventContinuous, eachInterrupt}
 use Rattle.frame.specs.Frame.{isRead}
-use Rattle.hit.specs.Limit.{lateFrom, openFrom, anyFrom, anyFault}
 use Rattle.hit.specs.Mean.{sum, Averages}
 use Rattle.device.specs.declared.Model.{Model}
-use Rattle.device.specs.declared.Report.{Report}
-use Rattle.device.specs.declared.StretchReport.{StretchReport}
 use Rattle.device.specs.declared.Answer.{Answer}
-use Rattle.device.specs.declared.Answer.the-variants.{Refused, Accepted, Ticked, Stretched, Good, Failed}
-use Rattle.device.specs.Call.{Call, opcode, onFrame, onDelivery, onTime}
-use Rattle.device.specs.Reply.{reply}
+use Rattle.device.specs.Registers.{registerWord}
+use Rattle.device.specs.Call.{Call, transaction, tick, flight, temperature, stretch, opcode, words, onFrame, onDelivery}
+use Rattle.device.specs.Reply.{numberIn, valuesIn, reply}
 
 -- "Both its lists run on one model: each call is handed the model that the call before it returned or left".
 unfoldable pub after : Model → List Call → Model
@@ -33,35 +30,18 @@ unfoldable pub log : Model → List Call → List Entry
 log m [] = []
 log m (c ∷ cs) = record { call = c; answer = reply m c .answer } ∷ log (reply m c .model) cs
 
--- What an answer without a report says: refused, good or failed; of another answer, nothing
-abbrev pub onOutcome : Answer → Bool → Bool → Bool → Bool
-onOutcome (Refused n) byRefused byGood byFailed = byRefused
-onOutcome (Accepted f t) byRefused byGood byFailed = false
-onOutcome (Ticked f t) byRefused byGood byFailed = false
-onOutcome (Stretched f t) byRefused byGood byFailed = false
-onOutcome Good byRefused byGood byFailed = byGood
-onOutcome Failed byRefused byGood byFailed = byFailed
-
+-- A refusal is an answer with a number.
 unfoldable pub isRefusal : Answer → Bool
-isRefusal a = onOutcome a true false false
+isRefusal a = ltb 0 (length (numberIn a))
 
-unfoldable pub isGood : Answer → Bool
-isGood a = onOutcome a false true false
+-- the value at a place of an answer, the first at 0
+abbrev pub valueAt : ℕ → Answer → ℕ
+valueAt i a = getD (valuesIn a) i 0
 
-unfoldable pub isFailed : Answer → Bool
-isFailed a = onOutcome a false false true
-
+-- "After acceptance an accepted transaction stands in the list only if it is a register read."
 abbrev pub isTransaction : Call → Bool
 isTransaction c = onFrame c (λ f o x. true)
 
-unfoldable pub isTick : Call → Bool
-isTick c = onTime c false true (λ n. false)
-
--- The ticks of a stretch; no other call has any.
-unfoldable pub spanOf : Call → ℕ
-spanOf c = onTime c 0 0 (λ n. n)
-
--- "After acceptance an accepted transaction stands in the list only if it is a register read."
 unfoldable pub mayFollow : Call → Bool
 mayFollow c = either (negate (isTransaction c)) (onFrame c (λ f o x. isRead (opcode f)))
 
@@ -78,67 +58,34 @@ abbrev pub byKind : {A : Type 0} → Kind → A → A → A
 byKind differences d t = d
 byKind temperatures d t = t
 
-unfoldable pub periodOf : Kind → List ℕ → ℕ
-periodOf k s = byKind k (differencePeriod s .0) (temperaturePeriod s .0)
-
-unfoldable pub countOf : Kind → List ℕ → ℕ
-countOf k s = byKind k (differenceCount s) (temperatureCount s)
-
--- P, N and the sort of the event, by the set-up at acceptance.
-pub record Plan : Type 0 where
-  pub period : ℕ
-  pub count : ℕ
-  pub continuous : Bool
-
-abbrev pub planOf : Kind → List ℕ → Plan
-planOf k s = record { period = periodOf k s; count = countOf k s; continuous = eventContinuous s }
-
 -- "07h runs both kinds, 08h differences, 09h temperatures."
 unfoldable pub runs : Kind → ℕ → Bool
 runs k op = either (eqb op 0x07) (eqb op (byKind k 0x08 0x09))
 
--- What an answer with reports says: of a command's starts, of a tick, of a stretch; of another answer, the value given first
-abbrev pub onReport :
-    {A : Type 0} → Answer → A → (Bool → Bool → A) → (Report → Report → A) → (StretchReport → StretchReport → A) → A
-onReport (Refused n) other byCommand byTick byStretch = other
-onReport (Accepted f t) other byCommand byTick byStretch = byCommand f t
-onReport (Ticked f t) other byCommand byTick byStretch = byTick f t
-onReport (Stretched f t) other byCommand byTick byStretch = byStretch f t
-onReport Good other byCommand byTick byStretch = other
-onReport Failed other byCommand byTick byStretch = other
-
--- What an answer reports of a kind: "The start at 0 is reported by the command's answer, later ones by their tick."
-unfoldable pub startReported : Kind → Answer → Bool
-startReported k a = onReport a false (byKind k) (λ f t. byKind k (f .started) (t .started)) (λ f t. false)
-
-unfoldable pub failureReported : Kind → Answer → Bool
-failureReported k a = onReport a false (λ f t. false) (λ f t. byKind k (f .failed) (t .failed)) (λ f t. false)
-
-abbrev noneNamed : StretchReport
-noneNamed = record { started = 0; failed = 0 }
-
--- What a stretch names of a kind.
-unfoldable pub named : Kind → Answer → StretchReport
-named k a = onReport a noneNamed (λ f t. noneNamed) (λ f t. noneNamed) (byKind k)
-
 unfoldable pub isDelivery : Kind → Call → Bool
 isDelivery k c = onDelivery c false (λ u d. byKind k true false) (λ w. byKind k false true)
 
--- "By the set-up at acceptance, an accepted flight delivery is answered good exactly when none of its words is late, a
--- temperature one exactly when none is open." And none short: "its delivery .. is answered failed, and the third demand's good
--- is read so" (Note 3).
-unfoldable pub wordsGood : List ℕ → Call → Bool
-wordsGood s c =
-    onDelivery c false (λ u d. negate (either (anyFrom (lateFrom (timeout s)) u) (anyFrom (lateFrom (timeout s)) d)))
-    (λ w. negate (anyFault (openFrom (portCycle s)) w))
+-- P, N, the sort of the event and CONT_INT, by the set-up at acceptance.
+pub record Plan : Type 0 where
+  pub period : ℕ
+  pub count : ℕ
+  pub continuous : Bool
+  pub each : Bool
 
-abbrev noAverages : Averages
-noAverages = record { up = 0; down = 0 }
+abbrev pub planOf : Kind → List ℕ → Plan
+planOf k s =
+    record {
+      period = byKind k (differencePeriod s .0) (temperaturePeriod s .0);
+      count = byKind k (differenceCount s) (temperatureCount s);
+      continuous = eventContinuous s;
+      each = eachInterrupt s;
+    }
 
 -- "A flight delivery's difference is the up list's sum ÷ H rounded down, less the same of the down list"
 unfoldable pub averagesOf : List ℕ → Call → Averages
 averagesOf s c =
-    onDelivery c noAverages (λ u d. record { up = sum u / hitCount s; down = sum d / hitCount s }) (λ w. noAverages)
+    onDelivery c (record { up = 0; down = 0 }) (λ u d. record { up = sum u / hitCount s; down = sum d / hitCount s })
+    (λ w. record { up = 0; down = 0 })
 
 -- "a temperature delivery's port words are the four delivered, each port with a mean of its own": port 0 to 3
 unfoldable pub portWord : ℕ → Call → ℕ
@@ -156,30 +103,55 @@ pub record History : Type 0 where
   -- the elapsed ticks at which starts were reported, in order of time, and the last of them
   pub starts : List ℕ
   pub last : ℕ
-  -- the failures that ticks reported
+  -- the failures that ticks reported, and the accepted deliveries with their answers
   pub expiries : List Expiry
-  -- deliveries answered good with a word late, open or short, or failed with none
-  pub misjudged : ℕ
+  pub deliveries : List Entry
   -- Since acceptance, or in the current group of a continuous event: the starts;
   pub started : ℕ
   -- "good, the deliveries answered good", in order of time;
   pub good : List Call
   -- "failed, those answered failed and the failures that ticks report"
   pub failed : ℕ
+  -- What two bits of FEh are then, 1 or 0: TOF_EVTMG or TEMP_EVTMG, and TOF or TE.
+  pub evtmg : ℕ
+  pub own : ℕ
 
--- The history at acceptance, by the command's answer.
-unfoldable pub beginning : Kind → Answer → History
-beginning k a =
+-- a bit of the interrupt status: "TOF 12, TE 11, TOF_EVTMG 9, TEMP_EVTMG 8"
+abbrev pub statusBit : Model → ℕ → ℕ
+statusBit m place = registerWord m 0xFE / 2 ^ place % 2
+
+abbrev pub evtmgPlace : Kind → ℕ
+evtmgPlace k = byKind k 9 8
+
+abbrev pub ownPlace : Kind → ℕ
+ownPlace k = byKind k 12 11
+
+-- At acceptance, by the model that accepts the command and its answer, whose two values are the kinds that it started.
+unfoldable pub atAcceptance : Kind → Model → Answer → History
+atAcceptance k m a =
     record {
       ticks = 0;
-      starts = pick (startReported k a) (0 ∷ []) [];
+      starts = pick (eqb (valueAt (byKind k 0 1) a) 1) (0 ∷ []) [];
       last = 0;
       expiries = [];
-      misjudged = 0;
-      started = pick (startReported k a) 1 0;
+      deliveries = [];
+      started = valueAt (byKind k 0 1) a;
       good = [];
       failed = 0;
+      evtmg = statusBit m (evtmgPlace k);
+      own = statusBit m (ownPlace k);
     }
+
+-- "A measurement is settled when it is good or failed.": those since acceptance, or of the current group
+abbrev pub settledOf : History → ℕ
+settledOf h = length (h .good) + h .failed
+
+-- "Settling the N-th sets TOF_EVTMG or TEMP_EVTMG", the N-th of each group (Note 5); "With CONT_INT .. each settled one sets TOF or TE."
+abbrev pub evtmgAfter : Plan → Bool → History → ℕ
+evtmgAfter p settles h = pick (both settles (eqb (settledOf h + 1) (p .count))) 1 (h .evtmg)
+
+abbrev pub ownAfter : Plan → Bool → History → ℕ
+ownAfter p settles h = pick (both settles (p .each)) 1 (h .own)
 
 -- Whether the next start opens a group: "Each N starts of a kind make a group" (Note 5). An event that is not continuous has one
 -- group, from acceptance on.
@@ -195,56 +167,68 @@ noteTick p started failed h =
       starts = pick started (h .starts ++ ((h .ticks + 1) ∷ [])) (h .starts);
       last = pick started (h .ticks + 1) (h .last);
       expiries = pick failed (h .expiries ++ (record { start = h .last; at = h .ticks + 1 } ∷ [])) (h .expiries);
-      misjudged = h .misjudged;
+      deliveries = h .deliveries;
       started = pick started (pick (opensGroup p h) 1 (h .started + 1)) (h .started);
       good = pick (both started (opensGroup p h)) [] (h .good);
       failed = pick (both started (opensGroup p h)) 0 (pick failed (h .failed + 1) (h .failed));
+      evtmg = evtmgAfter p failed h;
+      own = ownAfter p failed h;
     }
 
--- "each accepted one counts as its n ticks, and a start or failure named in its answer as reported by that tick" (Note 1)
-unfoldable pub noteTicks : Plan → ℕ → StretchReport → History → History
-noteTicks p zero r h = h
-noteTicks p (suc n) r h = noteTick p (eqb (r .started) (n + 1)) (eqb (r .failed) (n + 1)) (noteTicks p n r h)
+-- "each accepted one counts as its n ticks, and a start or failure named in its answer as reported by that tick" (Note 1): the ticks
+-- named, 0 for none
+unfoldable pub noteTicks : Plan → ℕ → ℕ → ℕ → History → History
+noteTicks p zero started failed h = h
+noteTicks p (suc n) started failed h =
+    noteTick p (eqb started (n + 1)) (eqb failed (n + 1)) (noteTicks p n started failed h)
 
--- The ticks of an accepted stretch.
-unfoldable pub stretchIn : Entry → ℕ
-stretchIn e = pick (isRefusal (e .answer)) 0 (spanOf (e .call))
-
--- A history with one delivery more that is answered good, or failed.
-unfoldable pub noteGood : List ℕ → Call → History → History
-noteGood s c h =
+-- A history with one delivery more. Its answer's value is 1 where it is good.
+unfoldable pub noteDelivery : Plan → Entry → History → History
+noteDelivery p e h =
     record {
       ticks = h .ticks;
       starts = h .starts;
       last = h .last;
       expiries = h .expiries;
-      misjudged = pick (wordsGood s c) (h .misjudged) (h .misjudged + 1);
+      deliveries = h .deliveries ++ (e ∷ []);
       started = h .started;
-      good = h .good ++ (c ∷ []);
-      failed = h .failed;
+      good = pick (eqb (valueAt 0 (e .answer)) 1) (h .good ++ (e .call ∷ [])) (h .good);
+      failed = pick (eqb (valueAt 0 (e .answer)) 1) (h .failed) (h .failed + 1);
+      evtmg = evtmgAfter p true h;
+      own = ownAfter p true h;
     }
 
-unfoldable pub noteFailed : List ℕ → Call → History → History
-noteFailed s c h =
+-- "FEh is the interrupt status; reading it clears it": the words of the read, from its address on, reach over FEh
+abbrev pub readsStatus : List ℕ → Bool
+readsStatus f = both (leb (opcode f) 0xFE) (ltb 0xFE (opcode f + words f))
+
+unfoldable pub noteRead : List ℕ → History → History
+noteRead f h =
     record {
       ticks = h .ticks;
       starts = h .starts;
       last = h .last;
       expiries = h .expiries;
-      misjudged = pick (wordsGood s c) (h .misjudged + 1) (h .misjudged);
+      deliveries = h .deliveries;
       started = h .started;
       good = h .good;
-      failed = h .failed + 1;
+      failed = h .failed;
+      evtmg = pick (readsStatus f) 0 (h .evtmg);
+      own = pick (readsStatus f) 0 (h .own);
     }
 
--- A history with one call and its answer more. A model that the calls made refuses no tick, so each `tick` of the list counts.
-unfoldable pub note : Kind → List ℕ → Entry → History → History
-note k s e h =
-    pick (isTick (e .call)) (noteTick (planOf k s) (startReported k (e .answer)) (failureReported k (e .answer)) h)
-    (pick (both (isDelivery k (e .call)) (isGood (e .answer))) (noteGood s (e .call) h)
-    (pick (both (isDelivery k (e .call)) (isFailed (e .answer))) (noteFailed s (e .call) h)
-    (noteTicks (planOf k s) (stretchIn e) (named k (e .answer)) h)))
+-- A history with one accepted call more. Of the four values of a tick or a stretch, the first two are of flight: start, failure.
+unfoldable pub noteAccepted : Kind → Plan → Call → Answer → History → History
+noteAccepted k p (transaction f o x) a h = noteRead f h
+noteAccepted k p tick a h = noteTicks p 1 (valueAt (byKind k 0 2) a) (valueAt (byKind k 1 3) a) h
+noteAccepted k p (flight u d) a h = byKind k (noteDelivery p (record { call = flight u d; answer = a }) h) h
+noteAccepted k p (temperature w) a h = byKind k h (noteDelivery p (record { call = temperature w; answer = a }) h)
+noteAccepted k p (stretch n) a h = noteTicks p n (valueAt (byKind k 0 2) a) (valueAt (byKind k 1 3) a) h
 
-unfoldable pub history : Kind → List ℕ → List Entry → History → History
-history k s [] h = h
-history k s (e ∷ es) h = history k s es (note k s e h)
+-- A refused call tells nothing.
+unfoldable pub note : Kind → Plan → Entry → History → History
+note k p e h = pick (isRefusal (e .answer)) h (noteAccepted k p (e .call) (e .answer) h)
+
+unfoldable pub history : Kind → Plan → List Entry → History → History
+history k p [] h = h
+history k p (e ∷ es) h = history k p es (note k p e h)

@@ -1,15 +1,16 @@
 -- A change of probes and the flow. Quotations are from Note 14 of the change requests where no other place is named.
 use Prim.Native.Nat.{ℕ}
-use mathlib.Core.Bool.{Bool}
 use mathlib.Core.List.{List, [], _∷_, _++_, map}
 use mathlib.Core.Path.{_≡_}
 use lib.ListN.{length}
 use Rattle.device.specs.declared.Model.{Model}
 use Rattle.device.specs.declared.Reply.{Reply}
+use Rattle.device.specs.declared.Answer.{Answer}
 use Rattle.device.specs.Registers.{registerWord, upwards}
-use Rattle.device.specs.Call.{Call, transaction, tick, flight, temperature, stretch}
-use Rattle.device.specs.Reply.{reply, memory}
-use Rattle.device.specs.History.{differences, startReported, named}
+use Rattle.device.specs.Call.{Call, transaction, temperature, onDelivery}
+use Rattle.device.specs.Reply.{reply}
+use Rattle.device.specs.History.{valueAt}
+use Rattle.device.specs.FlashRun.{lent, memoryLeft}
 
 -- Calls "that differ only in the values of delivered temperature words": as many words, of any values.
 pub data OtherProbes : Call → Call → Type 0 where
@@ -35,43 +36,25 @@ flowRegisters =
 
 -- What is compared after a call.
 pub record Flow : Type 0 where
-  -- "difference starts": whether a command's or a tick's answer reports one, and the tick that a stretch's answer names, 0 for
-  -- none
-  pub started : Bool
-  pub tick : ℕ
+  -- "difference starts": 1 where a command's or a tick's answer reports one, the tick that a stretch's answer names, 0 for none
+  pub started : ℕ
   pub words : List ℕ
   -- the user flash: no probe touches it
   pub memory : List ℕ
 
-unfoldable pub flowOf : Reply → List ℕ → Flow
-flowOf r x =
-    record {
-      started = startReported differences (r .answer);
-      tick = named differences (r .answer) .started;
-      words = map (registerWord (r .model)) flowRegisters;
-      memory = x;
-    }
+-- The first value of an answer is about difference starts, but for that of a delivery.
+unfoldable pub startOf : Call → Answer → ℕ
+startOf c a = onDelivery c (valueAt 0 a) (λ u d. 0) (λ w. 0)
+
+unfoldable pub flowOf : Call → Reply → List ℕ → Flow
+flowOf c r x = record { started = startOf c (r .answer); words = map (registerWord (r .model)) flowRegisters; memory = x }
 
 -- A run has one user flash: each transaction is lent the memory that the calls before it left, whatever memory the list has there.
-unfoldable pub lent : List ℕ → Call → Call
-lent x (transaction f o y) = transaction f o x
-lent x tick = tick
-lent x (flight u d) = flight u d
-lent x (temperature w) = temperature w
-lent x (stretch n) = stretch n
-
-unfoldable pub left : Model → List ℕ → Call → List ℕ
-left m x (transaction f o y) = memory m (transaction f o x)
-left m x tick = x
-left m x (flight u d) = x
-left m x (temperature w) = x
-left m x (stretch n) = x
-
 -- "after every call", from a model and a memory on
 unfoldable pub flowThrough : Model → List ℕ → List Call → List Flow
 flowThrough m x [] = []
 flowThrough m x (c ∷ cs) =
-    flowOf (reply m (lent x c)) (left m x c) ∷ flowThrough (reply m (lent x c) .model) (left m x c) cs
+    flowOf (lent x c) (reply m (lent x c)) (memoryLeft m x c) ∷ flowThrough (reply m (lent x c) .model) (memoryLeft m x c) cs
 
 -- "Two runs from equal models with equal call lists that differ only in the values of delivered temperature words must report
 -- the same difference starts and the same .. words after every call." For every model, sound or not, every memory and every list,

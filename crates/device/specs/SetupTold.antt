@@ -26,13 +26,13 @@ wordGiven a (temperature p) w = w
 wordGiven a (stretch n) w = w
 
 -- the word last written: a refused call writes nothing
-unfoldable pub lastWord : ℕ → List Entry → ℕ → ℕ
-lastWord a [] w = w
-lastWord a (e ∷ es) w = lastWord a es (pick (isRefusal (e .answer)) w (wordGiven a (e .call) w))
+unfoldable pub lastWritten : ℕ → List Entry → ℕ → ℕ
+lastWritten a [] w = w
+lastWritten a (e ∷ es) w = lastWritten a es (pick (isRefusal (e .answer)) w (wordGiven a (e .call) w))
 
 -- 34h to 43h after a list of calls on a fresh model
 unfoldable pub setupTold : List Entry → List ℕ
-setupTold es = map (λ (a : ℕ). lastWord a es (wordOf factory a)) (upwards 0x34 16)
+setupTold es = map (λ (a : ℕ). lastWritten a es (wordOf factory a)) (upwards 0x34 16)
 
 -- On a model that grew from a fresh one by any list of calls, refused ones among them, the set-up is the one told.
 abbrev pub SetupClaim : Type 0

@@ -23,13 +23,12 @@ use Rattle.device.specs.Event.{begins, fails}
 use Rattle.device.specs.Tick.{tickModel, reportOf}
 use Rattle.device.specs.Stretch.{modelTicked, lastTick, stretchReport}
 use Rattle.device.specs.StretchSteps.{progress}
-use Rattle.device.specs.Reply.{acceptedAnswer, reply}
-use Rattle.device.specs.History.{Kind, startReported, failureReported, named}
+use Rattle.device.specs.Reply.{reply}
+use Rattle.device.specs.History.{Kind}
 use Rattle.device.proofs.Replies.{reply-tick, reply-stretch}
 use Rattle.device.proofs.Sound.{bounds-of, sound-of, ticked-bounds, keeps-sound}
-use Rattle.device.proofs.Stretch.{ticked-later}
+use Rattle.device.proofs.Stretch.{ticked-later, start-named, failure-named}
 use Rattle.device.proofs.StretchMeaning.{named-happens}
-use Rattle.device.proofs.SoundMeaning.{start-exactly, failure-exactly}
 use Rattle.numeral.specs.Ascii.{ascii}
 use Rattle.wording.specs.Wording.{Texts, lineFeed, numbered, reportedWhere, kindReports, quiet, single, reportAt, tickReports, stretched, stretch}
 use Rattle.wording.specs.Wording.{ticked as tickedAlone}
@@ -72,20 +71,20 @@ module _ (m : Model) (sound : isSound m ≡ true) where
     there = modelTicked j m
 
     flight-failed : fails (there .flight .schedule) ≡ eqb (flights n .failed) (j + 1)
-    unfolding failureReported reportOf named acceptedAnswer
-    flight-failed = rw (reply-tick there (sound-later j)) at (failure-exactly m sound Kind.differences n j l short)
+    unfolding stretchReport
+    flight-failed = sym (failure-named m sound Kind.differences n j l short)
 
     flight-started : begins (there .flight .schedule) ≡ eqb (flights n .started) (j + 1)
-    unfolding startReported reportOf named acceptedAnswer
-    flight-started = rw (reply-tick there (sound-later j)) at (start-exactly m sound Kind.differences n j l short)
+    unfolding stretchReport
+    flight-started = sym (start-named m sound Kind.differences n j l short)
 
     temperature-failed : fails (there .temperature .schedule) ≡ eqb (temperatures n .failed) (j + 1)
-    unfolding failureReported reportOf named acceptedAnswer
-    temperature-failed = rw (reply-tick there (sound-later j)) at (failure-exactly m sound Kind.temperatures n j l short)
+    unfolding stretchReport
+    temperature-failed = sym (failure-named m sound Kind.temperatures n j l short)
 
     temperature-started : begins (there .temperature .schedule) ≡ eqb (temperatures n .started) (j + 1)
-    unfolding startReported reportOf named acceptedAnswer
-    temperature-started = rw (reply-tick there (sound-later j)) at (start-exactly m sound Kind.temperatures n j l short)
+    unfolding stretchReport
+    temperature-started = sym (start-named m sound Kind.temperatures n j l short)
 
     tick-told : (before : ℕ) → before + n < 4294967296
         → oneReported (reply there Call.tick .answer) (before + j + 1) ≡ tickReports (flights n) (temperatures n) (j + 1) before

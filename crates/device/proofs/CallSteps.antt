@@ -1,8 +1,8 @@
 -- What one call of a sound model does, where an accepted transaction may only be a read.
 use Prim.Native.Nat.{ℕ, _+_, _≤_}
-use mathlib.Core.Path.{_≡_, refl}
+use mathlib.Core.Path.{_≡_, refl, ap, _∙_}
 use mathlib.Core.Bool.{true, false}
-use mathlib.Core.List.{List}
+use mathlib.Core.List.{List, [], _∷_}
 use borrow.Author.Tests.{ltb-false, lt-ltb, le-ltb, le-leb, lt-leb}
 use Rattle.unit.specs.Choice.{pick, either}
 use Rattle.unit.proofs.Cases.{by-test, by-ltb, by-leb}
@@ -28,7 +28,7 @@ use Rattle.device.specs.Call.{table, Verdict, accepted, refused, firstOf
 use Rattle.device.specs.Reply.{anyLate, anyOpen, portFault}
 use Rattle.device.specs.Reply.{numberIn, acceptedAnswer, acceptedModel, refuse, replyBy, reply}
 use Rattle.device.specs.Parts.{accept}
-use Rattle.device.specs.History.{isRefusal, mayFollow, readsStatus}
+use Rattle.device.specs.History.{after, log, isRefusal, lastGiven, mayFollow, readsStatus}
 use Rattle.device.specs.Claim.{ticksMoved}
 use Rattle.device.proofs.Table.{NoneHolds, none-holds, accepted-number}
 use Rattle.device.proofs.Stretch.{setup-ticked, clock-ticked}
@@ -80,6 +80,29 @@ pub data Step (m : Model) : Call → Reply → Type 0 where
 pub no-refusal : (m : Model) (c : Call) → isRefusal (acceptedAnswer m c) ≡ false
 unfolding isRefusal
 no-refusal m c = rw (accepted-number m c)
+
+-- What accepted calls make of a part of the model, a list makes of it: `P` is kept by every call.
+module _
+    {A : Type 0} (part : Model → A) (given : Call → A → A) (P : Model → Type 0)
+    (keeps : (m : Model) (c : Call) → P m → P (reply m c .model))
+    (each : (m : Model) (c : Call) → P m → part (acceptedModel m c) ≡ given c (part m)) where
+  step-given :
+      (m : Model) (c : Call) →
+      P m →
+      part (reply m c .model) ≡ pick (isRefusal (reply m c .answer)) (part m) (given c (part m))
+  unfolding reply replyBy isRefusal numberIn
+  step-given m c h = go (verdict m c)
+    where
+      go : (v : Verdict) →
+          part (replyBy v m c .model) ≡ pick (isRefusal (replyBy v m c .answer)) (part m) (given c (part m))
+      go accepted = rw (no-refusal m c) (each m c h)
+      go (refused n) = refl
+
+  pub all-given : (cs : List Call) (m : Model) → P m → part (after m cs) ≡ lastGiven given (log m cs) (part m)
+  unfolding after log lastGiven
+  all-given [] m h = refl
+  all-given (c ∷ cs) m h =
+      all-given cs (reply m c .model) (keeps m c h) ∙ ap (lastGiven given (log (reply m c .model) cs)) (step-given m c h)
 
 read-step : (m : Model) (f o x : List ℕ) → Step m (transaction f o x) (accept false false (readModel m (opcode f) (words f)))
 unfolding readModel

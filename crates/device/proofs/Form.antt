@@ -1,7 +1,7 @@
 -- The clock has the form in which it was last written.
 use Prim.Native.Nat.{ℕ, zero, suc, _+_, _-_}
 use mathlib.Core.Bool.{Bool, true, false}
-use mathlib.Core.List.{List, [], _∷_}
+use mathlib.Core.List.{List}
 use mathlib.Core.Path.{_≡_, refl, ap, _∙_}
 use lib.ListN.{drop}
 use lib.Dec.{ltb, leb, eqb}
@@ -23,11 +23,11 @@ use Rattle.device.specs.Delivery.{goodFlightModel, failedFlightModel, go
 use Rattle.device.specs.FlashFrame.{flashModel}
 use Rattle.device.specs.Bus.{supplied, unsupplied, isEvent, startedEvent, initialisedModel, haltedModel, singleStarted, runModel, readModel}
 use Rattle.device.specs.Call.{Call, transaction, tick, flight, temperature, stretch, opcode, words}
-use Rattle.device.specs.Call.{Verdict, accepted, refused, verdict}
-use Rattle.device.specs.Reply.{numberIn, anyLate, portFault, acceptedAnswer, acceptedModel, replyBy, reply}
-use Rattle.device.specs.History.{isRefusal, after, log}
-use Rattle.device.specs.Form.{formGiven, lastForm, FormClaim}
+use Rattle.device.specs.Reply.{anyLate, portFault, acceptedModel}
+use Rattle.device.specs.History.{log, lastGiven}
+use Rattle.device.specs.Form.{formGiven, FormClaim}
 use Rattle.device.proofs.Sound.{Bounds, bounds-of, fresh-sound, keeps-sound, ticked-bounds}
+use Rattle.device.proofs.CallSteps.{all-given}
 
 abbrev formOf : Model → Bool
 formOf m = m .clock .twelve
@@ -72,45 +72,25 @@ flash-form : (m : Model) (op : ℕ) → formOf (flashModel m op) ≡ formOf m
 unfolding flashModel
 flash-form m op = by-test (eqb op 0x90) (λ e. rw e) (λ e. rw e)
 
--- What one accepted call does to the form, and that its answer is no refusal.
-abbrev Given : Model → Call → Type 0
-Given m c =
-    (formOf (acceptedModel m c) ≡ formGiven c (formOf m)) × (isRefusal (acceptedAnswer m c) ≡ false)
-
-given : (m : Model) (c : Call) → isSound m ≡ true → Given m c
-unfolding acceptedModel acceptedAnswer formGiven isRefusal numberIn failedFlightModel goodFlightModel failedTemperatureModel goodTemperatureModel
+-- What one accepted call does to the form.
+given : (m : Model) (c : Call) → isSound m ≡ true → formOf (acceptedModel m c) ≡ formGiven c (formOf m)
+unfolding acceptedModel formGiven failedFlightModel goodFlightModel failedTemperatureModel goodTemperatureModel
 given m (transaction f o x) s =
-    by-test (isCommand (opcode f)) (λ c. rw c (run-form m (opcode f), refl))
+    by-test (isCommand (opcode f)) (λ c. rw c (run-form m (opcode f)))
     (λ c. by-test (isWrite (opcode f))
-    (λ w. rw (c, w) (write-form m (drop 1 f) (opcode f) (words f) s, refl))
+    (λ w. rw (c, w) (write-form m (drop 1 f) (opcode f) (words f) s))
     (λ w. by-test (isFlash (opcode f))
-    (λ u. rw (c, w, u) (flash-form m (opcode f), refl))
-    (λ u. rw (c, w, u) (read-form m (opcode f) (words f), refl))))
-given m tick s = (tick-model-form m (bounds-of m s), refl)
-given m (flight u d) s = by-test (anyLate m u d) (λ e. rw e (refl, refl)) (λ e. rw e (refl, refl))
-given m (temperature w) s = by-test (portFault m w) (λ e. rw e (refl, refl)) (λ e. rw e (refl, refl))
-given m (stretch n) s = (ticked-form n m (bounds-of m s), refl)
-
--- One call, accepted or refused.
-step-form : (m : Model) (c : Call) →
-    isSound m ≡ true →
-    formOf (reply m c .model) ≡ pick (isRefusal (reply m c .answer)) (formOf m) (formGiven c (formOf m))
-unfolding reply replyBy isRefusal numberIn
-step-form m c s = go (verdict m c)
-  where
-    go : (v : Verdict) →
-        formOf (replyBy v m c .model) ≡ pick (isRefusal (replyBy v m c .answer)) (formOf m) (formGiven c (formOf m))
-    go accepted = rw (given m c s .1) (given m c s .0)
-    go (refused n) = refl
-
-pub all-forms : (cs : List Call) (m : Model) → isSound m ≡ true → formOf (after m cs) ≡ lastForm (log m cs) (formOf m)
-unfolding after log lastForm
-all-forms [] m s = refl
-all-forms (c ∷ cs) m s =
-    all-forms cs (reply m c .model) (keeps-sound m c s) ∙ ap (lastForm (log (reply m c .model) cs)) (step-form m c s)
+    (λ u. rw (c, w, u) (flash-form m (opcode f)))
+    (λ u. rw (c, w, u) (read-form m (opcode f) (words f)))))
+given m tick s = tick-model-form m (bounds-of m s)
+given m (flight u d) s = by-test (anyLate m u d) (λ e. rw e) (λ e. rw e)
+given m (temperature w) s = by-test (portFault m w) (λ e. rw e) (λ e. rw e)
+given m (stretch n) s = ticked-form n m (bounds-of m s)
 
 pub form-kept : FormClaim
-form-kept cs = all-forms cs freshModel fresh-sound ∙ ap (lastForm (log freshModel cs)) fresh-form
+form-kept cs =
+    all-given formOf formGiven (λ (m : Model). isSound m ≡ true) keeps-sound given cs freshModel fresh-sound ∙
+    ap (lastGiven formGiven (log freshModel cs)) fresh-form
   where
     fresh-form : formOf freshModel ≡ false
     fresh-form = unfold freshModel freshWith start in refl

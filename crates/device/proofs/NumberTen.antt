@@ -4,7 +4,7 @@ use native.Mathlib.Omega.{arith}
 use mathlib.Core.Bool.{true}
 use mathlib.Core.List.{[], _∷_}
 use mathlib.Core.Logic.{_↔_}
-use mathlib.Core.Path.{_≡_, refl}
+use mathlib.Core.Path.{_≡_, refl, ap, sym, _∙_}
 use lib.ListN.{length}
 use lib.Dec.{eqb}
 use Rattle.unit.specs.Choice.{pick, negate}
@@ -72,6 +72,20 @@ now-means k m s =
     asked temperatures = refl
 
 -- and of any other
+pub number-ten :
+    (k : Kind) (m : Model) (c : Call) →
+    isSound m ≡ true →
+    isDelivery k c ≡ true →
+    (numberIn (reply m c .answer) ≡ 10 ∷ []) ↔ (negate (isAwaited (scheduleOf k m)) ≡ true)
+number-ten k m c s d =
+    rw (number-of k m c s d)
+    (by-test (isAwaited (scheduleOf k m))
+    (λ a. rw a
+    (by-test (miscounted m c)
+    (λ b. rw b (λ e. let z : _≡_ {A = ℕ} 10 11 = cc in absurd (omega arith), λ e. let z : _≡_ {A = ℕ} 0 1 = cc in absurd (omega arith)))
+    (λ b. rw b (λ e. let z : _≡_ {A = ℕ} 0 1 = cc in absurd (omega arith), λ e. let z : _≡_ {A = ℕ} 0 1 = cc in absurd (omega arith)))))
+    (λ a. rw a (λ e. refl, λ z. refl)))
+
 pub now-any :
     (k : Kind) (m : Model) →
     isSound m ≡ true →
@@ -79,10 +93,7 @@ pub now-any :
     isDelivery k c ≡ true →
     (numberIn (reply m c .answer) ≡ 10 ∷ []) ↔ (awaitedNow k m ≡ 0)
 now-any k m s c d =
-    rw (now-means k m s, number-of k m c s d)
-    (by-test (isAwaited (scheduleOf k m))
-    (λ a. rw a
-    (by-test (miscounted m c)
-    (λ b. rw b (λ e. let z : _≡_ {A = ℕ} 10 11 = cc in absurd (omega arith), λ z. absurd (omega arith)))
-    (λ b. rw b (λ e. let z : _≡_ {A = ℕ} 0 1 = cc in absurd (omega arith), λ z. absurd (omega arith)))))
-    (λ a. rw a (λ e. refl, λ z. refl)))
+    let (f, g) = number-ten k m c s d in
+    rw (now-means k m s)
+    (by-test (isAwaited (scheduleOf k m)) (λ a. rw a (λ e. let t : negate true ≡ true = ap negate (sym a) ∙ f e in let z : _≡_ {A = ℕ} 0 1 = cc in absurd (omega arith), λ e. absurd (omega arith)))
+    (λ a. rw a (λ e. refl, λ e. g (ap negate a))))

@@ -19,12 +19,12 @@ use Rattle.device.specs.FlashFrame.{flashModel}
 use Rattle.device.specs.Bus.{supplied, unsupplied, isEvent, startedEvent, initialisedModel, haltedModel, singleStarted, runModel, readModel}
 use Rattle.device.specs.Call.{Call, transaction, tick, flight, temperature, stretch, opcode, words}
 use Rattle.device.specs.Call.{Verdict, accepted, refused, verdict}
-use Rattle.device.specs.Reply.{numberIn, anyLate, portFault, acceptedModel, replyBy, reply}
-use Rattle.device.specs.History.{isRefusal, after, log}
-use Rattle.device.specs.SetupTold.{wordGiven, lastWritten, setupTold, SetupClaim}
+use Rattle.device.specs.Reply.{anyLate, portFault, acceptedModel, replyBy, reply}
+use Rattle.device.specs.History.{after, log, lastGiven}
+use Rattle.device.specs.SetupTold.{wordGiven, setupTold, SetupClaim}
 use Rattle.device.proofs.RegisterMeaning.{setup-length, setup-means}
 use Rattle.device.proofs.Stretch.{setup-ticked}
-use Rattle.device.proofs.CallSteps.{no-refusal}
+use Rattle.device.proofs.CallSteps.{all-given}
 
 run-setup : (m : Model) (op : ℕ) → runModel m op .setup ≡ pick (eqb op 4) factory (m .setup)
 unfolding runModel resetModel freshWith initialisedModel haltedModel supplied unsupplied startedEvent singleStarted
@@ -123,22 +123,6 @@ step-long m c l = go (verdict m c)
     go accepted = given m c l .long
     go (refused n) = l
 
-step-word :
-    (m : Model) (c : Call) (a : ℕ) →
-    length (m .setup) ≡ 16 →
-    0x34 ≤ a →
-    a ≤ 0x43 →
-    wordOf (reply m c .model .setup) a
-    ≡ pick (isRefusal (reply m c .answer)) (wordOf (m .setup) a) (wordGiven a c (wordOf (m .setup) a))
-unfolding reply replyBy isRefusal numberIn
-step-word m c a l h i = go (verdict m c)
-  where
-    go : (v : Verdict) →
-        wordOf (replyBy v m c .model .setup) a
-        ≡ pick (isRefusal (replyBy v m c .answer)) (wordOf (m .setup) a) (wordGiven a c (wordOf (m .setup) a))
-    go accepted = rw (no-refusal m c) (given m c l .word a h i)
-    go (refused n) = refl
-
 pub all-long : (cs : List Call) (m : Model) → length (m .setup) ≡ 16 → length (after m cs .setup) ≡ 16
 unfolding after
 all-long [] m l = l
@@ -149,12 +133,10 @@ all-words :
     length (m .setup) ≡ 16 →
     0x34 ≤ a →
     a ≤ 0x43 →
-    wordOf (after m cs .setup) a ≡ lastWritten a (log m cs) (wordOf (m .setup) a)
-unfolding after log lastWritten
-all-words [] m a l h i = refl
-all-words (c ∷ cs) m a l h i =
-    all-words cs (reply m c .model) a (step-long m c l) h i ∙
-    ap (lastWritten a (log (reply m c .model) cs)) (step-word m c a l h i)
+    wordOf (after m cs .setup) a ≡ lastGiven (wordGiven a) (log m cs) (wordOf (m .setup) a)
+all-words cs m a l h i =
+    all-given (λ (m : Model). wordOf (m .setup) a) (wordGiven a) (λ (m : Model). length (m .setup) ≡ 16) step-long
+    (λ m c l. given m c l .word a h i) cs m l
 
 -- A list of sixteen words is its words one by one.
 shifted :
@@ -188,8 +170,8 @@ setup-told cs =
     let l : length (freshModel .setup) ≡ 16 = unfold freshModel freshWith in factory-long in
     let s : List ℕ = after freshModel cs .setup in
     sixteen s (all-long cs freshModel l) ∙
-    same-map (wordOf s) (λ (a : ℕ). lastWritten a (log freshModel cs) (wordOf factory a)) 0x34 16
+    same-map (wordOf s) (λ (a : ℕ). lastGiven (wordGiven a) (log freshModel cs) (wordOf factory a)) 0x34 16
     (λ a h i. all-words cs freshModel a l h (omega arith) ∙ fresh-word a)
   where
-    fresh-word : (a : ℕ) → lastWritten a (log freshModel cs) (wordOf (freshModel .setup) a) ≡ lastWritten a (log freshModel cs) (wordOf factory a)
+    fresh-word : (a : ℕ) → lastGiven (wordGiven a) (log freshModel cs) (wordOf (freshModel .setup) a) ≡ lastGiven (wordGiven a) (log freshModel cs) (wordOf factory a)
     fresh-word a = unfold freshModel freshWith in refl

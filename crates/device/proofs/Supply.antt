@@ -1,7 +1,6 @@
 -- The regulator of the user flash over every list of calls.
 use Prim.Native.Nat.{ℕ, zero, suc, _+_}
 use mathlib.Core.Bool.{true, false}
-use mathlib.Core.List.{List, [], _∷_}
 use mathlib.Core.Path.{_≡_, refl, ap, _∙_}
 use lib.Dec.{ltb, leb, eqb}
 use borrow.Author.Tests.{eqb-true}
@@ -9,7 +8,7 @@ use Rattle.unit.specs.Choice.{pick}
 use Rattle.unit.proofs.Cases.{by-test}
 use Rattle.frame.specs.Frame.{isCommand, isWrite, isFlash}
 use Rattle.device.specs.declared.Model.{Model}
-use Rattle.device.specs.Model.{freshModel, freshWith, resetModel}
+use Rattle.device.specs.Model.{isSound, freshModel, freshWith, resetModel}
 use Rattle.device.specs.Write.{writeModel}
 use Rattle.device.specs.Tick.{tickModel}
 use Rattle.device.specs.Stretch.{modelTicked}
@@ -17,10 +16,11 @@ use Rattle.device.specs.Delivery.{goodFlightModel, failedFlightModel, go
 use Rattle.device.specs.FlashFrame.{flashModel}
 use Rattle.device.specs.Bus.{isEvent, startedEvent, initialisedModel, haltedModel, singleStarted, supplied, unsupplied, runModel, readModel}
 use Rattle.device.specs.Call.{Call, transaction, tick, flight, temperature, stretch, opcode, words}
-use Rattle.device.specs.Call.{Verdict, accepted, refused, verdict}
-use Rattle.device.specs.Reply.{numberIn, anyLate, portFault, acceptedAnswer, acceptedModel, replyBy, reply}
-use Rattle.device.specs.History.{isRefusal, after, log}
-use Rattle.device.specs.Supply.{supplyGiven, lastSupply, SupplyClaim}
+use Rattle.device.specs.Reply.{anyLate, portFault, acceptedModel}
+use Rattle.device.specs.History.{log, lastGiven}
+use Rattle.device.specs.Supply.{supplyGiven, SupplyClaim}
+use Rattle.device.proofs.Sound.{fresh-sound, keeps-sound}
+use Rattle.device.proofs.CallSteps.{all-given}
 
 run-supply :
     (m : Model) (op : ℕ) →
@@ -53,42 +53,23 @@ ticked-supply zero m = refl
 ticked-supply (suc n) m = ticked-supply n m
 
 -- One accepted call.
-given :
-    (m : Model) (c : Call) →
-    (acceptedModel m c .regulator ≡ supplyGiven c (m .regulator)) × (isRefusal (acceptedAnswer m c) ≡ false)
-unfolding acceptedModel acceptedAnswer supplyGiven isRefusal numberIn writeModel tickModel failedFlightModel goodFlightModel failedTemperatureModel goodTemperatureModel
-given m (transaction f o x) =
-    by-test (isCommand (opcode f)) (λ c. rw c (run-supply m (opcode f), refl))
-    (λ c. by-test (isWrite (opcode f)) (λ w. rw (c, w) (refl, refl))
+given : (m : Model) (c : Call) → isSound m ≡ true → acceptedModel m c .regulator ≡ supplyGiven c (m .regulator)
+unfolding acceptedModel supplyGiven writeModel tickModel failedFlightModel goodFlightModel failedTemperatureModel goodTemperatureModel
+given m (transaction f o x) s =
+    by-test (isCommand (opcode f)) (λ c. rw c (run-supply m (opcode f)))
+    (λ c. by-test (isWrite (opcode f)) (λ w. rw (c, w))
     (λ w. by-test (isFlash (opcode f))
-    (λ u. rw (c, w, u) (flash-supply m (opcode f), refl))
-    (λ u. rw (c, w, u) (read-supply m (opcode f) (words f), refl))))
-given m tick = (refl, refl)
-given m (flight u d) = by-test (anyLate m u d) (λ e. rw e (refl, refl)) (λ e. rw e (refl, refl))
-given m (temperature w) = by-test (portFault m w) (λ e. rw e (refl, refl)) (λ e. rw e (refl, refl))
-given m (stretch n) = (ticked-supply n m, refl)
-
-step-supply :
-    (m : Model) (c : Call) →
-    reply m c .model .regulator ≡ pick (isRefusal (reply m c .answer)) (m .regulator) (supplyGiven c (m .regulator))
-unfolding reply replyBy isRefusal numberIn
-step-supply m c = go (verdict m c)
-  where
-    go :
-        (v : Verdict) →
-        replyBy v m c .model .regulator
-        ≡ pick (isRefusal (replyBy v m c .answer)) (m .regulator) (supplyGiven c (m .regulator))
-    go accepted = rw (given m c .1) (given m c .0)
-    go (refused n) = refl
-
-all-supplied : (cs : List Call) (m : Model) → after m cs .regulator ≡ lastSupply (log m cs) (m .regulator)
-unfolding after log lastSupply
-all-supplied [] m = refl
-all-supplied (c ∷ cs) m =
-    all-supplied cs (reply m c .model) ∙ ap (lastSupply (log (reply m c .model) cs)) (step-supply m c)
+    (λ u. rw (c, w, u) (flash-supply m (opcode f)))
+    (λ u. rw (c, w, u) (read-supply m (opcode f) (words f)))))
+given m tick s = refl
+given m (flight u d) s = by-test (anyLate m u d) (λ e. rw e) (λ e. rw e)
+given m (temperature w) s = by-test (portFault m w) (λ e. rw e) (λ e. rw e)
+given m (stretch n) s = ticked-supply n m
 
 pub supply-kept : SupplyClaim
-supply-kept cs = all-supplied cs freshModel ∙ ap (lastSupply (log freshModel cs)) off
+supply-kept cs =
+    all-given (λ (m : Model). m .regulator) supplyGiven (λ (m : Model). isSound m ≡ true) keeps-sound given cs freshModel fresh-sound ∙
+    ap (lastGiven supplyGiven (log freshModel cs)) off
   where
     off : freshModel .regulator ≡ false
     off = unfold freshModel freshWith in refl

@@ -91,6 +91,7 @@ pub record KindClaim (k : Kind) (s : List ℕ) (h : History) (m : Model) : Type 
   pub timely : All (λ (e : Expiry). e .at ≡ e .start + 8192) (h .expiries)
   -- "A kind is awaited only while its last start lies fewer than 8,192 ticks back."
   pub recent : awaitedNow k m ≡ 1 → h .ticks < h .last + 8192
+  -- every accepted delivery of the kind, good or failed
   pub judged : All (λ (e : Entry). Judged s (e .call) (e .answer)) (h .deliveries)
   -- "A good measurement of an event adds one to its count": "cycle counts (E4h, EFh)"
   pub count : registerWord m (byKind k 0xE4 0xEF) ≡ length (h .good)

@@ -1,7 +1,7 @@
 -- The clock's form, told from the calls and their answers: "A clock keeps the form it was last written in." (Note 2)
 use Prim.Native.Nat.{_-_}
 use mathlib.Core.Bool.{Bool, false}
-use mathlib.Core.List.{List, [], _∷_}
+use mathlib.Core.List.{List}
 use mathlib.Core.Path.{_≡_}
 use lib.ListN.{drop}
 use lib.Dec.{eqb}
@@ -11,7 +11,7 @@ use Rattle.frame.specs.Frame.{wordAt}
 use Rattle.device.specs.Model.{freshModel}
 use Rattle.device.specs.Write.{covers}
 use Rattle.device.specs.Call.{Call, transaction, tick, flight, temperature, stretch, opcode, words, bySort}
-use Rattle.device.specs.History.{Entry, isRefusal, after, log}
+use Rattle.device.specs.History.{after, log, lastGiven}
 
 -- 12-hour form or not, after an accepted call, by what it was: Reset gives a fresh clock, which has 24-hour form; a write of
 -- 31h gives the form of its word
@@ -25,11 +25,6 @@ formGiven (flight u d) form = form
 formGiven (temperature w) form = form
 formGiven (stretch n) form = form
 
--- the form last written: a refused call writes nothing
-unfoldable pub lastForm : List Entry → Bool → Bool
-lastForm [] form = form
-lastForm (e ∷ es) form = lastForm es (pick (isRefusal (e .answer)) form (formGiven (e .call) form))
-
 -- On a model that grew from a fresh one by any list of calls, refused ones among them, the clock has the form last written.
 abbrev pub FormClaim : Type 0
-FormClaim = (cs : List Call) → (after freshModel cs) .clock .twelve ≡ lastForm (log freshModel cs) false
+FormClaim = (cs : List Call) → (after freshModel cs) .clock .twelve ≡ lastGiven formGiven (log freshModel cs) false

@@ -34,6 +34,11 @@ log m (c ∷ cs) = record { call = c; answer = reply m c .answer } ∷ log (repl
 unfoldable pub isRefusal : Answer → Bool
 isRefusal a = ltb 0 (length (numberIn a))
 
+-- What a list of calls tells of a value that each accepted call gives anew, from what it was: a refused call changes nothing.
+unfoldable pub lastGiven : {A : Type 0} → (Call → A → A) → List Entry → A → A
+lastGiven given [] x = x
+lastGiven given (e ∷ es) x = lastGiven given es (pick (isRefusal (e .answer)) x (given (e .call) x))
+
 -- the value at a place of an answer, the first at 0
 abbrev pub valueAt : ℕ → Answer → ℕ
 valueAt i a = getD (valuesIn a) i 0

@@ -1,12 +1,12 @@
 -- Whether a model is initialised, told from the calls and their answers: "05h Initialize makes the model initialised, until a Reset"
 use mathlib.Core.Bool.{Bool, true, false}
-use mathlib.Core.List.{List, [], _∷_}
+use mathlib.Core.List.{List}
 use mathlib.Core.Path.{_≡_}
 use lib.Dec.{eqb}
 use Rattle.unit.specs.Choice.{pick}
 use Rattle.device.specs.Model.{freshModel}
 use Rattle.device.specs.Call.{Call, transaction, tick, flight, temperature, stretch, opcode}
-use Rattle.device.specs.History.{Entry, isRefusal, after, log}
+use Rattle.device.specs.History.{after, log, lastGiven}
 
 -- whether a model is initialised after an accepted call, by its first byte: 04h Reset, 05h Initialize, or any other, which
 -- changes nothing
@@ -17,12 +17,7 @@ initialisedBy (flight u d) initialised = initialised
 initialisedBy (temperature w) initialised = initialised
 initialisedBy (stretch n) initialised = initialised
 
--- what the last accepted 04h or 05h says: a refused call says nothing
-unfoldable pub lastInitialised : List Entry → Bool → Bool
-lastInitialised [] initialised = initialised
-lastInitialised (e ∷ es) initialised = lastInitialised es (pick (isRefusal (e .answer)) initialised (initialisedBy (e .call) initialised))
-
 -- On a model that grew from a fresh one by any list of calls, refused ones among them, "initialised" is what the last accepted 04h or
 -- 05h says; a fresh one is not initialised.
 abbrev pub InitialisedClaim : Type 0
-InitialisedClaim = (cs : List Call) → (after freshModel cs) .initialised ≡ lastInitialised (log freshModel cs) false
+InitialisedClaim = (cs : List Call) → (after freshModel cs) .initialised ≡ lastGiven initialisedBy (log freshModel cs) false

@@ -1,6 +1,6 @@
 -- The set-up, told from the calls and their answers: each register of 34h to 43h has the word last written to it since Reset.
 use Prim.Native.Nat.{ℕ, _-_}
-use mathlib.Core.List.{List, [], _∷_, map}
+use mathlib.Core.List.{List, map}
 use mathlib.Core.Path.{_≡_}
 use lib.ListN.{drop}
 use lib.Dec.{eqb}
@@ -11,7 +11,7 @@ use Rattle.device.specs.Model.{freshModel}
 use Rattle.device.specs.Registers.{upwards}
 use Rattle.device.specs.Write.{covers}
 use Rattle.device.specs.Call.{Call, transaction, tick, flight, temperature, stretch, opcode, words, bySort}
-use Rattle.device.specs.History.{Entry, isRefusal, after, log}
+use Rattle.device.specs.History.{Entry, after, log, lastGiven}
 
 -- The word of register a after an accepted call, by what it was: Reset gives "configuration at the factory values", a write that
 -- covers a its own word; "n ≥ 1 words follow, to consecutive registers"; "Reserved bits are kept as written".
@@ -25,14 +25,9 @@ wordGiven a (flight u d) w = w
 wordGiven a (temperature p) w = w
 wordGiven a (stretch n) w = w
 
--- the word last written: a refused call writes nothing
-unfoldable pub lastWritten : ℕ → List Entry → ℕ → ℕ
-lastWritten a [] w = w
-lastWritten a (e ∷ es) w = lastWritten a es (pick (isRefusal (e .answer)) w (wordGiven a (e .call) w))
-
 -- 34h to 43h after a list of calls on a fresh model
 unfoldable pub setupTold : List Entry → List ℕ
-setupTold es = map (λ (a : ℕ). lastWritten a es (wordOf factory a)) (upwards 0x34 16)
+setupTold es = map (λ (a : ℕ). lastGiven (wordGiven a) es (wordOf factory a)) (upwards 0x34 16)
 
 -- On a model that grew from a fresh one by any list of calls, refused ones among them, the set-up is the one told.
 abbrev pub SetupClaim : Type 0

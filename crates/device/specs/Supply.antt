@@ -1,13 +1,13 @@
 -- The regulator of the user flash, told from the calls and their answers: on from an accepted LDO_ON until LDO_OFF or Reset
 -- (Note 8).
 use mathlib.Core.Bool.{Bool, true, false}
-use mathlib.Core.List.{List, [], _∷_}
+use mathlib.Core.List.{List}
 use mathlib.Core.Path.{_≡_}
 use lib.Dec.{eqb}
 use Rattle.unit.specs.Choice.{pick}
 use Rattle.device.specs.Model.{freshModel}
 use Rattle.device.specs.Call.{Call, transaction, tick, flight, temperature, stretch, opcode, bySort}
-use Rattle.device.specs.History.{Entry, isRefusal, after, log}
+use Rattle.device.specs.History.{after, log, lastGiven}
 
 unfoldable pub supplyGiven : Call → Bool → Bool
 supplyGiven (transaction f o x) on =
@@ -19,11 +19,7 @@ supplyGiven (flight u d) on = on
 supplyGiven (temperature w) on = on
 supplyGiven (stretch n) on = on
 
-unfoldable pub lastSupply : List Entry → Bool → Bool
-lastSupply [] on = on
-lastSupply (e ∷ es) on = lastSupply es (pick (isRefusal (e .answer)) on (supplyGiven (e .call) on))
-
 -- On a model that grew from a fresh one by any list of calls, refused ones among them, the regulator is as the last accepted 04h, 0Ch
 -- or 0Dh says.
 abbrev pub SupplyClaim : Type 0
-SupplyClaim = (cs : List Call) → (after freshModel cs) .regulator ≡ lastSupply (log freshModel cs) false
+SupplyClaim = (cs : List Call) → (after freshModel cs) .regulator ≡ lastGiven supplyGiven (log freshModel cs) false

@@ -10,8 +10,7 @@ use Rattle.setup.specs.Setup.{differenceCount, temperatureCount, differencePeri
 use Rattle.frame.specs.Frame.{isCommand, isWrite, isFlash, isRead, notWhole, pastEnd, wordAt}
 use Rattle.hit.specs.Limit.{lateFrom, openFrom, shortBelow, anyWord, anyFrom, anyBelow, anyFault}
 use Rattle.hit.specs.Words.{wordOrZero, sixWords, fourWords, sixTotal, average, filled, failedPairs, failedPorts, portPair, portPairs, plusEach}
-use Rattle.hit.specs.Difference.{differenceWord, differenceMean, portMean}
-use Rattle.hit.specs.Biased.{biased}
+use Rattle.hit.specs.Difference.{biased, differenceWord, differenceMean, portMean}
 use Rattle.hit.specs.Mean.{differenceBits}
 use Rattle.device.specs.Event.{noSchedule, countsSound, waitSound, balanceSound, scheduleSound, isAwaited, inEvent, startsLeft, beginsGroup, fails, startEvent, tickSchedule, begins, leftAfter, waitAfter, startedAfter}
 use Rattle.device.specs.Event.{settledAfter, goodAfter, settle, isLast}
@@ -32,14 +31,14 @@ use Rattle.device.specs.Reply.{anyLate, anyOpen, portFault, numberIn, valuesIn,
 use Rattle.device.specs.Call.{noFrame, notCarried, wrongLength, pastRegisters, shortOutput, whileBusy, supplyOff, unreachable, unerased, badCalendar}
 use Rattle.device.specs.Call.{notInitialised, badSetup, notAwaited, miscounted, tooLong}
 use Rattle.device.specs.Reply.{acceptedAnswer, acceptedModel}
-use Rattle.device.specs.History.{after, log, isRefusal, mayFollow, onlyReads}
+use Rattle.device.specs.History.{after, log, isRefusal, lastGiven, mayFollow, onlyReads}
 use Rattle.device.specs.History.{atAcceptance, opensGroup, noteTick, noteTicks, noteDelivery, noteRead, noteAccepted, note, history}
 use Rattle.device.specs.Claim.{ticksMoved, tickCount}
-use Rattle.device.specs.SetupTold.{wordGiven, lastWritten, setupTold}
+use Rattle.device.specs.SetupTold.{wordGiven, setupTold}
 use Rattle.device.specs.FlashRun.{lent, memoryLeft}
 use Rattle.device.specs.Probes.{startOf, flowOf, flowThrough}
 use Rattle.device.specs.StretchSteps.{progress, moved, movedQuietly, movedByOne, noted, least, quietFor, quietClock, quietSchedule, quietLeft, quietWait, laterModel, laterClock, laterSchedule}
 
 unfoldable pub computed : Bool
-unfolding after reply replyBy verdict firstOf table noFrame notCarried wrongLength pastRegisters shortOutput whileBusy supplyOff unreachable unerased badCalendar notInitialised badSetup notAwaited miscounted tooLong acceptedModel freshModel freshWith porBit noFlight noTemperature noSchedule start factory isSound sumFits flightSound temperatureSound scheduleSound clockValid dateFits timeFits leap monthLength kindBusy isBusy isAwaited inEvent isCommand isWrite isFlash isRead notWhole pastEnd wordAt calendarWord word30 word31 hourDigits word32 word33 bcd hundredthsOf minuteIn twelveIn hourNamed hourIn ticksIn clockFrom timeDigits hourFits digitsFit wordsValid alarmValid alarmWord covers written withWord setupAfter ticksAfter clockAfter writeInvalid writeModel mustBeIdle startsFlight startsTemperature isEvent commandBusy beforeInitialize flightSideUnset temperatureSideUnset eventSideUnset commandUnset flightUnset temperatureUnset eventContinuous startsLeft beginsGroup goodAfter countsSound waitSound balanceSound sumAfter sumsAfter flightTicked clockStands runModel initialisedModel joined modelTicked begins leftAfter waitAfter startedAfter log onlyReads isRefusal mayFollow acceptedAnswer startedEvent eventFlight flightEvent startEvent differenceCount eventTemperature temperatureEvent temperatureCount tickModel clockTicked tickClock flightAfter fails tickSchedule settledAfter temperatureAfter stretchReport lastTick scheduleTicked reportOf registerWord flightWord temperatureWord half settle goodFlight goodSum goodDifference goodFlightModel goodTemperatureModel failedTemperatureModel goodSums sixWords fourWords average sixTotal filled portPairs portPair plusEach wordOrZero biased differenceWord differenceMean differenceBits portMean anyLate anyOpen portFault anyFault anyFrom anyBelow anyWord shortBelow lateFrom openFrom hitCount timeout portCycle flightMiscounted sameCount differencePeriod temperaturePeriod flowThrough flowOf failedFlight failedDifference failedFlightModel numberIn valuesIn output outputBy acceptedOutput readModel fillWords noBits statusWord setsOwnBit isLast flightStatus temperatureStatus flightBits temperatureBits alarmBit eachInterrupt tickStatus startOf ticksMoved tickCount atAcceptance opensGroup noteTick noteTicks noteDelivery noteRead noteAccepted note history wordGiven lastWritten setupTold initBit nextSecond tickRings alarmMode failedPairs failedPorts alarmRings reaches progress moved movedQuietly movedByOne noted least quietFor quietClock quietSchedule quietLeft quietWait laterModel laterClock laterSchedule lent memoryLeft
+unfolding after reply replyBy verdict firstOf table noFrame notCarried wrongLength pastRegisters shortOutput whileBusy supplyOff unreachable unerased badCalendar notInitialised badSetup notAwaited miscounted tooLong acceptedModel freshModel freshWith porBit noFlight noTemperature noSchedule start factory isSound sumFits flightSound temperatureSound scheduleSound clockValid dateFits timeFits leap monthLength kindBusy isBusy isAwaited inEvent isCommand isWrite isFlash isRead notWhole pastEnd wordAt calendarWord word30 word31 hourDigits word32 word33 bcd hundredthsOf minuteIn twelveIn hourNamed hourIn ticksIn clockFrom timeDigits hourFits digitsFit wordsValid alarmValid alarmWord covers written withWord setupAfter ticksAfter clockAfter writeInvalid writeModel mustBeIdle startsFlight startsTemperature isEvent commandBusy beforeInitialize flightSideUnset temperatureSideUnset eventSideUnset commandUnset flightUnset temperatureUnset eventContinuous startsLeft beginsGroup goodAfter countsSound waitSound balanceSound sumAfter sumsAfter flightTicked clockStands runModel initialisedModel joined modelTicked begins leftAfter waitAfter startedAfter log onlyReads isRefusal mayFollow acceptedAnswer startedEvent eventFlight flightEvent startEvent differenceCount eventTemperature temperatureEvent temperatureCount tickModel clockTicked tickClock flightAfter fails tickSchedule settledAfter temperatureAfter stretchReport lastTick scheduleTicked reportOf registerWord flightWord temperatureWord half settle goodFlight goodSum goodDifference goodFlightModel goodTemperatureModel failedTemperatureModel goodSums sixWords fourWords average sixTotal filled portPairs portPair plusEach wordOrZero biased differenceWord differenceMean differenceBits portMean anyLate anyOpen portFault anyFault anyFrom anyBelow anyWord shortBelow lateFrom openFrom hitCount timeout portCycle flightMiscounted sameCount differencePeriod temperaturePeriod flowThrough flowOf failedFlight failedDifference failedFlightModel numberIn valuesIn output outputBy acceptedOutput readModel fillWords noBits statusWord setsOwnBit isLast flightStatus temperatureStatus flightBits temperatureBits alarmBit eachInterrupt tickStatus startOf ticksMoved tickCount atAcceptance opensGroup noteTick noteTicks noteDelivery noteRead noteAccepted note history wordGiven lastGiven setupTold initBit nextSecond tickRings alarmMode failedPairs failedPorts alarmRings reaches progress moved movedQuietly movedByOne noted least quietFor quietClock quietSchedule quietLeft quietWait laterModel laterClock laterSchedule lent memoryLeft
 computed = true

@@ -1,0 +1,1 @@
+// The page of `show`, row by row. Definitions and their facts; no code.

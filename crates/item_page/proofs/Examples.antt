@@ -4,13 +4,15 @@ use Prim.Native.String.{String}
 use mathlib.Core.Bool.{Bool, true, false}
 use mathlib.Core.List.{List, [], _∷_, map}
 use mathlib.Core.Path.{_≡_, refl}
-use lib.ListN.{take, drop}
+use lib.ListN.{getD, take, drop}
 use Rattle.numeral.specs.Ascii.{ascii}
 use Rattle.device.specs.declared.Schedule.{Schedule}
-use Rattle.device.specs.Event.{ticks, scheduleBy, balanceSound, countsSound, inEvent, isAwaited, noSchedule, scheduleSound, startSingle, startsLeft, waitSound}
-use Rattle.device.specs.Model.{freshModel, withInitialised, withSetup, flightSound, freshWith, isBusy, isSound, kindBusy, noFlight, noTemperature, sumFits, temperatureSound}
+use Rattle.device.specs.declared.Flight.{Flight}
+use Rattle.device.specs.Registers.{registerWord, calendarWord, flightWord, half, temperatureWord}
+use Rattle.device.specs.Event.{ticks, scheduleBy, noSchedule, balanceSound, countsSound, inEvent, isAwaited, scheduleSound, startSingle, startsLeft, waitSound}
+use Rattle.device.specs.Model.{freshModel, withInitialised, withSetup, withFlight, flightSound, freshWith, isBusy, isSound, kindBusy, noFlight, noTemperature, sumFits, temperatureSound}
 use Rattle.text.specs.Text.{Text, spaced, spacedEach, textWhere}
-use Rattle.item_page.specs.Row.{refusal, absentPair, absentRow, binary, nameWhere, namesOr, pairRow, pairWord, plural, refusalWords, registerRow, storedRow}
+use Rattle.item_page.specs.Row.{refusal, pairWord, absentPair, absentRow, binary, nameWhere, namesOr, pairRow, plural, refusalWords, registerRow, storedRow}
 use Rattle.item_page.specs.Registers.{clockText, timeOfDay, halfDay, alarmText, pulses, divider, hitsText, timing1Text, timing2Text, oscillatorText, resultText, portText, differenceText, signedTime, statusRows, clockRows, setupRows, flightRows, temperatureRows, controlNames, countRow, halfSeconds, highNames, hours, lowNames, portRow, registerRows, resultRow, seconds, supplyRow, time}
 use Rattle.item_page.specs.Page.{awaitedText, eventText, nextText, commandRows, page, answerText, clockFields, fields, flightFields, frameRow, runRows, temperatureFields, waitText}
 use Rattle.calendar.specs.Calendar.{clockValid, dateFits, monthLength, start, timeFits}
@@ -23,7 +25,6 @@ use Rattle.flash.specs.Flash.{addressRefused, beyond, oddAddress, wrongSize}
 use Rattle.device.specs.Bus.{beforeInitialize, commandBusy, commandUnset, eventSideUnset, flightSideUnset, initialisedModel, isEvent, mustBeIdle, runModel, singleStarted, startsFlight, startsTemperature, supplied, temperatureSideUnset}
 use Rattle.device.specs.Call.{badCalendar, badSetup, firstOf, miscounted, noFrame, notAwaited, notCarried, notInitialised, pastRegisters, shortOutput, supplyOff, table, tooLong, unerased, unreachable, verdict, whileBusy, wrongLength}
 use Rattle.device.specs.FlashFrame.{flashAddress, flashUnerased, flashUnreachable}
-use Rattle.device.specs.Registers.{calendarWord, flightWord, half, registerWord, temperatureWord}
 use Rattle.device.specs.Reply.{acceptedAnswer, acceptedModel, numberIn, reply, replyBy}
 use Rattle.device.specs.Status.{initBit, joined, ldoBit, porBit, statusWord}
 use Rattle.device.specs.Write.{clockAfter, covers, setupAfter, ticksAfter, withWord, writeInvalid, writeModel, written}
@@ -46,6 +47,19 @@ own a = a
 
 abbrev ownPair : ℕ → ℕ
 ownPair a = a * 65536 + a
+
+-- two hits up and down and their averages, of which the difference is -2 periods
+abbrev measured : Flight
+measured =
+    record {
+      schedule = noSchedule;
+      up = true;
+      down = true;
+      sum = 0;
+      ups = 0x00460000 ∷ 0x00470001 ∷ 0 ∷ 0 ∷ 0 ∷ 0 ∷ 0x00468000 ∷ [];
+      downs = 0x00480000 ∷ 0x00490000 ∷ 0 ∷ 0 ∷ 0 ∷ 0 ∷ 0x00488000 ∷ [];
+      difference = 0xFFFE0000;
+    }
 
 -- the word that each row prints
 abbrev printed : List Text → List Text
@@ -269,6 +283,20 @@ difference-of-minus-one = refl
 difference-failed : differenceText 0xFFFFFFFF 0xFFFFFFFF ≡ ascii "no time"
 unfolding ascii differenceText
 difference-failed = refl
+
+-- the rows of a measurement, by the registers of its model
+times-measured : map (λ k. getD (flightRows (registerWord (withFlight freshModel measured)) (pairWord (withFlight freshModel measured))) k []) (2 ∷ 3 ∷ 8 ∷ 10 ∷ 16 ∷ 17 ∷ []) ≡ texts
+    ("C5 C6  Hit1UpInt/Frac           0046 0000      17500.0000 ns"
+    ∷ "C7 C8  Hit2UpInt/Frac           0047 0001      17750.0038 ns"
+    ∷ "D1 D2  AVGUPInt/Frac            0046 8000      17625.0000 ns"
+    ∷ "D4 D5  Hit1DnInt/Frac           0048 0000      18000.0000 ns"
+    ∷ "E0 E1  AVGDNInt/Frac            0048 8000      18125.0000 ns"
+    ∷ "E2 E3  TOF_DIFFInt/Frac         FFFE 0000       -500.0000 ns"
+    ∷ [])
+unfolding start factory differenceMean noSchedule freshModel freshWith noFlight noTemperature flightWord half registerWord porBit ascii
+    digits glyph decimal decimalWidth fourDecimals nanoseconds signedNanoseconds tenThousandths widthFrom rightJustified countRow
+    differenceText flightRows resultRow resultText signedTime time absentRow pairRow pairWord registerRow
+times-measured = refl
 
 -- ---- the status
 

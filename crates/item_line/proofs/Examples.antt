@@ -70,6 +70,8 @@ transactionsRows =
     ∷ ("flight /", calls (Call.flight [] []))
     ∷ ("temperature 1 2 3 ffffffff", calls (Call.temperature (1 ∷ 2 ∷ 3 ∷ 0xFFFFFFFF ∷ [])))
     ∷ ("temperature", calls (Call.temperature []))
+    ∷ ("flight 0 0 0 0 0 0 0 0 0 0 0 0 0 0 0 0 / 0 0 0 0 0 0 0 0 0 0 0 0 0 0 0 0", calls (Call.flight (replicate 16 0) (replicate 16 0)))
+    ∷ ("temperature 0 0 0 0 0 0 0 0 0 0 0 0 0 0 0 0", calls (Call.temperature (replicate 16 0)))
     ∷ []
 
 -- lines of one number, of none, and of a list
@@ -165,6 +167,7 @@ badLinesRows =
     ∷ ("flight 123456789 / zz", misnumbered "123456789")
     ∷ ("flight 0 0 0 0 0 0 0 0 0 0 0 0 0 0 0 0 0 /", miscounted)
     ∷ ("temperature 0 0 0 0 0 0 0 0 0 0 0 0 0 0 0 0 0", miscounted)
+    ∷ ("flight / 0 0 0 0 0 0 0 0 0 0 0 0 0 0 0 0 0", miscounted)
     ∷ ("degrees 1", miscounted)
     ∷ ("degrees 1 -2 3", misnumbered "-2")
     ∷ ("degrees 1 2 zz", miscounted)

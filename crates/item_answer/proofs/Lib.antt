@@ -1,3 +1,4 @@
 pub mod Examples
 pub mod BadLine
 pub mod Agreement
+pub mod ReadLine

@@ -65,6 +65,7 @@ transactionsRows =
     ("bus", calls (Call.bus Output.byFrame []))
     ∷ ("bus 38 1a 1A", calls (Call.bus Output.byFrame (0x38 ∷ 0x1A ∷ 0x1A ∷ [])))
     ∷ ("bus out=007 B0 00", calls (Call.bus (Output.outOf 7) (0xB0 ∷ 0 ∷ [])))
+    ∷ ("set 30 ffff", calls (Call.set 0x30 (0xFFFF ∷ [])))
     ∷ ("set 43 1 beef", calls (Call.set 0x43 (1 ∷ 0xBEEF ∷ [])))
     ∷ ("flight 460000 470000 / 7FFFFFFF", calls (Call.flight (0x460000 ∷ 0x470000 ∷ []) (0x7FFFFFFF ∷ [])))
     ∷ ("flight /", calls (Call.flight [] []))

@@ -5,6 +5,7 @@ use mathlib.Core.Bool.{Bool, true, false}
 use mathlib.Core.List.{List, [], _∷_, _++_, map}
 use mathlib.Core.Path.{_≡_, refl}
 use lib.IntN.{pos, negsuc}
+use lib.ListN.{replicate}
 use Rattle.numeral.specs.Ascii.{ascii}
 use Rattle.device.specs.declared.Report.{Report}
 use Rattle.device.specs.declared.StretchReport.{StretchReport}
@@ -73,6 +74,11 @@ six t = t .calls ∷ t .refused ∷ t .unannounced ∷ t .bad ∷ t .expectation
 -- an item, 5 ticks after a start, with 2 ticks left to the flight measurement that is awaited
 abbrev late : Item
 late = withModel freshItem (withFlight freshModel (flightWith noFlight (withLeft noSchedule 2))) 5
+
+-- an item whose probe table and record have room for one more
+abbrev nearlyFull : Item
+nearlyFull =
+    record { model = freshModel; flash = []; recorded = replicate 4095 (pos 0); probes = replicate 1023 5; moment = 0 }
 
 -- of one tick: failed, started; of a stretch: the tick of a failure, the tick of a start
 abbrev report : Bool → Bool → Report
@@ -186,6 +192,18 @@ faultsRows =
     ∷ ("at x => 1", "line 5: bad number x")
     ∷ []
 
+-- room for one more: what has none is not added
+abbrev roomRows : Rows
+roomRows =
+    ("probe 1 2", "line 1: no room")
+    ∷ ("probe 1", "probe 1024")
+    ∷ ("probe 1", "line 3: no room")
+    ∷ ("record 1 2", "line 4: no room")
+    ∷ ("record 1", "record 1")
+    ∷ ("record", "line 6: no room")
+    ∷ ("quietest 4096", "quietest 0 1")
+    ∷ []
+
 -- 5 ticks after a start, with 2 ticks left to the measurement that is awaited
 abbrev ticksSinglyRows : Rows
 ticksSinglyRows =
@@ -276,6 +294,7 @@ scripts =
     ∷ (expectationsRows, freshItem)
     ∷ (analysesRows, freshItem)
     ∷ (faultsRows, freshItem)
+    ∷ (roomRows, nearlyFull)
     ∷ (ticksSinglyRows, late)
     ∷ (ticksFromOneRows, late)
     ∷ (ticksAtOnceRows, late)

@@ -2,3 +2,4 @@ pub mod Examples
 pub mod BadLine
 pub mod Agreement
 pub mod ReadLine
+pub mod Kept

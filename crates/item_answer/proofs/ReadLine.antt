@@ -1,13 +1,12 @@
 -- `read` is a read that is not refused, and has the words that `expect` and `regs` have. Assumes nothing.
 use Prim.Native.Nat.{ℕ, zero, suc, _+_, _-_, _*_, _/_, _%_, _≤_, _<_}
 use native.Mathlib.Omega.{arith}
-use mathlib.Core.Bool.{Bool, true, false}
+use mathlib.Core.Bool.{true}
 use mathlib.Core.List.{List, [], _∷_}
-use mathlib.Core.Path.{_≡_, refl, _∙_, ap, sym}
-use lib.Dec.{ltb, leb, eqb}
+use mathlib.Core.Path.{_≡_, refl, _∙_}
 use lib.ListN.{length, getD, replicate, length-replicate}
 use borrow.Author.Tests.{le-ltb, ne-eqb}
-use Rattle.frame.specs.Frame.{isCommand, isWrite, isFlash, isRead, notWhole, pastEnd}
+use Rattle.frame.specs.Frame.{isRead, notWhole, pastEnd}
 use Rattle.frame.proofs.Laws.{read-means, read-alone}
 use Rattle.device.specs.declared.Model.{Model}
 use Rattle.device.specs.Model.{isSound}
@@ -17,7 +16,7 @@ use Rattle.device.proofs.RegisterMeaning.{fill-length}
 use Rattle.device.proofs.BusMeaning.{read-bytes}
 use Rattle.item_answer.specs.Words.{wordsOf, registers}
 use Rattle.item_answer.specs.Answer.{Item, readCall, readWords}
-use Rattle.device.specs.Call.{Call, transaction, accepted, verdict, firstOf, table, noFrame, notCarried, wrongLength, pastRegisters, shortOutput, whileBusy, supplyOff, unreachable, unerased, badCalendar, notInitialised, badSetup, notAwaited, miscounted, tooLong}
+use Rattle.device.specs.Call.{transaction, accepted, verdict, firstOf, table, noFrame, notCarried, wrongLength, pastRegisters, shortOutput, whileBusy, supplyOff, unreachable, unerased, badCalendar, notInitialised, badSetup, notAwaited, miscounted, tooLong}
 
 -- "No such read is refused": of n words from the address a on, with two bytes for each behind the address and in the buffer
 frame-accepted :

@@ -174,6 +174,7 @@ stretchTold n a m i =
 
 -- ---- `flight` and `temperature`
 
+-- "`flight good`, `flight failed` or `flight no NUMBER WORD`", and so for `temperature`
 unfoldable pub deliveryTold : String → ChipCall → Item → Told
 deliveryTold keyword c i =
     let r = reply (i .model) c in record {

@@ -201,7 +201,6 @@ roomRows =
     ∷ ("record 1 2", "line 4: no room")
     ∷ ("record 1", "record 1")
     ∷ ("record", "line 6: no room")
-    ∷ ("quietest 4096", "quietest 0 1")
     ∷ []
 
 -- 5 ticks after a start, with 2 ticks left to the measurement that is awaited

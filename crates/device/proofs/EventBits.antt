@@ -63,18 +63,26 @@ pub record Raised (k : Kind) (s : Status) (settles : Bool) (c : Schedule) (each 
   pub evtmg : has after (evtmgBit k) ≡ either (has s (evtmgBit k)) (both settles (isLast c))
   pub own : has after (ownBit k) ≡ either (has s (ownBit k)) (both settles (setsOwnBit c each))
 
+ticks-raise :
+    (k : Kind) (s : Status) (a each e g : Bool) (f t : Schedule) →
+    Raised k s (byKind k e g) (byKind k f t) each
+    (joined (joined (joined s (alarmBit a)) (flightBits f each e e)) (temperatureBits t each g g))
+unfolding joined alarmBit flightBits temperatureBits noBits
+ticks-raise differences s a each true true f t = record { evtmg = simp kept; own = simp kept }
+ticks-raise differences s a each true false f t = record { evtmg = simp kept; own = simp kept }
+ticks-raise differences s a each false true f t = record { evtmg = simp kept; own = simp kept }
+ticks-raise differences s a each false false f t = record { evtmg = simp kept; own = simp kept }
+ticks-raise temperatures s a each true true f t = record { evtmg = simp kept; own = simp kept }
+ticks-raise temperatures s a each true false f t = record { evtmg = simp kept; own = simp kept }
+ticks-raise temperatures s a each false true f t = record { evtmg = simp kept; own = simp kept }
+ticks-raise temperatures s a each false false f t = record { evtmg = simp kept; own = simp kept }
+
 tick-raises :
     (k : Kind) (m : Model) →
     Raised k (m .status) (fails (scheduleOf k m)) (scheduleOf k m) (eachInterrupt (m .setup)) (tickModel m .status)
-unfolding tickModel tickStatus joined alarmBit flightBits temperatureBits noBits
-tick-raises differences m =
-    by-test (fails (m .flight .schedule))
-    (λ e. by-test (fails (m .temperature .schedule)) (λ g. rw (e, g) (record { evtmg = simp kept; own = simp kept })) (λ g. rw (e, g) (record { evtmg = simp kept; own = simp kept })))
-    (λ e. by-test (fails (m .temperature .schedule)) (λ g. rw (e, g) (record { evtmg = simp kept; own = simp kept })) (λ g. rw (e, g) (record { evtmg = simp kept; own = simp kept })))
-tick-raises temperatures m =
-    by-test (fails (m .flight .schedule))
-    (λ e. by-test (fails (m .temperature .schedule)) (λ g. rw (e, g) (record { evtmg = simp kept; own = simp kept })) (λ g. rw (e, g) (record { evtmg = simp kept; own = simp kept })))
-    (λ e. by-test (fails (m .temperature .schedule)) (λ g. rw (e, g) (record { evtmg = simp kept; own = simp kept })) (λ g. rw (e, g) (record { evtmg = simp kept; own = simp kept })))
+unfolding tickModel tickStatus
+tick-raises differences m = ticks-raise differences (m .status) _ _ _ _ (m .flight .schedule) (m .temperature .schedule)
+tick-raises temperatures m = ticks-raise temperatures (m .status) _ _ _ _ (m .flight .schedule) (m .temperature .schedule)
 
 -- and a delivery, of the kind itself and of the other
 pub flight-raises :

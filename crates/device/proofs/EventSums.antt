@@ -3,7 +3,7 @@ use Prim.Native.Nat.{ℕ, zero, suc, _+_, _*_, _/_, _%_, _^_, _<_, min}
 use native.Mathlib.Omega.{arith}
 use mathlib.Core.Logic.{_↔_}
 use mathlib.Core.Path.{_≡_, refl, ap}
-use mathlib.Core.Bool.{Bool, true, false}
+use mathlib.Core.Bool.{Bool, true, false, false≢true}
 use mathlib.Core.List.{List, [], _∷_, _++_, map, map-append}
 use lib.ListN.{length, length-map, getD}
 use lib.Dec.{eqb}
@@ -181,7 +181,7 @@ module _ (m : Model) (h : History) (i : FlightHeld (m .setup) h (m .flight)) whe
       by-test (anyLate m u d)
       (λ l. rw l
       (λ e. all-append (JudgedAs s) (h .deliveries) _ (i .judged)
-      (cu, cd, rw e (λ v. let z : _≡_ {A = ℕ} 0 1 = cc in absurd (omega arith), λ w. let t : false ≡ true = rw (in-time s u .1 (w .0), in-time s d .1 (w .1)) at l in let z : _≡_ {A = ℕ} 0 1 = cc in absurd (omega arith)))))
+      (cu, cd, rw e (λ v. let z : _≡_ {A = ℕ} 0 1 = cc in absurd (omega arith), λ w. let t : false ≡ true = rw (in-time s u .1 (w .0), in-time s d .1 (w .1)) at l in absurd (false≢true t)))))
       (λ l. rw l
       (λ e. let (lu, ld) = neither _ _ l in
       all-append (JudgedAs s) (h .deliveries) _ (i .judged)
@@ -280,7 +280,7 @@ module _ (m : Model) (h : History) (i : TemperatureHeld (m .setup) h (m .tempera
       by-test (portFault m w)
       (λ l. rw l
       (λ e. all-append (JudgedAs (m .setup)) (h .deliveries) _ (i .judged)
-      (four, rw e (λ v. let z : _≡_ {A = ℕ} 0 1 = cc in absurd (omega arith), λ g. let t : false ≡ true = rw (whole g) at l in let z : _≡_ {A = ℕ} 0 1 = cc in absurd (omega arith)))))
+      (four, rw e (λ v. let z : _≡_ {A = ℕ} 0 1 = cc in absurd (omega arith), λ g. let t : false ≡ true = rw (whole g) at l in absurd (false≢true t)))))
       (λ l. rw l
       (λ e. all-append (JudgedAs (m .setup)) (h .deliveries) _ (i .judged) (four, rw e (λ v. fits l, λ g. refl))))
 

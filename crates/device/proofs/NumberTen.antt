@@ -1,7 +1,7 @@
 -- Number 10 is given for a delivery exactly where its kind is not awaited, whatever words it brings.
 use Prim.Native.Nat.{ℕ}
 use native.Mathlib.Omega.{arith}
-use mathlib.Core.Bool.{true}
+use mathlib.Core.Bool.{true, false≢true}
 use mathlib.Core.List.{[], _∷_}
 use mathlib.Core.Logic.{_↔_}
 use mathlib.Core.Path.{_≡_, refl, ap, sym, _∙_}
@@ -82,8 +82,8 @@ number-ten k m c s d =
     (by-test (isAwaited (scheduleOf k m))
     (λ a. rw a
     (by-test (miscounted m c)
-    (λ b. rw b (λ e. let z : _≡_ {A = ℕ} 10 11 = cc in absurd (omega arith), λ e. let z : _≡_ {A = ℕ} 0 1 = cc in absurd (omega arith)))
-    (λ b. rw b (λ e. let z : _≡_ {A = ℕ} 0 1 = cc in absurd (omega arith), λ e. let z : _≡_ {A = ℕ} 0 1 = cc in absurd (omega arith)))))
+    (λ b. rw b (λ e. let z : _≡_ {A = ℕ} 10 11 = cc in absurd (omega arith), λ e. absurd (false≢true e)))
+    (λ b. rw b (λ e. let z : _≡_ {A = ℕ} 0 1 = cc in absurd (omega arith), λ e. absurd (false≢true e)))))
     (λ a. rw a (λ e. refl, λ z. refl)))
 
 pub now-any :
@@ -95,5 +95,5 @@ pub now-any :
 now-any k m s c d =
     let (f, g) = number-ten k m c s d in
     rw (now-means k m s)
-    (by-test (isAwaited (scheduleOf k m)) (λ a. rw a (λ e. let t : negate true ≡ true = ap negate (sym a) ∙ f e in let z : _≡_ {A = ℕ} 0 1 = cc in absurd (omega arith), λ e. absurd (omega arith)))
+    (by-test (isAwaited (scheduleOf k m)) (λ a. rw a (λ e. absurd (false≢true (ap negate (sym a) ∙ f e)), λ e. absurd (omega arith)))
     (λ a. rw a (λ e. refl, λ e. g (ap negate a))))

@@ -1,6 +1,8 @@
 -- Laws of the definitions, for this crate and those above it.
 pub mod Table
+pub mod Rows
 pub mod FirstDemand
+pub mod Worthless
 pub mod TickCases
 pub mod Sound
 pub mod Awaited
@@ -42,3 +44,4 @@ pub mod StatusKept
 pub mod BusMeaning
 pub mod ExpiryMeaning
 pub mod SecondDemand
+pub mod Demands

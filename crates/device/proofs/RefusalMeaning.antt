@@ -1,6 +1,6 @@
 -- What stands in the way of a command, in plain arithmetic: a busy model, no Initialize before it, a set-up that is not made
 -- (numbers 6, 8 and 9).
-use Prim.Native.Nat.{ℕ, _-_, _≤_, _<_}
+use Prim.Native.Nat.{ℕ, _≤_}
 use native.Mathlib.Omega.{arith}
 use mathlib.Core.Bool.{Bool, true, false}
 use mathlib.Core.List.{[], _∷_, map}
@@ -17,12 +17,9 @@ use Rattle.device.specs.Model.{kindBusy, isBusy}
 use Rattle.device.specs.Bus.{mustBeIdle, startsFlight, startsTemperature, isEvent, commandBusy, beforeInitialize}
 use Rattle.device.specs.Bus.{flightSideUnset, temperatureSideUnset, eventSideUnset, commandUnset}
 use Rattle.device.specs.Terms.{commands}
+use Rattle.device.specs.FirstDemand.{Running}
 
--- "while a measurement is awaited or an event runs": ticks are left to the awaited one, or fewer are settled than planned
--- or it is a continuous event
-abbrev pub Running : Schedule → Type 0
-Running k = (0 < k .left .0) ⊎ (k .continuous ≡ true) ⊎ (k .settled < k .planned)
-
+-- "while a measurement is awaited or an event runs"
 pub kind-busy-means : (k : Schedule) → (kindBusy k ≡ true) ↔ Running k
 unfolding kindBusy isAwaited inEvent
 kind-busy-means k =

@@ -25,8 +25,7 @@ use Rattle.device.specs.Call.{table, firstOf, accepted, refused, verdict
 use Rattle.device.specs.Reply.{acceptedAnswer, acceptedModel, flag, valuesIn, reply, replyBy}
 use Rattle.device.specs.History.{differences, temperatures, after}
 use Rattle.device.specs.Claim.{command, NotBusy}
-use Rattle.device.specs.FirstDemand.{First}
-use Rattle.device.proofs.Table.{refused-means}
+use Rattle.device.proofs.Table.{FirstRow, refused-means}
 use Rattle.device.proofs.Sound.{bounds-of, sound-of, ticked-bounds, fresh-sound, keeps-sound}
 use Rattle.device.proofs.Awaited.{halt-idle}
 use Rattle.device.proofs.CommandMeaning.{run-others}
@@ -41,7 +40,7 @@ pub made-sound : (cs : List Call) → isSound (after freshModel cs) ≡ true
 made-sound cs = sound-after cs freshModel fresh-sound
 
 -- and number 0 is never given for a call on it
-other-number : (rs : List Row) → All (λ (r : Row). (¬ (r .number ≡ 0)) ⊎ (r .holds ≡ false)) rs → ¬ (First rs 0)
+other-number : (rs : List Row) → All (λ (r : Row). (¬ (r .number ≡ 0)) ⊎ (r .holds ≡ false)) rs → ¬ (FirstRow rs 0)
 other-number [] a f = f
 other-number (r ∷ rs) a f =
     ⊎-elim
@@ -49,7 +48,7 @@ other-number (r ∷ rs) a f =
     (λ g. other-number rs (a .1) (g .1))
     f
 
-sound-numbers : (m : Model) (c : Call) → isSound m ≡ true → ¬ (First (table m c) 0)
+sound-numbers : (m : Model) (c : Call) → isSound m ≡ true → ¬ (FirstRow (table m c) 0)
 unfolding table
 sound-numbers m c s =
     other-number (table m c) (

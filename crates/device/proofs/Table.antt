@@ -2,22 +2,23 @@
 use Prim.Native.Nat.{ℕ}
 use native.Mathlib.Omega.{arith}
 use mathlib.Core.Bool.{Bool, true, false}
-use mathlib.Core.List.{List, [], _∷_, map}
+use mathlib.Core.List.{List, [], _∷_}
 use mathlib.Core.Logic.{_↔_, _⊎_, inl, inr, ⊎-elim}
-use mathlib.Core.Path.{_≡_, refl, sym}
+use mathlib.Core.Path.{_≡_, refl, ap, sym, _∙_}
 use Rattle.unit.specs.Choice.{pick, negate}
 use Rattle.unit.proofs.Cases.{by-test}
+use Rattle.hit.specs.Mean.{All}
 use Rattle.device.specs.declared.Model.{Model}
+use Rattle.device.specs.declared.Reply.{Reply}
 use Rattle.device.specs.Model.{isSound}
-use Rattle.device.specs.Call.{Call, Row, accepted, refused, verdict, firstOf, table}
+use Rattle.device.specs.Call.{Call, Row, Verdict, accepted, refused, verdict, firstOf, table}
 use Rattle.device.specs.Reply.{reply, replyBy, output, outputBy, bufferOf, memory, memoryBy, memoryOf}
 use Rattle.device.specs.Call.{noFrame, notCarried, wrongLength, pastRegisters, shortOutput, whileBusy, supplyOff, unreachable, unerased, badCalendar}
 use Rattle.device.specs.Call.{notInitialised, badSetup, notAwaited, miscounted, tooLong}
 use Rattle.device.specs.Call.{transaction, tick, flight, temperature, stretch}
-use Rattle.device.specs.Reply.{anyLate, portFault, acceptedAnswer, numberIn}
+use Rattle.device.specs.Reply.{anyLate, portFault, acceptedAnswer, numberIn, valuesIn, numberOf, Replied}
 use Rattle.frame.specs.Frame.{isCommand, isWrite, isFlash}
 use lib.ListN.{getD}
-use Rattle.device.specs.FirstDemand.{First, None}
 
 -- Whichever is picked, with what the test showed.
 pub picked : {A : Type 0} (P : A → Type 0) (t : Bool) {x y : A} → (t ≡ true → P x) → (t ≡ false → P y) → P (pick t x y)
@@ -28,15 +29,16 @@ pub negated : (b : Bool) → negate b ≡ false → b ≡ true
 negated true e = refl
 negated false e = sym e
 
--- "Checked in this order"
-pub numbers :
-    (m : Model) (c : Call) →
-    map (λ (r : Row). r .number) (table m c) ≡ 0 ∷ 1 ∷ 2 ∷ 3 ∷ 4 ∷ 5 ∷ 6 ∷ 15 ∷ 16 ∷ 17 ∷ 7 ∷ 8 ∷ 9 ∷ 10 ∷ 11 ∷ 12 ∷ []
-unfolding table
-numbers m c = refl
+-- the first row that holds has this number; no row holds
+abbrev pub FirstRow : List Row → ℕ → Type 0
+FirstRow [] n = ⊥
+FirstRow (r ∷ rs) n = ((r .holds ≡ true) × (r .number ≡ n)) ⊎ ((r .holds ≡ false) × FirstRow rs n)
+
+abbrev pub NoRow : List Row → Type 0
+NoRow rs = All (λ (r : Row). r .holds ≡ false) rs
 
 -- "the first whose condition holds is given"
-pub refused-means : (rs : List Row) (n : ℕ) → (firstOf rs ≡ refused n) ↔ First rs n
+pub refused-means : (rs : List Row) (n : ℕ) → (firstOf rs ≡ refused n) ↔ FirstRow rs n
 unfolding firstOf
 refused-means [] n = (λ e. let z : _≡_ {A = ℕ} 0 1 = cc in absurd (omega arith), absurd)
 refused-means (r ∷ rs) n =
@@ -45,7 +47,7 @@ refused-means (r ∷ rs) n =
     (λ h. rw h (λ e. inr (refl, refused-means rs n .0 e), ⊎-elim (λ f. cc) (λ l. refused-means rs n .1 (l .1))))
 
 -- "none when none holds"
-pub accepted-means : (rs : List Row) → (firstOf rs ≡ accepted) ↔ None rs
+pub accepted-means : (rs : List Row) → (firstOf rs ≡ accepted) ↔ NoRow rs
 unfolding firstOf
 accepted-means [] = (λ e. tt, λ n. refl)
 accepted-means (r ∷ rs) =
@@ -75,7 +77,7 @@ pub record NoneHolds (m : Model) (c : Call) : Type 0 where
 pub none-holds : (m : Model) (c : Call) → verdict m c ≡ accepted → NoneHolds m c
 unfolding verdict table
 none-holds m c e =
-    let n : None (table m c) = accepted-means (table m c) .0 e in
+    let n : NoRow (table m c) = accepted-means (table m c) .0 e in
     record {
       row0 = negated (isSound m) (search);
       row1 = search;
@@ -128,3 +130,11 @@ number-refused m c n e = rw e
 pub number-accepted : (m : Model) (c : Call) → verdict m c ≡ accepted → numberIn (reply m c .answer) ≡ []
 unfolding reply replyBy
 number-accepted m c e = rw e (accepted-number m c)
+
+-- so is what each call states of its reply
+pub replied : (m : Model) (c : Call) {r : Reply} → r ≡ reply m c → Replied m c r
+replied m c e = record { number = ap (λ (s : Reply). numberIn (s .answer)) e ∙ by-verdict (verdict m c) refl; values = ap (λ (s : Reply). valuesIn (s .answer)) e; reply = e }
+  where
+    by-verdict : (v : Verdict) → verdict m c ≡ v → numberIn (reply m c .answer) ≡ numberOf v
+    by-verdict accepted e = unfold numberOf in number-accepted m c e
+    by-verdict (refused n) e = unfold numberOf in number-refused m c n e

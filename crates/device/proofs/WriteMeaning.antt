@@ -4,7 +4,7 @@ use Prim.Native.Nat.{ℕ, _+_, _-_, _*_, _/_, _%_, _≤_, _<_}
 use native.Mathlib.Omega.{arith}
 use mathlib.Core.Bool.{Bool, true, false}
 use mathlib.Core.List.{List}
-use mathlib.Core.Logic.{_↔_, _⊎_, inl, inr, ⊎-elim}
+use mathlib.Core.Logic.{_↔_, inl, inr, ⊎-elim}
 use mathlib.Core.Path.{_≡_, refl, sym, _∙_}
 use lib.ListN.{length}
 use borrow.Author.Tests.{le-leb, lt-leb}
@@ -136,16 +136,22 @@ module _
 
   -- "calendar: the clock after the write, or the alarm, would be invalid", both ways; "30h to 33h are judged together after the
   -- whole write"
+  pub judged-after :
+      (writeInvalid bytes op n m ≡ false)
+      ↔ (CalendarValid w30 w31 w32 w33 × AlarmValid (alarmWord (setupAfter bytes op (m .setup) n)))
+  judged-after =
+      let w35 : ℕ = alarmWord (setupAfter bytes op (m .setup) n) in
+      let (f, g) = judged-words in
+      let (i, j) = alarm-means w35 in
+      let (h, k) = both-hold (wordsValid w30 w31 w32 w33 (ticksAfter bytes op n m)) (alarmValid w35) in
+      rw (by-words .1) (λ e. let (c, a) = h e in (f c, i a), λ (c, a). k (g c, j a))
+
   pub write-judged :
       (w35 : ℕ) →
       length (m .setup) ≡ 16 →
       After bytes op n m 0x35 w35 →
       (writeInvalid bytes op n m ≡ false) ↔ (CalendarValid w30 w31 w32 w33 × AlarmValid w35)
-  write-judged w35 l q =
-      let (f, g) = judged-words in
-      let (i, j) = alarm-means w35 in
-      let (h, k) = both-hold (wordsValid w30 w31 w32 w33 (ticksAfter bytes op n m)) (alarmValid w35) in
-      rw (by-words .1, alarm-after bytes op n m w35 l q) (λ e. let (c, a) = h e in (f c, i a), λ (c, a). k (g c, j a))
+  write-judged w35 l q = rw (alarm-after bytes op n m w35 l q) at judged-after
 
   -- "Reserved bits are .. ignored and read 0" in 30h to 33h: bit 7 of 30h, bits 15 and 7 of 31h, 15:11 and 7:6 of 32h, 15:13
   -- of 33h. Every other bit reads as the write leaves it.

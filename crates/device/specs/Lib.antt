@@ -12,8 +12,9 @@ pub mod Bus
 pub mod FlashFrame
 pub mod Call
 pub mod Reply
-pub mod FirstDemand
 pub mod Terms
+pub mod FirstDemand
+pub mod Worthless
 pub mod Question
 pub mod Parts
 pub mod History
@@ -25,3 +26,4 @@ pub mod Initialised
 pub mod SetupTold
 pub mod Probes
 pub mod SecondDemand
+pub mod Demands

@@ -3,6 +3,7 @@
 use Prim.Native.Nat.{ℕ}
 use mathlib.Core.Bool.{Bool, false}
 use mathlib.Core.List.{List, [], _∷_}
+use mathlib.Core.Path.{_≡_}
 use lib.ListN.{drop}
 use Rattle.unit.specs.Choice.{pick, either}
 use Rattle.setup.specs.Setup.{hitCount, timeout, portCycle}
@@ -110,6 +111,17 @@ valuesIn (Stretched f t) = f .started ∷ f .failed ∷ t .started ∷ t .failed
 valuesIn Good = 1 ∷ []
 valuesIn Failed = 0 ∷ []
 
+-- The number that a verdict gives.
+unfoldable pub numberOf : Verdict → List ℕ
+numberOf accepted = []
+numberOf (refused n) = n ∷ []
+
+-- What each call states of its reply `r`: its number is the table's, its values are the definitions', and so is all of it.
+pub record Replied (m : Model) (c : Call) (r : Reply) : Type 0 where
+  pub number : numberIn (r .answer) ≡ numberOf (verdict m c)
+  pub values : valuesIn (r .answer) ≡ valuesIn (reply m c .answer)
+  pub reply : r ≡ reply m c
+
 unfoldable pub bufferOf : Call → List ℕ
 bufferOf (transaction f o x) = o
 bufferOf tick = []
@@ -137,3 +149,9 @@ memoryBy (refused n) c = memoryOf c
 
 unfoldable pub memory : Model → Call → List ℕ
 memory m c = memoryBy (verdict m c) c
+
+-- What a transaction states: of its reply, and of the output buffer and the user flash that it leaves.
+pub record Transacted (m : Model) (c : Call) (r : Reply) (out mem : List ℕ) : Type 0 where
+  pub replied : Replied m c r
+  pub output : out ≡ output m c
+  pub memory : mem ≡ memory m c

@@ -27,11 +27,10 @@ use Rattle.device.specs.Event.{inEvent, startsLeft}
 use Rattle.device.specs.Model.{isSound}
 use Rattle.device.specs.Bus.{startsFlight, startsTemperature, isEvent}
 use Rattle.device.specs.Call.{Call, Row, Verdict, accepted, refused, verdict, table}
-use Rattle.device.specs.FirstDemand.{First}
 use Rattle.device.specs.Reply.{reply, numberIn}
 use Rattle.device.specs.Question.{regulatorOn}
 use Rattle.device.proofs.Sound.{ScheduleBounds, bounds-of}
-use Rattle.device.proofs.Table.{refused-means, number-refused, number-accepted}
+use Rattle.device.proofs.Table.{FirstRow, refused-means, number-refused, number-accepted}
 use Rattle.run_state.specs.State.{initialisedTold, leftTold}
 use Rattle.run_state.specs.Event.{nextStart, placeOf, placeTold}
 use Rattle.numeral.specs.Ascii.{ascii}
@@ -654,7 +653,7 @@ refused-width m op n h =
     (λ e t. rw (t, e, width-append) (omega (arith, nine-width, fields-width m op)))
     (λ e t. rw (t, width-append) (omega (arith, refusal-width n h)))
 
-first-few : (rs : List Row) (n : ℕ) → All (λ (r : Row). r .number ≤ 17) rs → First rs n → n ≤ 17
+first-few : (rs : List Row) (n : ℕ) → All (λ (r : Row). r .number ≤ 17) rs → FirstRow rs n → n ≤ 17
 first-few [] n a f = absurd f
 first-few (r ∷ rs) n a f = ⊎-elim (λ h. omega (arith, a .0, h .1)) (λ h. first-few rs n (a .1) (h .1)) f
 

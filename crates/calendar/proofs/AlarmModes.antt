@@ -1,5 +1,5 @@
 -- When a tick rings the alarm, mode by mode: the clock's numbers before and after it, and the bits of 35h.
-use Prim.Native.Nat.{ℕ, _+_, _*_, _/_, _%_}
+use Prim.Native.Nat.{ℕ}
 use mathlib.Core.Bool.{true, false}
 use mathlib.Core.Logic.{_↔_}
 use mathlib.Core.Path.{_≡_, refl, sym, _∙_}
@@ -7,16 +7,10 @@ use borrow.Author.Tests.{eq-eqb}
 use Rattle.calendar.specs.declared.Clock.{Clock}
 use Rattle.calendar.specs.Words.{minuteIn, hourIn}
 use Rattle.calendar.specs.Alarm.{reaches, alarmRings}
+use Rattle.calendar.specs.Valid.{AlarmTime}
 use Rattle.unit.proofs.Cases.{by-eqb}
 use Rattle.calendar.proofs.Facts.{minutes-ring, hours-ring, both-ring}
 use Rattle.calendar.proofs.Hours.{by-form, half-form, full-form}
-
--- The time of day that a word of 35h means: "Alarm 35h has 31h's layout"; "bit 5 is then PM, bit 4 ten hours, hours 1 to 12";
--- "12 AM equals 00" (Note 2)
-pub record AlarmTime (w minute hour : ℕ) : Type 0 where
-  pub minutes : minute ≡ w / 4096 % 8 * 10 + w / 256 % 16
-  pub half-day : w / 64 % 2 ≡ 1 → hour ≡ w / 32 % 2 * 12 + (w / 16 % 2 * 10 + w % 16) % 12
-  pub full-day : w / 64 % 2 ≡ 0 → hour ≡ w / 16 % 4 * 10 + w % 16
 
 -- Every word means one.
 pub alarm-time : (w : ℕ) → AlarmTime w (minuteIn w) (hourIn w)

@@ -1,4 +1,4 @@
--- When the words of 30h to 33h, and of the alarm 35h, are valid: in bit fields and plain bounds, both ways.
+-- When the words of 30h to 33h, and of the alarm 35h, are valid, both ways.
 use Prim.Native.Nat.{ℕ, _+_, _*_, _/_, _%_, _≤_}
 use mathlib.Core.Bool.{true}
 use mathlib.Core.Logic.{_↔_}
@@ -7,16 +7,11 @@ use native.Mathlib.Omega.{arith}
 use lib.Dec.{ltb}
 use borrow.Author.Tests.{le-ltb, ltb-false}
 use Rattle.unit.specs.declared.Ticks.{Ticks}
-use Rattle.calendar.specs.Calendar.{monthLength}
 use Rattle.calendar.specs.Words.{minuteIn, clockFrom, timeDigits, hourFits, digitsFit, wordsValid, alarmValid}
+use Rattle.calendar.specs.Valid.{HourValid, DigitsValid, CalendarValid, AlarmValid}
 use Rattle.unit.proofs.Joined.{passed, held, negated}
 use Rattle.calendar.proofs.Laws.{bounds, valid}
 use Rattle.calendar.proofs.Hours.{half-fits, full-fits, by-form, half-bounds, full-bounds, hour-below}
-
--- Bit 6 set: "bit 5 is then PM, bit 4 ten hours, hours 1 to 12" (Note 2). Else "ten hours 5:4, hours 3:0", "hours to 23".
-pub record HourValid (w : ℕ) : Type 0 where
-  pub half-day : w / 64 % 2 ≡ 1 → (1 ≤ w / 16 % 2 * 10 + w % 16) × (w / 16 % 2 * 10 + w % 16 ≤ 12)
-  pub full-day : w / 64 % 2 ≡ 0 → w / 16 % 4 * 10 + w % 16 ≤ 23
 
 pub hour-means : (w : ℕ) → hourFits w ≡ true ↔ HourValid w
 hour-means w = (
@@ -24,18 +19,6 @@ hour-means w = (
   (λ v.
       by-form w (λ e. let (l, h) = v .half-day e in half-fits w e l h) (λ e. full-fits w e (v .full-day e))),
 )
-
--- "every digit 0 to 9": those of four bits
-pub record DigitsValid (w30 w31 w32 w33 : ℕ) : Type 0 where
-  pub tenths : w30 / 4096 % 16 ≤ 9
-  pub hundredths : w30 / 256 % 16 ≤ 9
-  pub seconds : w30 % 16 ≤ 9
-  pub minutes : w31 / 256 % 16 ≤ 9
-  pub hours : w31 % 16 ≤ 9
-  pub dates : w32 % 16 ≤ 9
-  pub months : w33 / 256 % 16 ≤ 9
-  pub ten-years : w33 / 16 % 16 ≤ 9
-  pub years : w33 % 16 ≤ 9
 
 pub time-digits-mean : (w : ℕ) → timeDigits w ≡ true ↔ (w / 256 % 16 ≤ 9) × (w % 16 ≤ 9)
 unfolding timeDigits
@@ -73,21 +56,6 @@ digits-mean w30 w31 w32 w33 = (
       (time-digits-mean w31 .1 (v .minutes, v .hours))),
 )
 
--- "Valid means every digit 0 to 9, seconds and minutes to 59, hours to 23, months 1 to 12, dates 1 to the month's length,
--- weekday as above" (1 to 7: three bits hold no more). `leap-months` and `common-months` give the lengths as tables.
-pub record CalendarValid (w30 w31 w32 w33 : ℕ) : Type 0 where
-  pub digits : DigitsValid w30 w31 w32 w33
-  pub second : w30 / 16 % 8 * 10 + w30 % 16 ≤ 59
-  pub minute : w31 / 4096 % 8 * 10 + w31 / 256 % 16 ≤ 59
-  pub hour : HourValid w31
-  pub weekday : 1 ≤ w32 / 256 % 8
-  pub month-from : 1 ≤ w33 / 4096 % 2 * 10 + w33 / 256 % 16
-  pub month : w33 / 4096 % 2 * 10 + w33 / 256 % 16 ≤ 12
-  pub date-from : 1 ≤ w32 / 16 % 4 * 10 + w32 % 16
-  pub date :
-      w32 / 16 % 4 * 10 + w32 % 16
-      ≤ monthLength (w33 / 16 % 16 * 10 + w33 % 16) (w33 / 4096 % 2 * 10 + w33 / 256 % 16)
-
 pub words-mean : (w30 w31 w32 w33 : ℕ) (t : Ticks) →
     wordsValid w30 w31 w32 w33 t ≡ true
     ↔ CalendarValid w30 w31 w32 w33 × (t .0 ≤ 32767)
@@ -115,13 +83,6 @@ words-mean w30 w31 w32 w33 t = (
       let h = hour-below w31 f in
       rw (digits-mean w30 w31 w32 w33 .1 (v .digits), f) (valid _ (omega arith))),
 )
-
--- "Alarm 35h has 31h's layout"; its bits 15 and 7 are kept as written, and mean nothing.
-pub record AlarmValid (w : ℕ) : Type 0 where
-  pub minutes : w / 256 % 16 ≤ 9
-  pub hours : w % 16 ≤ 9
-  pub minute : w / 4096 % 8 * 10 + w / 256 % 16 ≤ 59
-  pub hour : HourValid w
 
 pub alarm-means : (w : ℕ) → alarmValid w ≡ true ↔ AlarmValid w
 unfolding alarmValid minuteIn

@@ -2,23 +2,24 @@
 -- command makes of the model, and when numbers 3 to 5 are given for these frames.
 use Prim.Native.Nat.{ℕ, _+_, _-_, _*_, _/_, _%_, _≤_, _<_}
 use native.Mathlib.Omega.{arith}
-use mathlib.Core.Bool.{true, false}
+use mathlib.Core.Bool.{Bool, true, false}
 use mathlib.Core.List.{List}
-use mathlib.Core.Logic.{_↔_, _⊎_, ⊎-elim}
-use mathlib.Core.Path.{_≡_, refl}
+use mathlib.Core.Logic.{_↔_, _⊎_, inl, inr, ⊎-elim}
+use mathlib.Core.Path.{_≡_, sym, _∙_}
 use lib.ListN.{length, getD, drop}
 use lib.Dec.{ltb, leb}
 use borrow.Author.Tests.{ltb-false}
 use Rattle.unit.proofs.Cases.{by-test, by-eqb, by-ltb, holds, fails}
-use Rattle.frame.specs.Frame.{isCommand, isWrite, isFlash}
-use Rattle.frame.proofs.Laws.{command-means, write-means, write-alone, read-means, read-alone, whole-means, end-means}
+use Rattle.frame.specs.Frame.{isCommand, isWrite, isRead, isFlash}
+use Rattle.frame.proofs.Laws.{command-means, write-means, flash-means, write-alone, read-means, read-alone, whole-means, end-means}
 use Rattle.device.specs.declared.Model.{Model}
+use Rattle.device.specs.Model.{withStatus}
 use Rattle.device.specs.Registers.{registerWord, fillWords}
 use Rattle.device.specs.Write.{writeModel}
 use Rattle.device.specs.Bus.{runModel, readModel}
-use Rattle.device.specs.Call.{transaction, opcode, further, words, accepted, verdict, wrongLength, pastRegisters, shortOutput}
+use Rattle.device.specs.Call.{transaction, opcode, further, words, accepted, verdict, notCarried, wrongLength, pastRegisters, shortOutput}
 use Rattle.device.specs.Reply.{acceptedModel, acceptedOutput, reply, replyBy, output, outputBy}
-use Rattle.device.specs.Terms.{Command, Write, Read}
+use Rattle.device.specs.Terms.{Command, Write, Read, Flash}
 use Rattle.device.proofs.Table.{none-holds}
 use Rattle.device.proofs.RegisterMeaning.{fill-bytes, fill-rest}
 
@@ -34,6 +35,25 @@ pub is-read :
     Read f →
     (isCommand (opcode f) ≡ false) × (isWrite (opcode f) ≡ false) × (isFlash (opcode f) ≡ false)
 is-read f r = read-alone (opcode f) (read-means (opcode f) .1 r)
+
+-- 2 "first byte not carried", both ways
+pub carried-sorts : (f o x : List ℕ) → (notCarried (transaction f o x) ≡ false) ↔ (Command f ⊎ Write f ⊎ Flash f ⊎ Read f)
+unfolding notCarried
+carried-sorts f o x =
+    let op : ℕ = opcode f in
+    by-test (isCommand op) (λ c. rw c (holds (inl (command-means op .0 c))))
+    (λ c. by-test (isWrite op) (λ w. rw (c, w) (holds (inr (inl (write-means op .0 w)))))
+    (λ w. by-test (isFlash op) (λ u. rw (c, w, u) (holds (inr (inr (inl (flash-means op .0 u))))))
+    (λ u. by-test (isRead op) (λ r. rw (c, w, u, r) (holds (inr (inr (inr (read-means op .0 r))))))
+    (λ r.
+    rw (c, w, u, r)
+    (fails true
+    (⊎-elim (λ y. apart (sym c ∙ command-means op .1 y))
+    (⊎-elim (λ y. apart (sym w ∙ write-means op .1 y))
+    (⊎-elim (λ y. apart (sym u ∙ flash-means op .1 y)) (λ y. apart (sym r ∙ read-means op .1 y))))))))))
+  where
+    apart : _≡_ {A = Bool} false true → ⊥
+    apart e = let z : _≡_ {A = ℕ} 0 1 = cc in omega arith
 
 module _ (m : Model) (f o x : List ℕ) (v : verdict m (transaction f o x) ≡ accepted) where
   read-filled : Read f → output m (transaction f o x) ≡ fillWords m (opcode f) o (words f)
@@ -61,23 +81,13 @@ module _ (m : Model) (f o x : List ℕ) (v : verdict m (transaction f o x) ≡ a
   read-rest r j h = rw (read-filled r) (fill-rest m (opcode f) o (words f) j h)
 
   -- reading "clears it after the word is taken", and leaves all else
-  pub read-keeps :
-      Read f →
-      let n : Model = reply m (transaction f o x) .model in
-      (n .clock ≡ m .clock) ×
-      (n .setup ≡ m .setup) ×
-      (n .initialised ≡ m .initialised) ×
-      (n .regulator ≡ m .regulator) ×
-      (n .flight ≡ m .flight) ×
-      (n .temperature ≡ m .temperature)
+  pub read-keeps : Read f → let n : Model = reply m (transaction f o x) .model in n ≡ withStatus m (n .status)
   unfolding reply replyBy acceptedModel readModel
   read-keeps r =
       let (c, w, u) = is-read f r in
       rw (v, c, w, u)
-      (by-test (ltb 0xFE (opcode f)) (λ e. rw e (refl, refl, refl, refl, refl, refl))
-      (λ e. rw e
-      (by-test (leb (opcode f + words f) 0xFE) (λ g. rw g (refl, refl, refl, refl, refl, refl))
-      (λ g. rw g (refl, refl, refl, refl, refl, refl)))))
+      (by-test (ltb 0xFE (opcode f)) (λ e. rw e)
+      (λ e. rw e (by-test (leb (opcode f + words f) 0xFE) (λ g. rw g) (λ g. rw g))))
 
   -- "n ≥ 1 words follow, to consecutive registers": those of the frame from its second byte; no byte of the output is touched
   pub write-leaves : Write f → reply m (transaction f o x) .model ≡ writeModel (drop 1 f) (getD f 0 0) ((length f - 1) / 2) m

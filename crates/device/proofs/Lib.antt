@@ -43,5 +43,6 @@ pub mod Probes
 pub mod StatusKept
 pub mod BusMeaning
 pub mod ExpiryMeaning
+pub mod SingleMeaning
 pub mod SecondDemand
 pub mod Demands

@@ -1,9 +1,9 @@
 -- What stands in the way of a command, in plain arithmetic: a busy model, no Initialize before it, a set-up that is not made
 -- (numbers 6, 8 and 9).
-use Prim.Native.Nat.{ℕ, _≤_}
+use Prim.Native.Nat.{ℕ, _≤_, _<_}
 use native.Mathlib.Omega.{arith}
 use mathlib.Core.Bool.{Bool, true, false}
-use mathlib.Core.List.{[], _∷_, map}
+use mathlib.Core.List.{List, [], _∷_, _++_, map}
 use mathlib.Core.Logic.{_↔_, _⊎_, inl, inr, ⊎-elim}
 use mathlib.Core.Path.{_≡_, refl}
 use borrow.Author.Tests.{le-leb, lt-leb}
@@ -14,9 +14,9 @@ use Rattle.device.specs.declared.Schedule.{Schedule}
 use Rattle.device.specs.declared.Model.{Model}
 use Rattle.device.specs.Event.{isAwaited, inEvent}
 use Rattle.device.specs.Model.{kindBusy, isBusy}
+use Rattle.device.specs.Registers.{upwards}
 use Rattle.device.specs.Bus.{mustBeIdle, startsFlight, startsTemperature, isEvent, commandBusy, beforeInitialize}
 use Rattle.device.specs.Bus.{flightSideUnset, temperatureSideUnset, eventSideUnset, commandUnset}
-use Rattle.device.specs.Terms.{commands}
 use Rattle.device.specs.FirstDemand.{Running}
 
 -- "while a measurement is awaited or an event runs"
@@ -53,6 +53,10 @@ idle-means op =
     (λ n e. by-eqb op 10
     (λ h f. rw (e, f) (holds (inr h)))
     (λ o f. rw (e, f) (fails true (⊎-elim n o))))
+
+-- "commands 00h to 05h and 07h to 0Ah", and 0Ch and 0Dh (Note 8)
+abbrev commands : List ℕ
+commands = upwards 0x00 6 ++ upwards 0x07 4 ++ upwards 0x0C 2
 
 -- "00h to 03h, 07h to 09h before Initialize"
 pub before-initialize :

@@ -19,38 +19,21 @@ use Rattle.device.specs.declared.Model.{Model}
 use Rattle.device.specs.Event.{noSchedule}
 use Rattle.device.specs.Status.{porBit, noBits, statusWord}
 use Rattle.device.specs.Model.{freshWith, freshModel, resetModel, noFlight, noTemperature}
-use Rattle.device.specs.Registers.{half, calendarWord, flightWord, temperatureWord, registerWord, fillWords, upwards}
+use Rattle.device.specs.Registers.{half, calendarWord, flightWord, temperatureWord, registerWord, fillWords}
 use Rattle.device.specs.Write.{covers, written, withWord, setupAfter}
 use Rattle.device.specs.Claim.{Holds}
-
-abbrev pub reads : Model → ℕ → List ℕ
-reads m a = map (registerWord m) (upwards a 16)
-
-abbrev pub zeros : List ℕ
-zeros = 0 ∷ 0 ∷ 0 ∷ 0 ∷ 0 ∷ 0 ∷ 0 ∷ 0 ∷ 0 ∷ 0 ∷ 0 ∷ 0 ∷ 0 ∷ 0 ∷ 0 ∷ 0 ∷ []
+use Rattle.device.specs.Terms.{wordsAt, freshWords}
 
 -- "Fresh: .. configuration at the factory values in 000's tables (38h is 0010h, 43h is 0000h; 0000h where none is printed);
 -- results 0; alarm 0; clock 2000-01-01 00:00:00.00, weekday 1; status 0004h (POR)": all that B0h to FFh read
-pub fresh-reads :
-    (reads freshModel 0xB0
-    ≡ 0 ∷ 0 ∷ 0x0101 ∷ 0x0100 ∷ 0 ∷ 0 ∷ 0 ∷ 0 ∷ 0x0010 ∷ 0 ∷ 0 ∷ 0 ∷ 0 ∷ 0 ∷ 0 ∷ 0 ∷ []) ×
-    (reads freshModel 0xC0 ≡ zeros) ×
-    (reads freshModel 0xD0 ≡ zeros) ×
-    (reads freshModel 0xE0 ≡ zeros) ×
-    (reads freshModel 0xF0 ≡ 0 ∷ 0 ∷ 0 ∷ 0 ∷ 0 ∷ 0 ∷ 0 ∷ 0 ∷ 0 ∷ 0 ∷ 0 ∷ 0 ∷ 0 ∷ 0 ∷ 0x0004 ∷ 0 ∷ [])
+pub fresh-reads : wordsAt freshModel 0xB0 80 ≡ freshWords 0x0004
 unfolding freshModel freshWith noFlight noTemperature noSchedule porBit start factory registerWord calendarWord flightWord temperatureWord half statusWord word30 word31 hourDigits word32 word33 bcd hundredthsOf differenceMean portMean
-fresh-reads = (refl, refl, refl, refl, refl)
+fresh-reads = refl
 
 -- "04h Reset gives the same with status 0000h."
-pub reset-reads :
-    (reads resetModel 0xB0
-    ≡ 0 ∷ 0 ∷ 0x0101 ∷ 0x0100 ∷ 0 ∷ 0 ∷ 0 ∷ 0 ∷ 0x0010 ∷ 0 ∷ 0 ∷ 0 ∷ 0 ∷ 0 ∷ 0 ∷ 0 ∷ []) ×
-    (reads resetModel 0xC0 ≡ zeros) ×
-    (reads resetModel 0xD0 ≡ zeros) ×
-    (reads resetModel 0xE0 ≡ zeros) ×
-    (reads resetModel 0xF0 ≡ zeros)
+pub reset-reads : wordsAt resetModel 0xB0 80 ≡ freshWords 0
 unfolding resetModel freshWith noFlight noTemperature noSchedule noBits start factory registerWord calendarWord flightWord temperatureWord half statusWord word30 word31 hourDigits word32 word33 bcd hundredthsOf differenceMean portMean
-reset-reads = (refl, refl, refl, refl, refl)
+reset-reads = refl
 
 -- "not initialised"
 pub fresh-not-ready : (freshModel .initialised ≡ false) × (resetModel .initialised ≡ false)

@@ -10,7 +10,7 @@ use lib.Seq.{getD-drop}
 use lib.Dec.{ltb, eqb}
 use Rattle.unit.specs.Choice.{either, both, negate}
 use Rattle.unit.proofs.Cases.{by-test, by-ltb, by-eqb, holds, fails}
-use Rattle.calendar.proofs.Validity.{CalendarValid, AlarmValid}
+use Rattle.calendar.specs.Valid.{CalendarValid, AlarmValid}
 use Rattle.setup.specs.Setup.{wordOf, alarmWord, hitCount, flightUnset, temperatureUnset, clockStands}
 use Rattle.frame.specs.Frame.{isCommand, isWrite, isRead, isFlash, flashFurther, notWhole, pastEnd, wordAt}
 use Rattle.frame.proofs.Laws.{command-means, write-means, read-means, flash-means, flash-alone, whole-means}

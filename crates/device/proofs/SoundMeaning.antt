@@ -8,7 +8,8 @@ use mathlib.Core.Path.{_≡_, ap}
 use lib.Dec.{eqb}
 use Rattle.unit.specs.Choice.{negate}
 use Rattle.unit.proofs.Cases.{by-test}
-use Rattle.calendar.proofs.Validity.{AlarmValid, alarm-means}
+use Rattle.calendar.specs.Valid.{AlarmValid}
+use Rattle.calendar.proofs.Validity.{alarm-means}
 use Rattle.setup.specs.Setup.{wordOf, alarmWord}
 use Rattle.frame.specs.Frame.{isCommand}
 use Rattle.hit.specs.Mean.{All}

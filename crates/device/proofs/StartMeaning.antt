@@ -1,12 +1,11 @@
--- What starts a measurement and what starts none, what a single measurement leaves, and what each command keeps.
+-- What starts a measurement and what starts none, and what each command keeps.
 use Prim.Native.Nat.{ℕ, zero, suc, _≤_}
 use native.Mathlib.Omega.{arith}
-use mathlib.Core.Bool.{Bool, true, false}
+use mathlib.Core.Bool.{true, false}
 use mathlib.Core.List.{List, [], _∷_, map}
+use mathlib.Core.Logic.{_⊎_, ⊎-elim}
 use mathlib.Core.Path.{_≡_, refl, _∙_}
 use borrow.Author.Tests.{le-ltb}
-use lib.Dec.{eqb}
-use Rattle.unit.specs.Choice.{negate}
 use Rattle.unit.proofs.Cases.{by-test, by-ltb}
 use Rattle.device.specs.declared.Schedule.{Schedule}
 use Rattle.device.specs.declared.Flight.{Flight}
@@ -14,19 +13,19 @@ use Rattle.device.specs.declared.Temperature.{Temperature}
 use Rattle.device.specs.declared.Model.{Model}
 use Rattle.device.specs.declared.Answer.the-variants.{Ticked, Stretched}
 use Rattle.unit.proofs.Joined.{neither}
-use Rattle.device.specs.Event.{isAwaited, inEvent, startsLeft, begins, beginsGroup, fails, startSingle, settle, haltSchedule}
+use Rattle.device.specs.Event.{isAwaited, inEvent, startsLeft, begins, beginsGroup, fails, haltSchedule}
 use Rattle.device.specs.Event.{tickSchedule, leftAfter, startedAfter, settledAfter, goodAfter}
-use Rattle.device.specs.Model.{isSound, kindBusy, isBusy, withFlight}
+use Rattle.device.specs.Model.{isSound, kindBusy, isBusy}
 use Rattle.device.specs.Registers.{calendarWord, flightWord, temperatureWord, registerWord, upwards}
 use Rattle.device.specs.Results.{failedFlight}
 use Rattle.device.specs.Tick.{sumAfter, sumsAfter, flightTicked, flightAfter, temperatureAfter, tickModel, reportOf}
 use Rattle.device.specs.Stretch.{modelTicked, scheduleTicked, lastTick, stretchReport}
-use Rattle.device.specs.Results.{goodSum, goodSums, goodFlight}
 use Rattle.device.specs.Delivery.{goodFlightModel, failedFlightModel, goodTemperatureModel, failedTemperatureModel}
-use Rattle.device.specs.Bus.{flightStarted, isEvent, startedEvent, initialisedModel, haltedModel, singleStarted, supplied, unsupplied, runModel}
-use Rattle.device.specs.Call.{tick, flight, temperature, stretch, notAwaited}
-use Rattle.device.specs.Reply.{anyLate, portFault, acceptedModel, acceptedAnswer}
-use Rattle.device.specs.Terms.{FlightStarts, TemperatureStarts}
+use Rattle.device.specs.Bus.{isEvent, startedEvent, initialisedModel, haltedModel, singleStarted, supplied, unsupplied, runModel}
+use Rattle.device.specs.Call.{Call, transaction, tick, flight, temperature, stretch, notAwaited}
+use Rattle.device.specs.Reply.{anyLate, portFault, acceptedModel, acceptedAnswer, valuesIn}
+use Rattle.device.specs.History.{Kind, isDelivery}
+use Rattle.device.specs.Terms.{wordsAt}
 use Rattle.device.proofs.Sound.{ScheduleBounds, bounds-of}
 
 -- No event runs: all that were planned are started and settled, and none is continuous.
@@ -181,18 +180,19 @@ module _ (m : Model) where
       let t = halt-temperature n in
       rw (f .starts, f .expires, t .starts, t .expires)
 
+  pub halts-told : (n : ℕ) → valuesIn (acceptedAnswer (modelTicked n (runModel m 10)) tick) ≡ 0 ∷ 0 ∷ 0 ∷ 0 ∷ []
+  unfolding valuesIn
+  halts-told n = rw (halt-ticks n)
+
   -- and a delivery of either kind is number 10
-  pub halt-drops :
-      (n : ℕ) (u d w : List ℕ) →
-      (notAwaited (modelTicked n (runModel m 10)) (flight u d) ≡ true) ×
-      (notAwaited (modelTicked n (runModel m 10)) (temperature w) ≡ true)
-  unfolding notAwaited
-  halt-drops n u d w =
-      rw (
-        not-awaiting (modelTicked n (runModel m 10) .flight .schedule) (halt-flight n .left),
-        not-awaiting (modelTicked n (runModel m 10) .temperature .schedule) (halt-temperature n .left),
-      )
-      (refl, refl)
+  pub halts-drop : (k : Kind) (n : ℕ) (c : Call) → isDelivery k c ≡ true → notAwaited (modelTicked n (runModel m 10)) c ≡ true
+  unfolding isDelivery notAwaited
+  halts-drop k n (transaction f o x) e = e
+  halts-drop k n tick e = e
+  halts-drop k n (flight u d) e = rw (not-awaiting (modelTicked n (runModel m 10) .flight .schedule) (halt-flight n .left))
+  halts-drop k n (temperature w) e =
+      rw (not-awaiting (modelTicked n (runModel m 10) .temperature .schedule) (halt-temperature n .left))
+  halts-drop k n (stretch j) e = e
 
   -- nor does a stretch after 0Ah name a start or a failure
   pub halt-stretch :
@@ -212,7 +212,7 @@ module _ (m : Model) where
 
 -- A single measurement: "A good measurement of an event adds one to its count, a single one none". Count and averages are what
 -- E4h to E6h read, and EFh to F7h.
-flight-counts :
+pub flight-counts :
     (m n : Model) →
     n .flight .sum ≡ m .flight .sum →
     n .flight .schedule .good ≡ m .flight .schedule .good →
@@ -220,7 +220,7 @@ flight-counts :
 unfolding registerWord flightWord
 flight-counts m n s g = rw (s, g)
 
-temperature-counts :
+pub temperature-counts :
     (m n : Model) →
     n .temperature .sums ≡ m .temperature .sums →
     n .temperature .schedule .good ≡ m .temperature .schedule .good →
@@ -228,53 +228,8 @@ temperature-counts :
 unfolding registerWord temperatureWord
 temperature-counts m n s g = rw (s, g)
 
-settle-good : (k : Schedule) (good : Bool) → k .planned ≤ k .settled → settle k good .good ≡ k .good
-unfolding settle
-settle-good k good l = rw (le-ltb (k .settled) (k .planned) l)
-
-delivered-sum :
-    (m : Model) (u d : List ℕ) →
-    m .flight .schedule .planned ≤ m .flight .schedule .settled →
-    (acceptedModel m (flight u d) .flight .sum ≡ m .flight .sum) ×
-    (acceptedModel m (flight u d) .flight .schedule .good ≡ m .flight .schedule .good)
-unfolding acceptedModel failedFlightModel failedFlight goodFlightModel goodFlight goodSum
-delivered-sum m u d l =
-    let k = m .flight .schedule in
-    by-test (anyLate m u d)
-    (λ e. rw (e, settle-good k false l) (refl, refl))
-    (λ e. rw (e, settle-good k true l, le-ltb (k .settled) (k .planned) l) (refl, refl))
-
-delivered-sums :
-    (m : Model) (w : List ℕ) →
-    m .temperature .schedule .planned ≤ m .temperature .schedule .settled →
-    (acceptedModel m (temperature w) .temperature .sums ≡ m .temperature .sums) ×
-    (acceptedModel m (temperature w) .temperature .schedule .good ≡ m .temperature .schedule .good)
-unfolding acceptedModel failedTemperatureModel goodTemperatureModel goodSums
-delivered-sums m w l =
-    let k = m .temperature .schedule in
-    by-test (portFault m w)
-    (λ e. rw (e, settle-good k false l) (refl, refl))
-    (λ e. rw (e, settle-good k true l, le-ltb (k .settled) (k .planned) l) (refl, refl))
-
--- a delivery, good or failed
-pub single-flight-delivered :
-    (m : Model) (u d : List ℕ) →
-    inEvent (m .flight .schedule) ≡ false →
-    map (registerWord (acceptedModel m (flight u d))) (upwards 0xE4 3) ≡ map (registerWord m) (upwards 0xE4 3)
-single-flight-delivered m u d i =
-    let (s, g) = delivered-sum m u d (all-settled (m .flight .schedule) i .1) in
-    flight-counts m (acceptedModel m (flight u d)) s g
-
-pub single-temperature-delivered :
-    (m : Model) (w : List ℕ) →
-    inEvent (m .temperature .schedule) ≡ false →
-    map (registerWord (acceptedModel m (temperature w))) (upwards 0xEF 9) ≡ map (registerWord m) (upwards 0xEF 9)
-single-temperature-delivered m w i =
-    let (s, g) = delivered-sums m w (all-settled (m .temperature .schedule) i .1) in
-    temperature-counts m (acceptedModel m (temperature w)) s g
-
 -- ticks, in which it may fail
-ended-sum :
+pub ended-sum :
     (n : ℕ) (m : Model) →
     Ended (m .flight .schedule) →
     (modelTicked n m .flight .sum ≡ m .flight .sum) × (modelTicked n m .flight .schedule .good ≡ m .flight .schedule .good)
@@ -290,7 +245,7 @@ ended-sum (suc n) m e =
         unfold flightAfter flightTicked failedFlight sumAfter tickSchedule goodAfter in
         rw (ended-group (f .schedule) e) (by-test (fails (f .schedule)) (λ x. rw x (refl, refl)) (λ x. rw x (refl, refl)))
 
-ended-sums :
+pub ended-sums :
     (n : ℕ) (m : Model) →
     Ended (m .temperature .schedule) →
     (modelTicked n m .temperature .sums ≡ m .temperature .sums) ×
@@ -311,26 +266,6 @@ ended-sums (suc n) m e =
     after t e =
         unfold temperatureAfter sumsAfter tickSchedule goodAfter in
         rw (ended-group (t .schedule) e) (by-test (fails (t .schedule)) (λ x. rw x (refl, refl)) (λ x. rw x (refl, refl)))
-
-pub single-flight-ticked :
-    (m : Model) (n : ℕ) →
-    isSound m ≡ true →
-    inEvent (m .flight .schedule) ≡ false →
-    map (registerWord (modelTicked n m)) (upwards 0xE4 3) ≡ map (registerWord m) (upwards 0xE4 3)
-single-flight-ticked m n s i =
-    let e = ended-of (m .flight .schedule) (bounds-of m s .flight .schedule) i in
-    let (a, b) = ended-sum n m e in
-    flight-counts m (modelTicked n m) a b
-
-pub single-temperature-ticked :
-    (m : Model) (n : ℕ) →
-    isSound m ≡ true →
-    inEvent (m .temperature .schedule) ≡ false →
-    map (registerWord (modelTicked n m)) (upwards 0xEF 9) ≡ map (registerWord m) (upwards 0xEF 9)
-single-temperature-ticked m n s i =
-    let e = ended-of (m .temperature .schedule) (bounds-of m s .temperature .schedule) i in
-    let (a, b) = ended-sums n m e in
-    temperature-counts m (modelTicked n m) a b
 
 -- A delivery of one kind leaves the other's results: E7h to F7h, and C5h to E6h.
 flight-reads :
@@ -364,92 +299,16 @@ temperature-leaves-hits m w = flight-reads m (acceptedModel m (temperature w)) k
     kept = unfold acceptedModel failedTemperatureModel goodTemperatureModel in by-test (portFault m w) (λ e. rw e) (λ e. rw e)
 
 module _ (m : Model) where
-  -- one law over the direction
-  starts-some : (op : ℕ) → FlightStarts m (withFlight m (flightStarted (m .flight) op)) (negate (eqb op 1)) (negate (eqb op 0))
-  unfolding flightStarted startSingle notAwaited isAwaited
-  starts-some op =
-      record {
-        awaited = λ u d. refl;
-        left = refl;
-        up = refl;
-        down = refl;
-        sum = refl;
-        ups = refl;
-        downs = refl;
-        difference = refl;
-        wait = refl;
-        period = refl;
-        planned = refl;
-        started = refl;
-        settled = refl;
-        continuous = refl;
-        good = refl;
-        temperature = refl;
-        clock = refl;
-        setup = refl;
-        status = refl;
-        initialised = refl;
-        regulator = refl;
-      }
-
-  pub starts-up : FlightStarts m (runModel m 0) true false
-  unfolding runModel isEvent singleStarted
-  starts-up = starts-some 0
-
-  pub starts-down : FlightStarts m (runModel m 1) false true
-  unfolding runModel isEvent singleStarted
-  starts-down = starts-some 1
-
-  pub starts-both : FlightStarts m (runModel m 2) true true
-  unfolding runModel isEvent singleStarted
-  starts-both = starts-some 2
-
-  pub starts-temperature : TemperatureStarts m (runModel m 3)
-  unfolding runModel isEvent singleStarted startSingle notAwaited isAwaited
-  starts-temperature =
-      record {
-        awaited = λ w. refl;
-        left = refl;
-        sums = refl;
-        ports = refl;
-        wait = refl;
-        period = refl;
-        planned = refl;
-        started = refl;
-        settled = refl;
-        continuous = refl;
-        good = refl;
-        flight = refl;
-        clock = refl;
-        setup = refl;
-        status = refl;
-        initialised = refl;
-        regulator = refl;
-      }
-
   -- "05h Initialize", "0Ah HALT", "LDO_ON (0Ch), LDO_OFF (0Dh)" (Note 8) keep the calendar, the configuration and every result:
   -- B0h to F7h read the same
-  pub initialize-keeps : map (registerWord (runModel m 5)) (upwards 0xB0 72) ≡ map (registerWord m) (upwards 0xB0 72)
-  unfolding runModel initialisedModel registerWord calendarWord
-  initialize-keeps = refl
+  pub others-keep :
+      (op : ℕ) →
+      (op ≡ 0x05) ⊎ (op ≡ 0x0A) ⊎ (op ≡ 0x0C) ⊎ (op ≡ 0x0D) →
+      wordsAt (runModel m op) 0xB0 72 ≡ wordsAt m 0xB0 72
+  unfolding runModel initialisedModel haltedModel haltSchedule supplied unsupplied registerWord calendarWord flightWord temperatureWord
+  others-keep op = ⊎-elim (λ e. rw e) (⊎-elim (λ e. rw e) (⊎-elim (λ e. rw e) (λ e. rw e)))
 
-  pub halt-keeps : map (registerWord (runModel m 10)) (upwards 0xB0 72) ≡ map (registerWord m) (upwards 0xB0 72)
-  unfolding runModel haltedModel haltSchedule registerWord calendarWord flightWord temperatureWord
-  halt-keeps = refl
-
-  pub supply-keeps :
-      (map (registerWord (runModel m 12)) (upwards 0xB0 72) ≡ map (registerWord m) (upwards 0xB0 72)) ×
-      (map (registerWord (runModel m 13)) (upwards 0xB0 72) ≡ map (registerWord m) (upwards 0xB0 72))
-  unfolding runModel supplied unsupplied registerWord calendarWord
-  supply-keeps = (refl, refl)
-
-  -- the clock to its tick, too, which no register tells
-  pub commands-keep-clock :
-      map (λ (op : ℕ). runModel m op .clock) (0 ∷ 1 ∷ 2 ∷ 3 ∷ 5 ∷ 7 ∷ 8 ∷ 9 ∷ 10 ∷ 12 ∷ 13 ∷ [])
-      ≡ map (λ (op : ℕ). m .clock) (0 ∷ 1 ∷ 2 ∷ 3 ∷ 5 ∷ 7 ∷ 8 ∷ 9 ∷ 10 ∷ 12 ∷ 13 ∷ [])
-  unfolding runModel isEvent startedEvent singleStarted initialisedModel haltedModel supplied unsupplied
-  commands-keep-clock = refl
-
+  -- and the set-up
   pub commands-keep-setup :
       map (λ (op : ℕ). runModel m op .setup) (0 ∷ 1 ∷ 2 ∷ 3 ∷ 5 ∷ 7 ∷ 8 ∷ 9 ∷ 10 ∷ 12 ∷ 13 ∷ [])
       ≡ map (λ (op : ℕ). m .setup) (0 ∷ 1 ∷ 2 ∷ 3 ∷ 5 ∷ 7 ∷ 8 ∷ 9 ∷ 10 ∷ 12 ∷ 13 ∷ [])
@@ -505,79 +364,3 @@ module _ (m : Model) (s : isSound m ≡ true) (i : isBusy m ≡ false) where
       let f = idle-silent (m .flight .schedule) ended-flight x n in
       let t = idle-silent (m .temperature .schedule) ended-temperature y n in
       rw (flight-schedule n m, temperature-schedule n m, f .starts, f .expires, t .starts, t .expires)
-
-module _ (m q : Model) (n : ℕ) where
-  started-flight :
-      (a b : Bool) →
-      FlightStarts m q a b →
-      Ended (m .flight .schedule) →
-      (u d : List ℕ) →
-      (map (registerWord (modelTicked n q)) (upwards 0xE4 3) ≡ map (registerWord m) (upwards 0xE4 3)) ×
-      (map (registerWord (acceptedModel (modelTicked n q) (flight u d))) (upwards 0xE4 3)
-      ≡ map (registerWord m) (upwards 0xE4 3))
-  started-flight a b f e u d =
-      let g : Ended (q .flight .schedule) =
-      record {
-        once = f .continuous ∙ e .once;
-        started = rw (f .planned, f .started) (e .started);
-        settled = rw (f .planned, f .settled) (e .settled);
-      }
-      in
-      let (x, y) = ended-sum n q g in
-      let l : Ended (modelTicked n q .flight .schedule) = rw (flight-schedule n q) (ended-ticked n (q .flight .schedule) g) in
-      let (v, w) = delivered-sum (modelTicked n q) u d (l .settled) in (
-        flight-counts m (modelTicked n q) (x ∙ f .sum) (y ∙ f .good),
-        flight-counts m (acceptedModel (modelTicked n q) (flight u d)) (v ∙ x ∙ f .sum) (w ∙ y ∙ f .good),
-      )
-
-  started-temperature :
-      TemperatureStarts m q →
-      Ended (m .temperature .schedule) →
-      (p : List ℕ) →
-      (map (registerWord (modelTicked n q)) (upwards 0xEF 9) ≡ map (registerWord m) (upwards 0xEF 9)) ×
-      (map (registerWord (acceptedModel (modelTicked n q) (temperature p))) (upwards 0xEF 9)
-      ≡ map (registerWord m) (upwards 0xEF 9))
-  started-temperature f e p =
-      let g : Ended (q .temperature .schedule) =
-      record {
-        once = f .continuous ∙ e .once;
-        started = rw (f .planned, f .started) (e .started);
-        settled = rw (f .planned, f .settled) (e .settled);
-      }
-      in
-      let (x, y) = ended-sums n q g in
-      let l : Ended (modelTicked n q .temperature .schedule) =
-      rw (temperature-schedule n q) (ended-ticked n (q .temperature .schedule) g)
-      in
-      let (v, w) = delivered-sums (modelTicked n q) p (l .settled) in (
-        temperature-counts m (modelTicked n q) (x ∙ f .sums) (y ∙ f .good),
-        temperature-counts m (acceptedModel (modelTicked n q) (temperature p)) (v ∙ x ∙ f .sums) (w ∙ y ∙ f .good),
-      )
-
--- "a single one none", from its command on: however many ticks pass, and whether it is delivered, good or failed, or fails in a
--- tick, E4h to E6h and EFh to F7h read what they read before the command.
-pub single-flight :
-    (m : Model) (op n : ℕ) (u d : List ℕ) →
-    isSound m ≡ true →
-    isBusy m ≡ false →
-    op ≤ 2 →
-    (map (registerWord (modelTicked n (runModel m op))) (upwards 0xE4 3) ≡ map (registerWord m) (upwards 0xE4 3)) ×
-    (map (registerWord (acceptedModel (modelTicked n (runModel m op)) (flight u d))) (upwards 0xE4 3)
-    ≡ map (registerWord m) (upwards 0xE4 3))
-single-flight m zero n u d s i h =
-    started-flight m (runModel m 0) n true false (starts-up m) (ended-flight m s i) u d
-single-flight m (suc zero) n u d s i h =
-    started-flight m (runModel m 1) n false true (starts-down m) (ended-flight m s i) u d
-single-flight m (suc (suc zero)) n u d s i h =
-    started-flight m (runModel m 2) n true true (starts-both m) (ended-flight m s i) u d
-single-flight m (suc (suc (suc x))) n u d s i h = absurd (omega arith)
-
-pub single-temperature :
-    (m : Model) (n : ℕ) (p : List ℕ) →
-    isSound m ≡ true →
-    isBusy m ≡ false →
-    (map (registerWord (modelTicked n (runModel m 3))) (upwards 0xEF 9) ≡ map (registerWord m) (upwards 0xEF 9)) ×
-    (map (registerWord (acceptedModel (modelTicked n (runModel m 3)) (temperature p))) (upwards 0xEF 9)
-    ≡ map (registerWord m) (upwards 0xEF 9))
-single-temperature m n p s i =
-    started-temperature m (runModel m 3) n (starts-temperature m) (ended-temperature m s i) p

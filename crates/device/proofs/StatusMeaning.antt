@@ -1,5 +1,5 @@
 -- What the status bits mean: their places, what sets them, and the INT answer.
-use Prim.Native.Nat.{ℕ, _+_, _*_, _/_, _%_, _<_, max}
+use Prim.Native.Nat.{ℕ, _+_, _*_, _/_, _%_, _<_}
 use native.Mathlib.Omega.{arith}
 use mathlib.Core.Bool.{Bool, true, false}
 use mathlib.Core.Logic.{_↔_, _⊎_, inl, inr, ⊎-elim}
@@ -13,32 +13,32 @@ use Rattle.device.specs.declared.Status.{Status}
 use Rattle.device.specs.declared.Model.{Model}
 use Rattle.device.specs.declared.Told.the-variants.{Value}
 use Rattle.device.specs.Event.{fails as expires, inEvent, isLast, haltSchedule}
-use Rattle.device.specs.Status.{noBits, joined, statusWord, setsOwnBit, flightBits, temperatureBits, alarmBit, initBit, haltBit}
+use Rattle.device.specs.Status.{noBits, joined, statusWord, flightBits, temperatureBits, alarmBit, initBit, haltBit}
 use Rattle.device.specs.Model.{isSound}
 use Rattle.device.specs.Tick.{tickRings, tickStatus, tickModel}
 use Rattle.device.specs.Bus.{initialisedModel, haltedModel}
 use Rattle.device.specs.Question.{interruptPending}
-use Rattle.device.specs.Terms.{bit, Places, onlyBits}
+use Rattle.device.specs.Reply.{flag}
 
-bit-below : (b : Bool) → bit b < 2
+bit-below : (b : Bool) → flag b < 2
 bit-below true = omega arith
 bit-below false = omega arith
 
-weighed : (b : Bool) (v : ℕ) → pick b v 0 ≡ v * bit b
+weighed : (b : Bool) (v : ℕ) → pick b v 0 ≡ v * flag b
 weighed true v = omega arith
 weighed false v = omega arith
 
 status-sum :
     (s : Status) →
     statusWord s
-    ≡ 32768 * bit (s .timeout) + 16384 * bit (s .alarm) + 4096 * bit (s .tof) + 2048 * bit (s .te) +
-    1024 * bit (s .ldo) +
-    512 * bit (s .tofevtmg) +
-    256 * bit (s .tempevtmg) +
-    128 * bit (s .flash) +
-    32 * bit (s .halt) +
-    8 * bit (s .init) +
-    4 * bit (s .por)
+    ≡ 32768 * flag (s .timeout) + 16384 * flag (s .alarm) + 4096 * flag (s .tof) + 2048 * flag (s .te) +
+    1024 * flag (s .ldo) +
+    512 * flag (s .tofevtmg) +
+    256 * flag (s .tempevtmg) +
+    128 * flag (s .flash) +
+    32 * flag (s .halt) +
+    8 * flag (s .init) +
+    4 * flag (s .por)
 unfolding statusWord
 status-sum s =
     omega (
@@ -55,6 +55,22 @@ status-sum s =
       weighed (s .init) 0x0008,
       weighed (s .por) 0x0004,
     )
+
+-- every bit in its place, and no other
+pub record Places (s : Status) (w : ℕ) : Type 0 where
+  pub timeout : w / 32768 % 2 ≡ flag (s .timeout)
+  pub alarm : w / 16384 % 2 ≡ flag (s .alarm)
+  pub tof : w / 4096 % 2 ≡ flag (s .tof)
+  pub te : w / 2048 % 2 ≡ flag (s .te)
+  pub ldo : w / 1024 % 2 ≡ flag (s .ldo)
+  pub tofevtmg : w / 512 % 2 ≡ flag (s .tofevtmg)
+  pub tempevtmg : w / 256 % 2 ≡ flag (s .tempevtmg)
+  pub flash : w / 128 % 2 ≡ flag (s .flash)
+  pub halt : w / 32 % 2 ≡ flag (s .halt)
+  pub init : w / 8 % 2 ≡ flag (s .init)
+  pub por : w / 4 % 2 ≡ flag (s .por)
+  pub others :
+      (w / 8192 % 2 ≡ 0) × (w / 64 % 2 ≡ 0) × (w / 16 % 2 ≡ 0) × (w % 4 ≡ 0) × (w < 65536)
 
 -- "Status bits: TO 15, AF 14, TOF 12, TE 11, TOF_EVTMG 9, TEMP_EVTMG 8, HALT 5, INIT 3, POR 2."; LDO 10 and FLASH 7 (Note 8)
 pub status-means : (s : Status) → Places s (statusWord s)
@@ -96,35 +112,6 @@ last-means k =
     (λ i f. rw (e, f) (fails false i)))
     (λ h e. rw e (fails false (λ x. omega arith)))
 
-module _ (k : Schedule) (each failed : Bool) where
-  pub flight-single : inEvent k ≡ false → flightBits k each true failed ≡ onlyBits failed true false (isLast k) false
-  unfolding flightBits setsOwnBit
-  flight-single e = rw e
-
-  pub flight-cycle : inEvent k ≡ true → flightBits k each true failed ≡ onlyBits failed each false (isLast k) false
-  unfolding flightBits setsOwnBit
-  flight-cycle e = rw e
-
-  pub flight-none : flightBits k each false failed ≡ onlyBits false false false false false
-  unfolding flightBits noBits
-  flight-none = refl
-
--- Of a temperature one an open port sets TO, and a short one does not (Note 3).
-module _ (k : Schedule) (each opened : Bool) where
-  pub temperature-single :
-      inEvent k ≡ false → temperatureBits k each true opened ≡ onlyBits opened false true false (isLast k)
-  unfolding temperatureBits setsOwnBit
-  temperature-single e = rw e
-
-  pub temperature-cycle :
-      inEvent k ≡ true → temperatureBits k each true opened ≡ onlyBits opened false each false (isLast k)
-  unfolding temperatureBits setsOwnBit
-  temperature-cycle e = rw e
-
-  pub temperature-none : temperatureBits k each false opened ≡ onlyBits false false false false false
-  unfolding temperatureBits noBits
-  temperature-none = refl
-
 -- a single one is never the N-th
 pub single-not-last : (k : Schedule) → inEvent k ≡ false → isLast k ≡ false
 unfolding inEvent isLast
@@ -140,43 +127,6 @@ kept false = refl
 turned : (b : Bool) → either b true ≡ true
 turned true = refl
 turned false = refl
-
--- Bits of both sides are set, and none that neither side has.
-both-bits : (a b : Bool) → bit (either a b) ≡ max (bit a) (bit b)
-both-bits true true = refl
-both-bits true false = refl
-both-bits false true = refl
-both-bits false false = refl
-
-pub record Joined (s t u : Status) : Type 0 where
-  pub timeout : bit (u .timeout) ≡ max (bit (s .timeout)) (bit (t .timeout))
-  pub alarm : bit (u .alarm) ≡ max (bit (s .alarm)) (bit (t .alarm))
-  pub tof : bit (u .tof) ≡ max (bit (s .tof)) (bit (t .tof))
-  pub te : bit (u .te) ≡ max (bit (s .te)) (bit (t .te))
-  pub ldo : bit (u .ldo) ≡ max (bit (s .ldo)) (bit (t .ldo))
-  pub tofevtmg : bit (u .tofevtmg) ≡ max (bit (s .tofevtmg)) (bit (t .tofevtmg))
-  pub tempevtmg : bit (u .tempevtmg) ≡ max (bit (s .tempevtmg)) (bit (t .tempevtmg))
-  pub flash : bit (u .flash) ≡ max (bit (s .flash)) (bit (t .flash))
-  pub halt : bit (u .halt) ≡ max (bit (s .halt)) (bit (t .halt))
-  pub init : bit (u .init) ≡ max (bit (s .init)) (bit (t .init))
-  pub por : bit (u .por) ≡ max (bit (s .por)) (bit (t .por))
-
-pub joined-means : (s t : Status) → Joined s t (joined s t)
-unfolding joined
-joined-means s t =
-    record {
-      timeout = both-bits (s .timeout) (t .timeout);
-      alarm = both-bits (s .alarm) (t .alarm);
-      tof = both-bits (s .tof) (t .tof);
-      te = both-bits (s .te) (t .te);
-      ldo = both-bits (s .ldo) (t .ldo);
-      tofevtmg = both-bits (s .tofevtmg) (t .tofevtmg);
-      tempevtmg = both-bits (s .tempevtmg) (t .tempevtmg);
-      flash = both-bits (s .flash) (t .flash);
-      halt = both-bits (s .halt) (t .halt);
-      init = both-bits (s .init) (t .init);
-      por = both-bits (s .por) (t .por);
-    }
 
 -- "05h Initialize makes the model initialised, until a Reset, and sets INIT."
 pub initialised-means :

@@ -3,7 +3,6 @@ use Prim.Native.Nat.{ℕ, zero, suc, _+_, _≤_, _<_}
 use native.Mathlib.Omega.{arith}
 use mathlib.Core.Path.{_≡_, refl, ap, sym, _∙_}
 use mathlib.Core.Bool.{Bool, true, false}
-use mathlib.Core.List.{List, [], _∷_}
 use borrow.Author.Tests.{le-ltb, lt-ltb}
 use Rattle.unit.proofs.Cases.{by-test, by-eqb}
 use Rattle.device.specs.declared.Schedule.{Schedule}
@@ -13,18 +12,15 @@ use Rattle.device.specs.Model.{isSound}
 use Rattle.device.specs.Tick.{tickModel}
 use Rattle.device.specs.Stretch.{modelTicked, scheduleTicked, lastTick}
 use Rattle.device.specs.StretchSteps.{progress}
-use Rattle.device.specs.Call.{Call, tick, stretch}
+use Rattle.device.specs.Call.{tick, stretch}
 use Rattle.device.specs.Reply.{refuse, reply}
 use Rattle.device.specs.History.{after}
+use Rattle.device.specs.Terms.{singleTicks}
 use Rattle.device.proofs.Sound.{keeps-sound}
 use Rattle.device.proofs.Replies.{reply-tick, reply-stretch}
 use Rattle.device.proofs.Stretch.{ticked-later}
 
 -- "with the same end as n single ticks"
-unfoldable pub singleTicks : ℕ → List Call
-singleTicks zero = []
-singleTicks (suc n) = tick ∷ singleTicks n
-
 after-singles : (n : ℕ) (m : Model) → isSound m ≡ true → after m (singleTicks n) ≡ modelTicked n m
 unfolding after singleTicks modelTicked
 after-singles zero m s = refl

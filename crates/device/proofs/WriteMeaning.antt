@@ -13,7 +13,8 @@ use Rattle.unit.proofs.Cases.{by-ltb}
 use Rattle.calendar.specs.Words.{ticksIn, hundredthsOf, clockFrom, wordsValid, alarmValid}
 use Rattle.calendar.proofs.Laws.{bounds}
 use Rattle.calendar.proofs.Facts.{hundredthsIn, ticks-read, ticks-below}
-use Rattle.calendar.proofs.Validity.{CalendarValid, words-mean, AlarmValid, alarm-means}
+use Rattle.calendar.specs.Valid.{CalendarValid, AlarmValid}
+use Rattle.calendar.proofs.Validity.{words-mean, alarm-means}
 use Rattle.calendar.proofs.Places.{words-back, hundredths-held, own-words}
 use Rattle.setup.specs.Setup.{alarmWord}
 use Rattle.frame.specs.Frame.{wordAt}

@@ -8,7 +8,7 @@ use mathlib.Core.Logic.{_↔_, _⊎_}
 use mathlib.Core.Path.{_≡_}
 use lib.ListN.{length, getD, drop}
 use Rattle.unit.specs.Choice.{pick}
-use Rattle.calendar.proofs.Validity.{CalendarValid, AlarmValid}
+use Rattle.calendar.specs.Valid.{CalendarValid, AlarmValid}
 use Rattle.setup.specs.Setup.{wordOf}
 use Rattle.device.specs.declared.Schedule.{Schedule}
 use Rattle.device.specs.declared.Model.{Model}

@@ -12,12 +12,12 @@ pub mod Bus
 pub mod FlashFrame
 pub mod Call
 pub mod Reply
-pub mod Terms
 pub mod FirstDemand
 pub mod Worthless
 pub mod Question
 pub mod Parts
 pub mod History
+pub mod Terms
 pub mod Claim
 pub mod FlashRun
 pub mod Supply

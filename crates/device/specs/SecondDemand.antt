@@ -1,7 +1,8 @@
 -- The second demand, as one statement: "Register reads and writes, calendar, alarm, hit averages, differences, temperatures and
 -- interrupt bits are those of the MAX35101 data sheet as 01 condenses it, for words going in over the bus and for words coming out."
--- Quotations are from 01. `registerWord m a` is what a read of address a gives; `wordOf (m .setup) a` the word of 34h to 43h.
-use Prim.Native.Nat.{ℕ, _+_, _-_, _*_, _/_, _%_, _^_, _≤_, _<_, min}
+-- Quotations are from 01. `registerWord m a` is what a read of address a gives; `wordOf (m .setup) a` the word of 34h to 43h. An answer is
+-- told by its values (`valuesIn`): a delivery's is 1 for good, 0 for failed.
+use Prim.Native.Nat.{ℕ, _+_, _-_, _*_, _/_, _%_, _^_, _≤_, _<_}
 use mathlib.Core.Bool.{true, false}
 use mathlib.Core.List.{List, [], _∷_, map}
 use mathlib.Core.Logic.{_↔_, _⊎_}
@@ -9,71 +10,54 @@ use mathlib.Core.Path.{_≡_}
 use lib.IntN.{ℤ, pos, negsuc, _+ℤ_, _*ℤ_}
 use lib.Signed.{_≤ℤ_, _<ℤ_}
 use lib.ListN.{length, getD, drop}
-use lib.Dec.{leb, eqb}
 use mir.Syntax.{w32}
 use mir.Val.{toZ}
-use Rattle.unit.specs.Choice.{pick, both, either}
+use Rattle.unit.specs.Choice.{pick, either}
 use Rattle.calendar.specs.Calendar.{clockValid, monthLength}
 use Rattle.calendar.specs.Moment.{moment, midnights}
-use Rattle.calendar.specs.Alarm.{alarmRings}
-use Rattle.calendar.proofs.Validity.{CalendarValid, AlarmValid}
-use Rattle.calendar.proofs.AlarmModes.{AlarmTime}
+use Rattle.calendar.specs.Valid.{CalendarValid, AlarmValid}
 use Rattle.setup.specs.Setup.{wordOf}
 use Rattle.frame.specs.Frame.{wordAt}
 use Rattle.hit.specs.Mean.{sum, Averages, difference, total, floorMean, differenceBits, floorMeanWords}
 use Rattle.device.specs.declared.Model.{Model}
-use Rattle.device.specs.declared.Answer.the-variants.{Ticked, Good, Failed}
-use Rattle.device.specs.declared.Told.the-variants.{Value}
-use Rattle.device.specs.Status.{joined}
-use Rattle.device.specs.Model.{isSound, isBusy, freshModel, withSetup}
-use Rattle.device.specs.Registers.{registerWord, fillWords, upwards}
+use Rattle.device.specs.declared.Reply.{Reply}
+use Rattle.device.specs.Status.{Bit, TO, AF, TOF, TE, LDO, TOF-EVTMG, TEMP-EVTMG, FLASH, HALT, INIT, POR, place}
+use Rattle.device.specs.Model.{isSound, freshModel, withSetup, withStatus}
+use Rattle.device.specs.Registers.{registerWord, upwards}
 use Rattle.device.specs.Write.{writeInvalid, writeModel}
-use Rattle.device.specs.Tick.{tickModel, reportOf}
+use Rattle.device.specs.Tick.{tickModel}
 use Rattle.device.specs.Stretch.{modelTicked}
 use Rattle.device.specs.Bus.{runModel}
-use Rattle.device.specs.Call.{Call, transaction, tick, flight, temperature, accepted, refused, verdict, notAwaited, miscounted}
-use Rattle.device.specs.Reply.{anyLate, anyOpen, acceptedAnswer, acceptedModel, reply, output}
-use Rattle.device.specs.Question.{interruptPending}
-use Rattle.device.specs.Claim.{Holds, Whole}
+use Rattle.device.specs.Call.{Call, transaction, tick, flight, temperature, stretch, notCarried, notAwaited}
+use Rattle.device.specs.Reply.{acceptedAnswer, reply, output, numberIn, valuesIn, flag}
+use Rattle.device.specs.Question.{interruptPending, valueTold}
+use Rattle.device.specs.History.{after, Entry, log, onlyReads, Kind, differences, temperatures, byKind, runs, isDelivery}
+use Rattle.device.specs.Claim.{Holds, Whole, tickCount, command}
 use Rattle.device.specs.Form.{FormClaim}
 use Rattle.device.specs.Initialised.{InitialisedClaim}
-use Rattle.device.specs.Terms.{OtherStored, LeftOut, After, CalendarAfter, modeOf, eoscOf, Places, onlyBits, expiring, nth, told, Some}
-use Rattle.device.specs.Terms.{Kept, ReadsStatus, Clears, SwitchesOff, maySet, Under, FlightStarts, TemperatureStarts, Command, Write, Read}
-
--- the sixteen words from address a on
-abbrev pub sixteen : Model → ℕ → List ℕ
-sixteen m a = map (registerWord m) (upwards a 16)
-
-abbrev pub zeros : List ℕ
-zeros = 0 ∷ 0 ∷ 0 ∷ 0 ∷ 0 ∷ 0 ∷ 0 ∷ 0 ∷ 0 ∷ 0 ∷ 0 ∷ 0 ∷ 0 ∷ 0 ∷ 0 ∷ 0 ∷ []
+use Rattle.device.specs.Terms.{Accepts, wordsAt, repeated, freshWords, OtherStored, LeftOut, After, CalendarAfter, eoscOf, hitsOf, leastLate, leastOpen, Some}
+use Rattle.device.specs.Terms.{Direction, byDirection, measured, resultsAt, Command, Write, Read, Flash, single, undelivered, failedIn, Settles}
+use Rattle.device.specs.Terms.{Set, ownBit, eventBit, Clears, Sets, singleTicks}
 
 -- "Register reads": words coming out over the bus.
 pub record ReadsClaim : Type 0 where
-  -- "Fresh: .. configuration at the factory values .. (38h is 0010h, 43h is 0000h ..); results 0; alarm 0; clock 2000-01-01
-  -- 00:00:00.00, weekday 1; status 0004h (POR)": B0h to FFh
-  pub fresh :
-      (sixteen freshModel 0xB0
-      ≡ 0 ∷ 0 ∷ 0x0101 ∷ 0x0100 ∷ 0 ∷ 0 ∷ 0 ∷ 0 ∷ 0x0010 ∷ 0 ∷ 0 ∷ 0 ∷ 0 ∷ 0 ∷ 0 ∷ 0 ∷ []) ×
-      (sixteen freshModel 0xC0 ≡ zeros) ×
-      (sixteen freshModel 0xD0 ≡ zeros) ×
-      (sixteen freshModel 0xE0 ≡ zeros) ×
-      (sixteen freshModel 0xF0 ≡ 0 ∷ 0 ∷ 0 ∷ 0 ∷ 0 ∷ 0 ∷ 0 ∷ 0 ∷ 0 ∷ 0 ∷ 0 ∷ 0 ∷ 0 ∷ 0 ∷ 0x0004 ∷ 0 ∷ [])
+  -- "status 0004h (POR)"
+  pub fresh : wordsAt freshModel 0xB0 80 ≡ freshWords 0x0004
   -- "C4h, D3h, F8h to FDh and the Control register FFh read 0"
   pub none :
       (m : Model) →
-      map (registerWord m) (0xC4 ∷ 0xD3 ∷ 0xF8 ∷ 0xF9 ∷ 0xFA ∷ 0xFB ∷ 0xFC ∷ 0xFD ∷ 0xFF ∷ []) ≡ 0 ∷ 0 ∷ 0 ∷ 0 ∷ 0 ∷ 0 ∷ 0 ∷ 0 ∷ 0 ∷ []
+      map (registerWord m) (0xC4 ∷ 0xD3 ∷ 0xF8 ∷ 0xF9 ∷ 0xFA ∷ 0xFB ∷ 0xFC ∷ 0xFD ∷ 0xFF ∷ []) ≡ repeated 9 0
   -- "Register w is read at w + 80h"
   pub setup : (m : Model) (w : ℕ) → 0x34 ≤ w → w ≤ 0x43 → registerWord m (w + 0x80) ≡ wordOf (m .setup) w
-  -- "FEh is the interrupt status"
-  pub status : (m : Model) → Places (m .status) (registerWord m 0xFE)
-  -- "the first 2n bytes of the output buffer are filled from consecutive registers, the rest of it stays"; "Words go high byte first."
-  pub filled :
-      (m : Model) (a : ℕ) (out : List ℕ) (n i : ℕ) →
-      i < n →
-      2 * n ≤ length out →
-      (getD (fillWords m a out n) (2 * i) 0 ≡ registerWord m (a + i) / 256 % 256) ×
-      (getD (fillWords m a out n) (2 * i + 1) 0 ≡ registerWord m (a + i) % 256)
-  pub rest : (m : Model) (a : ℕ) (out : List ℕ) (n j : ℕ) → 2 * n ≤ j → getD (fillWords m a out n) j 0 ≡ getD out j 0
+  -- "Status bits: TO 15, AF 14, TOF 12, TE 11, TOF_EVTMG 9, TEMP_EVTMG 8, HALT 5, INIT 3, POR 2."; LDO 10 and FLASH 7 (Note 8); and no
+  -- other
+  pub places :
+      map place (TO ∷ AF ∷ TOF ∷ TE ∷ LDO ∷ TOF-EVTMG ∷ TEMP-EVTMG ∷ FLASH ∷ HALT ∷ INIT ∷ POR ∷ [])
+      ≡ 15 ∷ 14 ∷ 12 ∷ 11 ∷ 10 ∷ 9 ∷ 8 ∷ 7 ∷ 5 ∷ 3 ∷ 2 ∷ []
+  pub no-other :
+      (m : Model) →
+      let w : ℕ = registerWord m 0xFE in
+      (w / 8192 % 2 ≡ 0) × (w / 64 % 2 ≡ 0) × (w / 16 % 2 ≡ 0) × (w % 4 ≡ 0) × (w < 65536)
 
 -- "and writes": words going in. The write of n words, in the bytes after the opcode, from register op on to a sound model.
 pub record WritesClaim (m : Model) (bytes : List ℕ) (op n : ℕ) : Type 0 where
@@ -137,22 +121,13 @@ pub record BusClaim (m : Model) (f o x : List ℕ) : Type 0 where
       (getD (output m (transaction f o x)) (2 * i + 1) 0 ≡ registerWord m (getD f 0 0 + i) % 256)
   pub read-rest : Read f → (j : ℕ) → 2 * ((length f - 1) / 2) ≤ j → getD (output m (transaction f o x)) j 0 ≡ getD o j 0
   -- a read changes nothing but the status
-  pub read-keeps :
-      Read f →
-      let n : Model = reply m (transaction f o x) .model in
-      (n .clock ≡ m .clock) ×
-      (n .setup ≡ m .setup) ×
-      (n .initialised ≡ m .initialised) ×
-      (n .regulator ≡ m .regulator) ×
-      (n .flight ≡ m .flight) ×
-      (n .temperature ≡ m .temperature)
+  pub read-keeps : Read f → let n : Model = reply m (transaction f o x) .model in n ≡ withStatus m (n .status)
   -- "n ≥ 1 words follow, to consecutive registers"
   pub write : Write f → reply m (transaction f o x) .model ≡ writeModel (drop 1 f) (getD f 0 0) ((length f - 1) / 2) m
   -- "A command is one byte."
   pub command : Command f → reply m (transaction f o x) .model ≡ runModel m (getD f 0 0)
   -- neither touches the output
-  pub write-output : Write f → output m (transaction f o x) ≡ o
-  pub command-output : Command f → output m (transaction f o x) ≡ o
+  pub output-kept : Write f ⊎ Command f → output m (transaction f o x) ≡ o
 
 -- "calendar", of a model whose clock is valid.
 pub record CalendarClaim (m : Model) : Type 0 where
@@ -190,105 +165,69 @@ pub record MonthsClaim (y : ℕ) : Type 0 where
       ¬ (y % 4 ≡ 0) →
       map (monthLength y) (upwards 1 12) ≡ 31 ∷ 28 ∷ 31 ∷ 30 ∷ 31 ∷ 30 ∷ 31 ∷ 31 ∷ 30 ∷ 31 ∷ 30 ∷ 31 ∷ []
 
--- "alarm": when a tick that finds AF clear sets it, by AM, "(3:2 of 43h)". 35h means `minute` and `hour`.
-pub record AlarmClaim (m : Model) (minute hour : ℕ) : Type 0 where
-  -- 00b is none of "01b .., 10b .., 11b"
-  pub mode-00 : modeOf m ≡ 0 → (tickModel m) .status .alarm ≡ false
-  -- "01b sets AF in a tick where minutes change to the alarm's"
-  pub mode-01 :
-      modeOf m ≡ 1 →
-      (tickModel m) .status .alarm ≡ true
-      ↔ (¬ (m .clock .minute ≡ (tickModel m) .clock .minute)) × ((tickModel m) .clock .minute ≡ minute)
-  -- "10b where hours change to the alarm's"
-  pub mode-10 :
-      modeOf m ≡ 2 →
-      (tickModel m) .status .alarm ≡ true
-      ↔ (¬ (m .clock .hour ≡ (tickModel m) .clock .hour)) × ((tickModel m) .clock .hour ≡ hour)
-  -- "11b where minutes change and both match"
-  pub mode-11 :
-      modeOf m ≡ 3 →
-      (tickModel m) .status .alarm ≡ true
-      ↔ (¬ (m .clock .minute ≡ (tickModel m) .clock .minute)) × ((tickModel m) .clock .minute ≡ minute) × ((tickModel m) .clock .hour ≡ hour)
-
--- "hit averages, differences": the registers after a flight delivery of the right counts, `u` and `d`.
-pub record FlightClaim (m : Model) (u d : List ℕ) : Type 0 where
-  -- "A word is late when it is at least 512 × 2^k × 65,536, k = TIMOUT (2:0 of 39h), or no hit"; "2^31 or more means no hit"
-  pub late :
-      (acceptedAnswer m (flight u d) ≡ Failed)
-      ↔ (Some (min (512 * 2 ^ (wordOf (m .setup) 0x39 % 8) * 65536) (2 ^ 31)) u ⊎
-      Some (min (512 * 2 ^ (wordOf (m .setup) 0x39 % 8) * 65536) (2 ^ 31)) d)
-  -- "No word late: HIT pairs 1 to H hold the words, later HIT pairs 0"; "Up results stand at C5h to D2h, down at D4h to E1h (HIT 1 to
-  -- 6, then AVG; Int before Frac as in every pair)"
-  pub ups :
-      acceptedAnswer m (flight u d) ≡ Good → m .flight .up ≡ true → (i : ℕ) → i < 6 → Holds (acceptedModel m (flight u d)) (0xC5 + 2 * i) (getD u i 0)
-  pub downs :
-      acceptedAnswer m (flight u d) ≡ Good → m .flight .down ≡ true → (i : ℕ) → i < 6 → Holds (acceptedModel m (flight u d)) (0xD4 + 2 * i) (getD d i 0)
-  -- "AVG the sum ÷ H rounded down"; "H = STOP + 1 and at most 6 (STOP is 15:13 of 39h)"
-  pub up-average :
-      acceptedAnswer m (flight u d) ≡ Good → m .flight .up ≡ true → Holds (acceptedModel m (flight u d)) 0xD1 (sum u / min (wordOf (m .setup) 0x39 / 8192 % 8 + 1) 6)
-  pub down-average :
-      acceptedAnswer m (flight u d) ≡ Good → m .flight .down ≡ true → Holds (acceptedModel m (flight u d)) 0xE0 (sum d / min (wordOf (m .setup) 0x39 / 8192 % 8 + 1) 6)
-  -- "for a difference TOF_DIFF = AVGUP − AVGDN": a word whose sum with AVGDN is AVGUP, modulo 2^32
-  pub difference :
-      acceptedAnswer m (flight u d) ≡ Good →
-      m .flight .up ≡ true →
-      m .flight .down ≡ true →
-      let h : ℕ = min (wordOf (m .setup) 0x39 / 8192 % 8 + 1) 6 in
-      (w : ℕ) × (Holds (acceptedModel m (flight u d)) 0xE2 w) × (w < 2 ^ 32) × ((w + sum d / h) % 2 ^ 32 ≡ sum u / h)
-  -- "A word late: the measurement fails, every HIT and AVG of the measured directions and, for a difference, TOF_DIFF become FFFFh"
-  pub failed-ups :
-      acceptedAnswer m (flight u d) ≡ Failed →
-      m .flight .up ≡ true →
-      map (registerWord (acceptedModel m (flight u d))) (upwards 0xC5 14)
-      ≡ 0xFFFF ∷ 0xFFFF ∷ 0xFFFF ∷ 0xFFFF ∷ 0xFFFF ∷ 0xFFFF ∷ 0xFFFF ∷ 0xFFFF ∷ 0xFFFF ∷ 0xFFFF ∷ 0xFFFF ∷ 0xFFFF ∷ 0xFFFF ∷ 0xFFFF ∷ []
-  pub failed-downs :
-      acceptedAnswer m (flight u d) ≡ Failed →
-      m .flight .down ≡ true →
-      map (registerWord (acceptedModel m (flight u d))) (upwards 0xD4 14)
-      ≡ 0xFFFF ∷ 0xFFFF ∷ 0xFFFF ∷ 0xFFFF ∷ 0xFFFF ∷ 0xFFFF ∷ 0xFFFF ∷ 0xFFFF ∷ 0xFFFF ∷ 0xFFFF ∷ 0xFFFF ∷ 0xFFFF ∷ 0xFFFF ∷ 0xFFFF ∷ []
-  pub failed-difference :
-      acceptedAnswer m (flight u d) ≡ Failed →
-      m .flight .up ≡ true →
-      m .flight .down ≡ true →
-      map (registerWord (acceptedModel m (flight u d))) (0xE2 ∷ 0xE3 ∷ []) ≡ 0xFFFF ∷ 0xFFFF ∷ []
-  -- "of the measured directions": the results of the other direction stay, and TOF_DIFF where it is no difference, good or failed
-  pub ups-kept :
-      m .flight .up ≡ false →
-      map (registerWord (acceptedModel m (flight u d))) (upwards 0xC5 14) ≡ map (registerWord m) (upwards 0xC5 14)
-  pub downs-kept :
-      m .flight .down ≡ false →
-      map (registerWord (acceptedModel m (flight u d))) (upwards 0xD4 14) ≡ map (registerWord m) (upwards 0xD4 14)
-  pub difference-kept :
-      (m .flight .up ≡ false) ⊎ (m .flight .down ≡ false) →
-      map (registerWord (acceptedModel m (flight u d))) (0xE2 ∷ 0xE3 ∷ []) ≡ map (registerWord m) (0xE2 ∷ 0xE3 ∷ [])
-
 -- Number 11, "a delivery with another number of words", both ways, where a sound model awaits the kind.
 pub record CountsClaim (m : Model) : Type 0 where
-  -- "an up list and a down list, each of H words, H = STOP + 1 and at most 6 (STOP is 15:13 of 39h); the unmeasured direction's list is
-  -- empty"
+  -- "an up list and a down list, each of H words ..; the unmeasured direction's list is empty"
   pub flights :
       (u d : List ℕ) →
       notAwaited m (flight u d) ≡ false →
-      let h : ℕ = min (wordOf (m .setup) 0x39 / 8192 % 8 + 1) 6 in
-      (verdict m (flight u d) ≡ refused 11)
-      ↔ (¬ ((length u ≡ pick (m .flight .up) h 0) × (length d ≡ pick (m .flight .down) h 0)))
+      (numberIn (reply m (flight u d) .answer) ≡ 11 ∷ [])
+      ↔ (¬ ((length u ≡ pick (m .flight .up) (hitsOf m) 0) × (length d ≡ pick (m .flight .down) (hitsOf m) 0)))
   -- "Temperature delivery: four words"
   pub temperatures :
-      (w : List ℕ) → notAwaited m (temperature w) ≡ false → (verdict m (temperature w) ≡ refused 11) ↔ (¬ (length w ≡ 4))
+      (w : List ℕ) → notAwaited m (temperature w) ≡ false → (numberIn (reply m (temperature w) .answer) ≡ 11 ∷ []) ↔ (¬ (length w ≡ 4))
 
--- "temperatures": port i, 0 to 3, of a delivery of four words, each by its own word whatever the others are.
-pub record PortClaim (m : Model) (w : List ℕ) (i : ℕ) : Type 0 where
-  -- "A word is open when it is at least (512 × (PORTCYC + 1) − 8) × 65,536"; "PORTCYC is 1:0 of 40h"; "An open port reads FFFFh FFFFh"
-  pub open-port :
-      (512 * (wordOf (m .setup) 0x40 % 4 + 1) - 8) * 65536 ≤ getD w i 0 →
-      Holds (acceptedModel m (temperature w)) (0xE7 + 2 * i) 0xFFFFFFFF
+-- "every HIT and AVG of the measured directions and, for a difference, TOF_DIFF become FFFFh": the model `n` after `m` failed.
+pub record FailedClaim (m n : Model) : Type 0 where
+  pub results : (s : Direction) → measured s m ≡ true → wordsAt n (resultsAt s) 14 ≡ repeated 14 0xFFFF
+  pub difference : m .flight .up ≡ true → m .flight .down ≡ true → wordsAt n 0xE2 2 ≡ repeated 2 0xFFFF
+
+-- "hit averages, differences": the reply `r` to an accepted flight delivery, `u` and `d`.
+pub record FlightClaim (m : Model) (u d : List ℕ) (r : Reply) : Type 0 where
+  -- "A word late: the measurement fails", "No word late" and it is good
+  pub late : (valuesIn (r .answer) ≡ 0 ∷ []) ↔ (Some (leastLate m) u ⊎ Some (leastLate m) d)
+  -- "No word late: HIT pairs 1 to H hold the words, later HIT pairs 0"; "Int before Frac as in every pair"
+  pub hits :
+      (s : Direction) →
+      valuesIn (r .answer) ≡ 1 ∷ [] →
+      measured s m ≡ true →
+      (i : ℕ) →
+      i < 6 →
+      Holds (r .model) (resultsAt s + 2 * i) (getD (byDirection s u d) i 0)
+  -- "AVG the sum ÷ H rounded down"
+  pub average :
+      (s : Direction) →
+      valuesIn (r .answer) ≡ 1 ∷ [] →
+      measured s m ≡ true →
+      Holds (r .model) (resultsAt s + 12) (sum (byDirection s u d) / hitsOf m)
+  -- "for a difference TOF_DIFF = AVGUP − AVGDN": a word whose sum with AVGDN is AVGUP, modulo 2^32
+  pub difference :
+      valuesIn (r .answer) ≡ 1 ∷ [] →
+      m .flight .up ≡ true →
+      m .flight .down ≡ true →
+      (w : ℕ) × (Holds (r .model) 0xE2 w) × (w < 2 ^ 32) × ((w + sum d / hitsOf m) % 2 ^ 32 ≡ sum u / hitsOf m)
+  -- "of the measured directions": the results of the other direction stay, and TOF_DIFF where it is no difference, good or failed
+  pub kept : (s : Direction) → measured s m ≡ false → wordsAt (r .model) (resultsAt s) 14 ≡ wordsAt m (resultsAt s) 14
+  pub difference-kept : (s : Direction) → measured s m ≡ false → wordsAt (r .model) 0xE2 2 ≡ wordsAt m 0xE2 2
+  pub failed : valuesIn (r .answer) ≡ 0 ∷ [] → FailedClaim m (r .model)
+
+-- "temperatures": the reply `r` to an accepted delivery of four words; port i, 0 to 3, by its own word whatever the others are.
+pub record TemperatureClaim (m : Model) (w : List ℕ) (r : Reply) : Type 0 where
+  -- "its delivery, single or of an event, is answered failed" (Note 3): good exactly where all words are neither short nor open
+  pub judged : (valuesIn (r .answer) ≡ 1 ∷ []) ↔ Whole (m .setup) w
+  -- "An open port reads FFFFh FFFFh"
+  pub open-port : (i : ℕ) → i < 4 → leastOpen m ≤ getD w i 0 → Holds (r .model) (0xE7 + 2 * i) 0xFFFFFFFF
   -- "A word below 32 × 65,536 now reads 0000h 0000h for that port" (Note 3)
-  pub short-port : getD w i 0 < 32 * 65536 → Holds (acceptedModel m (temperature w)) (0xE7 + 2 * i) 0
+  pub short-port : (i : ℕ) → i < 4 → getD w i 0 < 32 * 65536 → Holds (r .model) (0xE7 + 2 * i) 0
   -- "the others their words"
   pub whole-port :
-      32 * 65536 ≤ getD w i 0 →
-      getD w i 0 < (512 * (wordOf (m .setup) 0x40 % 4 + 1) - 8) * 65536 →
-      Holds (acceptedModel m (temperature w)) (0xE7 + 2 * i) (getD w i 0)
+      (i : ℕ) → i < 4 → 32 * 65536 ≤ getD w i 0 → getD w i 0 < leastOpen m → Holds (r .model) (0xE7 + 2 * i) (getD w i 0)
+
+-- "A measurement undelivered 8,192 ticks after its start fails in that tick, as if all its words were late or open.": the registers
+-- after a tick that says so
+pub record ExpiryClaim (m : Model) : Type 0 where
+  pub flight-fails : failedIn differences m tick ≡ 1 → FailedClaim m (tickModel m)
+  pub temperature-fails : failedIn temperatures m tick ≡ 1 → wordsAt (tickModel m) 0xE7 8 ≡ repeated 8 0xFFFF
 
 -- The means of an event, in whole numbers; the third demand says of which deliveries they are taken.
 pub record MeansClaim : Type 0 where
@@ -310,199 +249,112 @@ pub record MeansClaim : Type 0 where
       0 < length ws →
       (floorMeanWords ws * length ws ≤ sum ws) × (sum ws < (floorMeanWords ws + 1) * length ws)
 
--- "interrupt bits": what each call sets and clears.
-pub record BitsClaim (m : Model) : Type 0 where
-  -- "A measurement undelivered 8,192 ticks after its start fails in that tick, as if all its words were late or open."; AF by the alarm
-  pub ticks :
-      tickModel m .status
-      ≡ record {
-        timeout = either (m .status .timeout) (either (expiring (m .flight .schedule)) (expiring (m .temperature .schedule)));
-        alarm =
-            either (m .status .alarm)
-            (alarmRings (m .clock) (tickModel m .clock) (wordOf (m .setup) 0x35) (wordOf (m .setup) 0x43 / 4 % 4));
-        tof = either (m .status .tof) (both (expiring (m .flight .schedule)) (told m (m .flight .schedule)));
-        te = either (m .status .te) (both (expiring (m .temperature .schedule)) (told m (m .temperature .schedule)));
-        ldo = m .status .ldo;
-        tofevtmg = either (m .status .tofevtmg) (both (expiring (m .flight .schedule)) (nth (m .flight .schedule)));
-        tempevtmg = either (m .status .tempevtmg) (both (expiring (m .temperature .schedule)) (nth (m .temperature .schedule)));
-        flash = m .status .flash;
-        halt = m .status .halt;
-        init = m .status .init;
-        por = m .status .por;
-      }
-  -- "the measurement fails, .. TO is set"; "A single one sets TOF or TE when delivered or failed."; "With CONT_INT .. each settled one
-  -- sets TOF or TE."; "Settling the N-th sets TOF_EVTMG"
-  pub flights :
-      (u d : List ℕ) →
-      acceptedModel m (flight u d) .status
-      ≡ record {
-        timeout = either (m .status .timeout) (anyLate m u d);
-        alarm = m .status .alarm;
-        tof = either (m .status .tof) (told m (m .flight .schedule));
-        te = m .status .te;
-        ldo = m .status .ldo;
-        tofevtmg = either (m .status .tofevtmg) (nth (m .flight .schedule));
-        tempevtmg = m .status .tempevtmg;
-        flash = m .status .flash;
-        halt = m .status .halt;
-        init = m .status .init;
-        por = m .status .por;
-      }
-  -- "any open .. sets TO"; "A short alone does not set TO" (Note 3)
-  pub temperatures :
-      (w : List ℕ) →
-      acceptedModel m (temperature w) .status
-      ≡ record {
-        timeout = either (m .status .timeout) (anyOpen m w);
-        alarm = m .status .alarm;
-        tof = m .status .tof;
-        te = either (m .status .te) (told m (m .temperature .schedule));
-        ldo = m .status .ldo;
-        tofevtmg = m .status .tofevtmg;
-        tempevtmg = either (m .status .tempevtmg) (nth (m .temperature .schedule));
-        flash = m .status .flash;
-        halt = m .status .halt;
-        init = m .status .init;
-        por = m .status .por;
-      }
-  pub opened : (w : List ℕ) → (anyOpen m w ≡ true) ↔ Some ((512 * (wordOf (m .setup) 0x40 % 4 + 1) - 8) * 65536) w
-  -- "FEh is the interrupt status; reading it clears it after the word is taken.", and Reset: no other call clears a bit, of LDO no other
-  -- but LDO_OFF too
-  pub kept : (c : Call) → ¬ Clears c → Kept (SwitchesOff c) (m .status) (reply m c .model .status)
-  pub cleared :
-      (f o x : List ℕ) →
-      ReadsStatus f →
-      verdict m (transaction f o x) ≡ accepted →
-      reply m (transaction f o x) .model .status ≡ onlyBits false false false false false
-  -- no call sets a bit that is not its own
-  pub raised : (c : Call) → Under (reply m c .model .status) (joined (m .status) (maySet c))
-  -- "The INT answer is yes exactly when INT_EN (bit 9 of 42h) is 1 and the status is not 0."
-  pub interrupt :
-      (interruptPending m ≡ Value 1)
-      ↔ ((isSound m ≡ true) × (wordOf (m .setup) 0x42 / 512 % 2 ≡ 1) × (¬ (registerWord m 0xFE ≡ 0)))
+-- "interrupt bits": what an accepted call that is no stretch sets and clears, each bit; `n` is the model after it. A refused one changes
+-- nothing, and a stretch leaves what its ticks leave. Which settlings set TOF or TE and the EVTMG bits: of a single measurement
+-- `settled` of `SingleClaim`, of an event the third demand.
+pub record BitsClaim (m : Model) (c : Call) (n : Model) : Type 0 where
+  pub kept : (b : Bit) → ¬ Clears b c → Set b m → Set b n
+  pub cleared : (b : Bit) → Clears b c → ¬ Set b n
+  pub raised : (b : Bit) → Set b n → Set b m ⊎ Sets m c b
+  pub sets : (b : Bit) → ((k : Kind) → (¬ (b ≡ ownBit k)) × (¬ (b ≡ eventBit k))) → Sets m c b → Set b n
+
+-- A single measurement of the kind, started by command `op` (00h to 03h): `es` are the calls made since on the model that `m` became, with
+-- their answers, `n` the model at their end.
+pub record SingleClaim (k : Kind) (m : Model) (es : List Entry) (n : Model) : Type 0 where
+  -- "A kind is awaited from its start until an accepted delivery, the tick that fails it, ..": number 10, whatever words are delivered
+  pub awaited :
+      (c : Call) →
+      isDelivery k c ≡ true →
+      (numberIn (reply n c .answer) ≡ 10 ∷ []) ↔ ((undelivered k es ≡ false) ⊎ (8192 ≤ tickCount es))
+  -- "A measurement undelivered 8,192 ticks after its start fails in that tick"; "This count runs even while the clock stands."
+  pub tick-fails : (failedIn k n tick ≡ 1) ↔ ((undelivered k es ≡ true) × (tickCount es + 1 ≡ 8192))
+  pub stretch-fails :
+      (j i : ℕ) →
+      j ≤ 16384 →
+      0 < i →
+      (failedIn k n (stretch j) ≡ i) ↔ ((undelivered k es ≡ true) × (tickCount es + i ≡ 8192) × (i ≤ j))
+  -- "A good measurement of an event adds one to its count, a single one none": E4h to E6h, or EFh to F7h
+  pub counts : wordsAt n (byKind k 0xE4 0xEF) (byKind k 3 9) ≡ wordsAt m (byKind k 0xE4 0xEF) (byKind k 3 9)
+  -- "A single one sets TOF or TE when delivered or failed.", and no EVTMG bit
+  pub settled :
+      (c : Call) →
+      Accepts n c →
+      Settles k n c →
+      Set (ownBit k) (reply n c .model) × (Set (eventBit k) (reply n c .model) → Set (eventBit k) n)
 
 -- What the commands leave of all this.
 pub record CommandsClaim (m : Model) : Type 0 where
-  -- "TOF_Up (00h), TOF_Down (01h), TOF_Diff (02h) start a flight measurement, Temperature (03h) a temperature one"
-  pub starts-up : FlightStarts m (runModel m 0) true false
-  pub starts-down : FlightStarts m (runModel m 1) false true
-  pub starts-both : FlightStarts m (runModel m 2) true true
-  pub starts-temperature : TemperatureStarts m (runModel m 3)
-  -- "A good measurement of an event adds one to its count, a single one none": E4h to E6h and EFh to F7h
-  pub single-flight :
-      (op n : ℕ) (u d : List ℕ) →
-      isSound m ≡ true →
-      isBusy m ≡ false →
-      op ≤ 2 →
-      (map (registerWord (modelTicked n (runModel m op))) (upwards 0xE4 3) ≡ map (registerWord m) (upwards 0xE4 3)) ×
-      (map (registerWord (acceptedModel (modelTicked n (runModel m op)) (flight u d))) (upwards 0xE4 3)
-      ≡ map (registerWord m) (upwards 0xE4 3))
-  pub single-temperature :
-      (n : ℕ) (p : List ℕ) →
-      isSound m ≡ true →
-      isBusy m ≡ false →
-      (map (registerWord (modelTicked n (runModel m 3))) (upwards 0xEF 9) ≡ map (registerWord m) (upwards 0xEF 9)) ×
-      (map (registerWord (acceptedModel (modelTicked n (runModel m 3)) (temperature p))) (upwards 0xEF 9)
-      ≡ map (registerWord m) (upwards 0xEF 9))
-  -- "0Ah HALT drops awaited measurements, ends the event": no tick after it reports a start or a failure
-  pub halts :
-      (n : ℕ) →
-      acceptedAnswer (modelTicked n (runModel m 10)) tick
-      ≡ Ticked (record { started = false; failed = false }) (record { started = false; failed = false })
-  pub drops :
-      (n : ℕ) (u d w : List ℕ) →
-      (notAwaited (modelTicked n (runModel m 10)) (flight u d) ≡ true) ×
-      (notAwaited (modelTicked n (runModel m 10)) (temperature w) ≡ true)
-  -- "A measurement undelivered 8,192 ticks after its start fails in that tick": number 10 is given from that tick on and not before.
-  -- "This count runs even while the clock stands."
-  pub flight-expires :
-      (op n : ℕ) (u d : List ℕ) →
-      isSound m ≡ true →
-      isBusy m ≡ false →
-      op ≤ 2 →
-      (notAwaited (modelTicked n (runModel m op)) (flight u d) ≡ leb 8192 n) ×
-      (reportOf (modelTicked n (runModel m op) .flight .schedule) .failed ≡ eqb (n + 1) 8192)
-  pub temperature-expires :
-      (n : ℕ) (w : List ℕ) →
-      isSound m ≡ true →
-      isBusy m ≡ false →
-      (notAwaited (modelTicked n (runModel m 3)) (temperature w) ≡ leb 8192 n) ×
-      (reportOf (modelTicked n (runModel m 3) .temperature .schedule) .failed ≡ eqb (n + 1) 8192)
+  -- "An accepted transaction answers the kinds that it started": single ones, and "07h runs both kinds, 08h differences, 09h
+  -- temperatures"
+  pub starts :
+      (op : ℕ) (o x : List ℕ) →
+      Accepts m (command op o x) →
+      valuesIn (reply m (command op o x) .answer)
+      ≡ flag (either (single differences op) (runs differences op)) ∷ flag (either (single temperatures op) (runs temperatures op)) ∷ []
+  -- the directions of TOF_Up (00h), TOF_Down (01h) and TOF_Diff (02h), and of an event's difference
+  pub directions :
+      (map (λ (op : ℕ). runModel m op .flight .up) (0 ∷ 1 ∷ 2 ∷ 7 ∷ 8 ∷ []) ≡ true ∷ false ∷ true ∷ true ∷ true ∷ []) ×
+      (map (λ (op : ℕ). runModel m op .flight .down) (0 ∷ 1 ∷ 2 ∷ 7 ∷ 8 ∷ []) ≡ false ∷ true ∷ true ∷ true ∷ true ∷ [])
+  -- a single one's start changes no register and nothing of the other kind
+  pub start-keeps : (op : ℕ) → op ≤ 3 → wordsAt (runModel m op) 0xB0 80 ≡ wordsAt m 0xB0 80
+  pub flight-alone : (op : ℕ) → op ≤ 2 → runModel m op .temperature ≡ m .temperature
+  pub temperature-alone : runModel m 3 .flight ≡ m .flight
+  -- no command but Reset moves the clock, nor s, which no register tells
+  pub clock-kept : (op : ℕ) → ¬ (op ≡ 4) → runModel m op .clock ≡ m .clock
   -- "Acceptance zeroes cycle counts (E4h, EFh) and averages (E5h, E6h; F0h to F7h) of the kinds run."
-  pub zeroed-differences :
-      (map (registerWord (runModel m 7)) (upwards 0xE4 3) ≡ 0 ∷ 0 ∷ 0 ∷ []) ×
-      (map (registerWord (runModel m 8)) (upwards 0xE4 3) ≡ 0 ∷ 0 ∷ 0 ∷ []) ×
-      (map (registerWord (runModel m 9)) (upwards 0xE4 3) ≡ map (registerWord m) (upwards 0xE4 3))
-  pub zeroed-temperatures :
-      (map (registerWord (runModel m 7)) (upwards 0xEF 9) ≡ 0 ∷ 0 ∷ 0 ∷ 0 ∷ 0 ∷ 0 ∷ 0 ∷ 0 ∷ 0 ∷ []) ×
-      (map (registerWord (runModel m 8)) (upwards 0xEF 9) ≡ map (registerWord m) (upwards 0xEF 9)) ×
-      (map (registerWord (runModel m 9)) (upwards 0xEF 9) ≡ 0 ∷ 0 ∷ 0 ∷ 0 ∷ 0 ∷ 0 ∷ 0 ∷ 0 ∷ 0 ∷ [])
-  -- "04h Reset gives the same with status 0000h.": B0h to FFh
-  pub reset :
-      (sixteen (runModel m 4) 0xB0
-      ≡ 0 ∷ 0 ∷ 0x0101 ∷ 0x0100 ∷ 0 ∷ 0 ∷ 0 ∷ 0 ∷ 0x0010 ∷ 0 ∷ 0 ∷ 0 ∷ 0 ∷ 0 ∷ 0 ∷ 0 ∷ []) ×
-      (sixteen (runModel m 4) 0xC0 ≡ zeros) ×
-      (sixteen (runModel m 4) 0xD0 ≡ zeros) ×
-      (sixteen (runModel m 4) 0xE0 ≡ zeros) ×
-      (sixteen (runModel m 4) 0xF0 ≡ zeros)
-  -- "A kind is awaited from its start until .. HALT or Reset."
-  pub reset-drops :
-      (u d w : List ℕ) → (notAwaited (runModel m 4) (flight u d) ≡ true) × (notAwaited (runModel m 4) (temperature w) ≡ true)
-  -- "05h Initialize .. sets INIT"; "0Ah HALT .. sets HALT, also when idle"; "LDO_ON sets status bit 10" (Note 8)
-  pub sets-init : (runModel m 5) .status .init ≡ true
-  pub sets-halt : (runModel m 10) .status .halt ≡ true
-  pub sets-ldo : (runModel m 12) .status .ldo ≡ true
+  pub zeroed :
+      (k : Kind) (op : ℕ) →
+      runs k op ≡ true →
+      wordsAt (runModel m op) (byKind k 0xE4 0xEF) (byKind k 3 9) ≡ repeated (byKind k 3 9) 0
+  pub not-run :
+      (k : Kind) (op : ℕ) →
+      7 ≤ op →
+      op ≤ 9 →
+      runs k op ≡ false →
+      wordsAt (runModel m op) (byKind k 0xE4 0xEF) (byKind k 3 9) ≡ wordsAt m (byKind k 0xE4 0xEF) (byKind k 3 9)
+  -- "0Ah HALT drops awaited measurements, ends the event": no tick after it reports a start or a failure, and a delivery is number 10
+  pub halts : (n : ℕ) → valuesIn (acceptedAnswer (modelTicked n (runModel m 10)) tick) ≡ 0 ∷ 0 ∷ 0 ∷ 0 ∷ []
+  pub drops : (k : Kind) (n : ℕ) (c : Call) → isDelivery k c ≡ true → notAwaited (modelTicked n (runModel m 10)) c ≡ true
+  -- "04h Reset gives the same with status 0000h."; "A kind is awaited from its start until .. HALT or Reset."
+  pub reset : wordsAt (runModel m 4) 0xB0 80 ≡ freshWords 0
+  pub reset-drops : (k : Kind) (c : Call) → isDelivery k c ≡ true → notAwaited (runModel m 4) c ≡ true
   -- 05h, 0Ah, 0Ch and 0Dh leave what B0h to F7h read
-  pub initialize : map (registerWord (runModel m 5)) (upwards 0xB0 72) ≡ map (registerWord m) (upwards 0xB0 72)
-  pub halt : map (registerWord (runModel m 10)) (upwards 0xB0 72) ≡ map (registerWord m) (upwards 0xB0 72)
-  pub supply :
-      (map (registerWord (runModel m 12)) (upwards 0xB0 72) ≡ map (registerWord m) (upwards 0xB0 72)) ×
-      (map (registerWord (runModel m 13)) (upwards 0xB0 72) ≡ map (registerWord m) (upwards 0xB0 72))
-
--- "as if all its words were late or open": the registers of what expires in a tick.
-pub record ExpiryClaim (m : Model) : Type 0 where
-  pub ups :
-      expiring (m .flight .schedule) ≡ true →
-      m .flight .up ≡ true →
-      map (registerWord (tickModel m)) (upwards 0xC5 14)
-      ≡ 0xFFFF ∷ 0xFFFF ∷ 0xFFFF ∷ 0xFFFF ∷ 0xFFFF ∷ 0xFFFF ∷ 0xFFFF ∷ 0xFFFF ∷ 0xFFFF ∷ 0xFFFF ∷ 0xFFFF ∷ 0xFFFF ∷ 0xFFFF ∷ 0xFFFF ∷ []
-  pub downs :
-      expiring (m .flight .schedule) ≡ true →
-      m .flight .down ≡ true →
-      map (registerWord (tickModel m)) (upwards 0xD4 14)
-      ≡ 0xFFFF ∷ 0xFFFF ∷ 0xFFFF ∷ 0xFFFF ∷ 0xFFFF ∷ 0xFFFF ∷ 0xFFFF ∷ 0xFFFF ∷ 0xFFFF ∷ 0xFFFF ∷ 0xFFFF ∷ 0xFFFF ∷ 0xFFFF ∷ 0xFFFF ∷ []
-  pub difference :
-      expiring (m .flight .schedule) ≡ true →
-      m .flight .up ≡ true →
-      m .flight .down ≡ true →
-      map (registerWord (tickModel m)) (0xE2 ∷ 0xE3 ∷ []) ≡ 0xFFFF ∷ 0xFFFF ∷ []
-  pub ports :
-      expiring (m .temperature .schedule) ≡ true →
-      map (registerWord (tickModel m)) (upwards 0xE7 8)
-      ≡ 0xFFFF ∷ 0xFFFF ∷ 0xFFFF ∷ 0xFFFF ∷ 0xFFFF ∷ 0xFFFF ∷ 0xFFFF ∷ 0xFFFF ∷ []
+  pub others-keep :
+      (op : ℕ) →
+      (op ≡ 0x05) ⊎ (op ≡ 0x0A) ⊎ (op ≡ 0x0C) ⊎ (op ≡ 0x0D) →
+      wordsAt (runModel m op) 0xB0 72 ≡ wordsAt m 0xB0 72
 
 pub record SecondDemand : Type 0 where
   pub reads : ReadsClaim
-  pub bus : (m : Model) (f o x : List ℕ) → verdict m (transaction f o x) ≡ accepted → BusClaim m f o x
+  -- number 2, "first byte not carried", both ways
+  pub carried : (f o x : List ℕ) → (notCarried (transaction f o x) ≡ false) ↔ (Command f ⊎ Write f ⊎ Flash f ⊎ Read f)
+  pub bus : (m : Model) (f o x : List ℕ) → Accepts m (transaction f o x) → BusClaim m f o x
   pub writes : (m : Model) (bytes : List ℕ) (op n : ℕ) → isSound m ≡ true → length (m .setup) ≡ 16 → WritesClaim m bytes op n
   pub stores : (m : Model) (t : List ℕ) → OtherStored (m .setup) t → StoresClaim m t
   pub calendar : (m : Model) → clockValid (m .clock) ≡ true → CalendarClaim m
   pub months : (y : ℕ) → MonthsClaim y
   -- "A clock keeps the form it was last written in." (Note 2)
   pub form : FormClaim
-  pub alarm :
-      (m : Model) (minute hour : ℕ) →
-      m .status .alarm ≡ false →
-      AlarmTime (wordOf (m .setup) 0x35) minute hour →
-      AlarmClaim m minute hour
   pub counts : (m : Model) → isSound m ≡ true → CountsClaim m
-  pub flights : (m : Model) (u d : List ℕ) → miscounted m (flight u d) ≡ false → FlightClaim m u d
-  pub ports : (m : Model) (w : List ℕ) (i : ℕ) → miscounted m (temperature w) ≡ false → i < 4 → PortClaim m w i
-  -- "its delivery, single or of an event, is answered failed" (Note 3): good exactly where all words are neither short nor open
-  pub judged : (m : Model) (w : List ℕ) → (acceptedAnswer m (temperature w) ≡ Good) ↔ Whole (m .setup) w
-  pub means : MeansClaim
-  pub bits : (m : Model) → BitsClaim m
-  pub commands : (m : Model) → CommandsClaim m
+  pub flights : (m : Model) (u d : List ℕ) → Accepts m (flight u d) → FlightClaim m u d (reply m (flight u d))
+  pub temperatures : (m : Model) (w : List ℕ) → Accepts m (temperature w) → TemperatureClaim m w (reply m (temperature w))
   pub expiries : (m : Model) → ExpiryClaim m
+  pub means : MeansClaim
+  pub bits : (m : Model) (c : Call) → Accepts m c → ((n : ℕ) → ¬ (c ≡ stretch n)) → BitsClaim m c (reply m c .model)
+  -- "with the same end as n single ticks" (Note 1)
+  pub stretches : (m : Model) (n : ℕ) → isSound m ≡ true → n ≤ 16384 → reply m (stretch n) .model ≡ after m (singleTicks n)
+  -- "The INT answer is yes exactly when INT_EN (bit 9 of 42h) is 1 and the status is not 0."
+  pub interrupt :
+      (m : Model) →
+      (valueTold (interruptPending m) ≡ 1 ∷ [])
+      ↔ ((isSound m ≡ true) × (wordOf (m .setup) 0x42 / 512 % 2 ≡ 1) × (¬ (registerWord m 0xFE ≡ 0)))
+  pub singles :
+      (k : Kind) (m : Model) (op : ℕ) (o x : List ℕ) (later : List Call) →
+      single k op ≡ true →
+      Accepts m (command op o x) →
+      let n : Model = reply m (command op o x) .model in
+      onlyReads (log n later) ≡ true →
+      SingleClaim k m (log n later) (after n later)
+  pub commands : (m : Model) → CommandsClaim m
   -- "05h Initialize makes the model initialised, until a Reset"
   pub initialised : InitialisedClaim

@@ -1,19 +1,40 @@
--- The terms in which the second demand and the facts beneath it speak: register words, bits and frames in plain numbers.
-use Prim.Native.Nat.{ℕ, _+_, _-_, _/_, _%_, _≤_, _<_}
-use mathlib.Core.Bool.{Bool, true, false}
-use mathlib.Core.List.{List, [], _∷_}
+-- The terms in which the second demand and the facts beneath it speak: register words, bits and frames in plain numbers. Quotations
+-- are from 01.
+use Prim.Native.Nat.{ℕ, zero, suc, _+_, _-_, _*_, _/_, _%_, _^_, _≤_, _<_, min}
+use mathlib.Core.Bool.{Bool, true}
+use mathlib.Core.List.{List, [], _∷_, _++_, map}
 use mathlib.Core.Logic.{_⊎_}
 use mathlib.Core.Path.{_≡_}
 use lib.ListN.{length, getD}
-use lib.Dec.{ltb, eqb}
-use Rattle.unit.specs.Choice.{pick, either, negate}
+use lib.Dec.{leb, eqb}
+use Rattle.unit.specs.Choice.{both, either, negate}
+use Rattle.calendar.specs.Valid.{AlarmTime}
 use Rattle.setup.specs.Setup.{wordOf}
 use Rattle.frame.specs.Frame.{wordAt}
-use Rattle.device.specs.declared.Schedule.{Schedule}
-use Rattle.device.specs.declared.Status.{Status}
 use Rattle.device.specs.declared.Model.{Model}
-use Rattle.device.specs.Registers.{registerWord}
-use Rattle.device.specs.Call.{Call, transaction, tick, flight, temperature, stretch, notAwaited}
+use Rattle.device.specs.Status.{Bit, TO, AF, TOF, TE, LDO, TOF-EVTMG, TEMP-EVTMG, FLASH, HALT, INIT, POR, place}
+use Rattle.device.specs.Registers.{registerWord, upwards}
+use Rattle.device.specs.Tick.{tickModel}
+use Rattle.device.specs.Call.{Call, transaction, tick, flight, temperature, stretch, onFrame, onTime}
+use Rattle.device.specs.Reply.{reply, numberIn, valuesIn}
+use Rattle.device.specs.History.{Kind, differences, temperatures, byKind, Entry, isRefusal, isDelivery}
+
+-- A model accepts a call: the answer has no number of 01's table.
+abbrev pub Accepts : Model → Call → Type 0
+Accepts m c = numberIn (reply m c .answer) ≡ []
+
+-- The n words that a read from address a on gives, and a list of n words w.
+abbrev pub wordsAt : Model → ℕ → ℕ → List ℕ
+wordsAt m a n = map (registerWord m) (upwards a n)
+
+abbrev pub repeated : ℕ → ℕ → List ℕ
+repeated zero w = []
+repeated (suc n) w = w ∷ repeated n w
+
+-- "Fresh: .. configuration at the factory values .. (38h is 0010h, 43h is 0000h ..); results 0; alarm 0; clock 2000-01-01 00:00:00.00,
+-- weekday 1": B0h to FFh, FEh with this status
+abbrev pub freshWords : ℕ → List ℕ
+freshWords status = (0 ∷ 0 ∷ 0x0101 ∷ 0x0100 ∷ []) ++ repeated 4 0 ++ (0x0010 ∷ repeated 69 0) ++ (status ∷ 0 ∷ [])
 
 -- The write of n words from register op on leaves register a out.
 abbrev pub LeftOut : ℕ → ℕ → ℕ → Type 0
@@ -43,190 +64,40 @@ modeOf m = wordOf (m .setup) 0x43 / 4 % 4
 abbrev pub eoscOf : Model → ℕ
 eoscOf m = wordOf (m .setup) 0x43 / 16 % 2
 
--- "commands 00h to 05h and 07h to 0Ah", and 0Ch and 0Dh (Note 8)
-abbrev pub commands : List ℕ
-commands = 0 ∷ 1 ∷ 2 ∷ 3 ∷ 4 ∷ 5 ∷ 7 ∷ 8 ∷ 9 ∷ 10 ∷ 12 ∷ 13 ∷ []
+-- "H = STOP + 1 and at most 6 (STOP is 15:13 of 39h)"
+abbrev pub hitsOf : Model → ℕ
+hitsOf m = min (wordOf (m .setup) 0x39 / 8192 % 8 + 1) 6
 
--- 1 where the bit is set
-abbrev pub bit : Bool → ℕ
-bit b = pick b 1 0
+-- "A word is late when it is at least 512 × 2^k × 65,536, k = TIMOUT (2:0 of 39h), or no hit"; "2^31 or more means no hit"
+abbrev pub leastLate : Model → ℕ
+leastLate m = min (512 * 2 ^ (wordOf (m .setup) 0x39 % 8) * 65536) (2 ^ 31)
 
--- every bit in its place, and no other
-pub record Places (s : Status) (w : ℕ) : Type 0 where
-  pub timeout : w / 32768 % 2 ≡ bit (s .timeout)
-  pub alarm : w / 16384 % 2 ≡ bit (s .alarm)
-  pub tof : w / 4096 % 2 ≡ bit (s .tof)
-  pub te : w / 2048 % 2 ≡ bit (s .te)
-  pub ldo : w / 1024 % 2 ≡ bit (s .ldo)
-  pub tofevtmg : w / 512 % 2 ≡ bit (s .tofevtmg)
-  pub tempevtmg : w / 256 % 2 ≡ bit (s .tempevtmg)
-  pub flash : w / 128 % 2 ≡ bit (s .flash)
-  pub halt : w / 32 % 2 ≡ bit (s .halt)
-  pub init : w / 8 % 2 ≡ bit (s .init)
-  pub por : w / 4 % 2 ≡ bit (s .por)
-  pub others :
-      (w / 8192 % 2 ≡ 0) × (w / 64 % 2 ≡ 0) × (w / 16 % 2 ≡ 0) × (w % 4 ≡ 0) × (w < 65536)
-
--- What settling one sets, each bit; where none is settled, no bit. "A single one sets TOF or TE when delivered or failed.";
--- "With CONT_INT .. each settled one sets TOF or TE"; "the measurement fails, .. TO is set".
-abbrev pub onlyBits : Bool → Bool → Bool → Bool → Bool → Status
-onlyBits timeout tof te tofevtmg tempevtmg =
-    record {
-      timeout = timeout;
-      alarm = false;
-      tof = tof;
-      te = te;
-      ldo = false;
-      tofevtmg = tofevtmg;
-      tempevtmg = tempevtmg;
-      flash = false;
-      halt = false;
-      init = false;
-      por = false;
-    }
-
--- The conditions in plain numbers. In the coming tick the awaited one is undelivered for 8,192 ticks:
-abbrev pub expiring : Schedule → Bool
-expiring k = eqb (k .left .0) 1
-
--- the one that is settled next is the N-th of its event or group
-abbrev pub nth : Schedule → Bool
-nth k = eqb (k .settled + 1) (k .planned)
-
--- settling a measurement of the kind sets TOF or TE: no event of the kind runs, neither a continuous one nor one of which some are
--- to settle; or CONT_INT, bit 7 of 42h, is 1
-abbrev pub told : Model → Schedule → Bool
-told m k =
-    either (negate (either (k .continuous) (ltb (k .settled) (k .planned)))) (eqb (wordOf (m .setup) 0x42 / 128 % 2) 1)
+-- "A word is open when it is at least (512 × (PORTCYC + 1) − 8) × 65,536 (PORTCYC is 1:0 of 40h)"
+abbrev pub leastOpen : Model → ℕ
+leastOpen m = (512 * (wordOf (m .setup) 0x40 % 4 + 1) - 8) * 65536
 
 -- some word of a list is at least this one
 abbrev pub Some : ℕ → List ℕ → Type 0
 Some least ws = (i : ℕ) × (i < length ws) × (least ≤ getD ws i 0)
 
--- Every bit set before is set after, LDO where the call does not switch the regulator off.
-pub record Kept (Off : Type 0) (s t : Status) : Type 0 where
-  pub timeout : s .timeout ≡ true → t .timeout ≡ true
-  pub alarm : s .alarm ≡ true → t .alarm ≡ true
-  pub tof : s .tof ≡ true → t .tof ≡ true
-  pub te : s .te ≡ true → t .te ≡ true
-  pub ldo : ¬ Off → s .ldo ≡ true → t .ldo ≡ true
-  pub tofevtmg : s .tofevtmg ≡ true → t .tofevtmg ≡ true
-  pub tempevtmg : s .tempevtmg ≡ true → t .tempevtmg ≡ true
-  pub flash : s .flash ≡ true → t .flash ≡ true
-  pub halt : s .halt ≡ true → t .halt ≡ true
-  pub init : s .init ≡ true → t .init ≡ true
-  pub por : s .por ≡ true → t .por ≡ true
+-- The two directions of a flight measurement: whether the model measures it, and where its results begin. "Up results stand at C5h to
+-- D2h, down at D4h to E1h (HIT 1 to 6, then AVG ..)"
+pub data Direction : Type 0 where
+  upstream : Direction
+  downstream : Direction
 
--- The frames that clear: a read of n words from B0h on that covers FEh, and 04h Reset; 0Dh LDO_OFF clears LDO alone.
-abbrev pub ReadsStatus : List ℕ → Type 0
-ReadsStatus f = (0xB0 ≤ getD f 0 0) × (getD f 0 0 ≤ 0xFE) × (0xFE < getD f 0 0 + (length f - 1) / 2)
+abbrev pub byDirection : {A : Type 0} → Direction → A → A → A
+byDirection upstream u d = u
+byDirection downstream u d = d
 
-abbrev pub Clears : Call → Type 0
-Clears (transaction f o x) = (getD f 0 0 ≡ 0x04) ⊎ ReadsStatus f
-Clears tick = ⊥
-Clears (flight u d) = ⊥
-Clears (temperature w) = ⊥
-Clears (stretch n) = ⊥
+abbrev pub measured : Direction → Model → Bool
+measured s m = byDirection s (m .flight .up) (m .flight .down)
 
-abbrev pub SwitchesOff : Call → Type 0
-SwitchesOff (transaction f o x) = getD f 0 0 ≡ 0x0D
-SwitchesOff tick = ⊥
-SwitchesOff (flight u d) = ⊥
-SwitchesOff (temperature w) = ⊥
-SwitchesOff (stretch n) = ⊥
+abbrev pub resultsAt : Direction → ℕ
+resultsAt s = byDirection s 0xC5 0xD4
 
--- The bits that a call may set: a transaction by its first byte, 0Ch LDO, 10h and 13h FLASH, 0Ah HALT, 05h INIT; a delivery those of
--- its kind; ticks those of both kinds and AF. No call sets POR: "status 0004h (POR)" is a fresh model's.
-abbrev pub bitsOf : Bool → Bool → Bool → Bool → Status
-bitsOf ticks flights temperatures any =
-    record {
-      timeout = any;
-      alarm = ticks;
-      tof = flights;
-      te = temperatures;
-      ldo = false;
-      tofevtmg = flights;
-      tempevtmg = temperatures;
-      flash = false;
-      halt = false;
-      init = false;
-      por = false;
-    }
-
-abbrev pub bitsOfFrame : ℕ → Status
-bitsOfFrame op =
-    record {
-      timeout = false;
-      alarm = false;
-      tof = false;
-      te = false;
-      ldo = eqb op 0x0C;
-      tofevtmg = false;
-      tempevtmg = false;
-      flash = either (eqb op 0x10) (eqb op 0x13);
-      halt = eqb op 0x0A;
-      init = eqb op 0x05;
-      por = false;
-    }
-
-abbrev pub maySet : Call → Status
-maySet (transaction f o x) = bitsOfFrame (getD f 0 0)
-maySet tick = bitsOf true true true true
-maySet (flight u d) = bitsOf false true false true
-maySet (temperature w) = bitsOf false false true true
-maySet (stretch n) = bitsOf true true true true
-
--- every bit of the first is one of the second
-abbrev pub Under : Status → Status → Type 0
-Under s t = Kept ⊥ s t
-
--- "TOF_Up (00h), TOF_Down (01h), TOF_Diff (02h) start a flight measurement": it is awaited for 8,192 ticks, in the directions
--- named, and everything else of `n`, the model after the command, is as it was in `m`, the model before it.
-pub record FlightStarts (m n : Model) (upstream downstream : Bool) : Type 0 where
-  pub awaited : (u d : List ℕ) → notAwaited n (flight u d) ≡ false
-  pub left : n .flight .schedule .left .0 ≡ 8192
-  pub up : n .flight .up ≡ upstream
-  pub down : n .flight .down ≡ downstream
-  pub sum : n .flight .sum ≡ m .flight .sum
-  pub ups : n .flight .ups ≡ m .flight .ups
-  pub downs : n .flight .downs ≡ m .flight .downs
-  pub difference : n .flight .difference ≡ m .flight .difference
-  pub wait : n .flight .schedule .wait ≡ m .flight .schedule .wait
-  pub period : n .flight .schedule .period ≡ m .flight .schedule .period
-  pub planned : n .flight .schedule .planned ≡ m .flight .schedule .planned
-  pub started : n .flight .schedule .started ≡ m .flight .schedule .started
-  pub settled : n .flight .schedule .settled ≡ m .flight .schedule .settled
-  pub continuous : n .flight .schedule .continuous ≡ m .flight .schedule .continuous
-  pub good : n .flight .schedule .good ≡ m .flight .schedule .good
-  pub temperature : n .temperature ≡ m .temperature
-  pub clock : n .clock ≡ m .clock
-  pub setup : n .setup ≡ m .setup
-  pub status : n .status ≡ m .status
-  pub initialised : n .initialised ≡ m .initialised
-  pub regulator : n .regulator ≡ m .regulator
-
--- "Temperature (03h) a temperature one"
-pub record TemperatureStarts (m n : Model) : Type 0 where
-  pub awaited : (w : List ℕ) → notAwaited n (temperature w) ≡ false
-  pub left : n .temperature .schedule .left .0 ≡ 8192
-  pub sums : n .temperature .sums ≡ m .temperature .sums
-  pub ports : n .temperature .ports ≡ m .temperature .ports
-  pub wait : n .temperature .schedule .wait ≡ m .temperature .schedule .wait
-  pub period : n .temperature .schedule .period ≡ m .temperature .schedule .period
-  pub planned : n .temperature .schedule .planned ≡ m .temperature .schedule .planned
-  pub started : n .temperature .schedule .started ≡ m .temperature .schedule .started
-  pub settled : n .temperature .schedule .settled ≡ m .temperature .schedule .settled
-  pub continuous : n .temperature .schedule .continuous ≡ m .temperature .schedule .continuous
-  pub good : n .temperature .schedule .good ≡ m .temperature .schedule .good
-  pub flight : n .flight ≡ m .flight
-  pub clock : n .clock ≡ m .clock
-  pub setup : n .setup ≡ m .setup
-  pub status : n .status ≡ m .status
-  pub initialised : n .initialised ≡ m .initialised
-  pub regulator : n .regulator ≡ m .regulator
-
--- The sorts of frames, by the first byte: "commands 00h to 05h and 07h to 0Ah", and "LDO_ON (0Ch), LDO_OFF (0Dh)" (Note 8); "30h to
--- 43h write"; "B0h to FFh read".
+-- The sorts of frames, by their first byte: "commands 00h to 05h and 07h to 0Ah", and "LDO_ON (0Ch), LDO_OFF (0Dh)" (Note 8); "30h to
+-- 43h write"; "B0h to FFh read"; "read (90h), write (10h) and block erase (13h)" of the user flash (Note 8).
 abbrev pub Command : List ℕ → Type 0
 Command f =
     (getD f 0 0 ≤ 0x05) ⊎ ((0x07 ≤ getD f 0 0) × (getD f 0 0 ≤ 0x0A)) ⊎ ((0x0C ≤ getD f 0 0) × (getD f 0 0 ≤ 0x0D))
@@ -236,3 +107,93 @@ Write f = (0x30 ≤ getD f 0 0) × (getD f 0 0 ≤ 0x43)
 
 abbrev pub Read : List ℕ → Type 0
 Read f = (0xB0 ≤ getD f 0 0) × (getD f 0 0 ≤ 0xFF)
+
+abbrev pub Flash : List ℕ → Type 0
+Flash f = (getD f 0 0 ≡ 0x90) ⊎ (getD f 0 0 ≡ 0x10) ⊎ (getD f 0 0 ≡ 0x13)
+
+-- the call is a transaction with this first byte
+abbrev pub Sent : ℕ → Call → Type 0
+Sent op c = onFrame c (λ f o x. eqb (getD f 0 0) op) ≡ true
+
+-- "TOF_Up (00h), TOF_Down (01h), TOF_Diff (02h) start a flight measurement, Temperature (03h) a temperature one": a single one
+unfoldable pub single : Kind → ℕ → Bool
+single k op = byKind k (leb op 0x02) (eqb op 0x03)
+
+-- whether no entry is an accepted delivery of the kind
+unfoldable pub undelivered : Kind → List Entry → Bool
+undelivered k [] = true
+undelivered k (e ∷ es) = both (either (isRefusal (e .answer)) (negate (isDelivery k (e .call)))) (undelivered k es)
+
+-- "a tick's answer says for each kind .. whether one failed in it", 1 or 0; a stretch's names "the tick at which one failed" (Note 1), or 0
+abbrev pub failedIn : Kind → Model → Call → ℕ
+failedIn k m c =
+    let told : ℕ = getD (valuesIn (reply m c .answer)) (byKind k 1 3) 0 in
+    onTime c 0 told (λ n. told)
+
+-- "A measurement is settled when it is good or failed.": an accepted call settles one of the kind
+abbrev pub Settles : Kind → Model → Call → Type 0
+Settles k m c = (isDelivery k c ≡ true) ⊎ ((c ≡ tick) × (failedIn k m c ≡ 1))
+
+-- n ticks, one after another
+unfoldable pub singleTicks : ℕ → List Call
+singleTicks zero = []
+singleTicks (suc n) = tick ∷ singleTicks n
+
+-- The bit is set in the word that FEh reads; the bits of a kind.
+abbrev pub Set : Bit → Model → Type 0
+Set b m = registerWord m 0xFE / 2 ^ place b % 2 ≡ 1
+
+abbrev pub ownBit : Kind → Bit
+ownBit k = byKind k TOF TE
+
+abbrev pub eventBit : Kind → Bit
+eventBit k = byKind k TOF-EVTMG TEMP-EVTMG
+
+-- A read of n words from B0h on covers FEh.
+abbrev pub ReadsStatus : List ℕ → Type 0
+ReadsStatus f = (0xB0 ≤ getD f 0 0) × (getD f 0 0 ≤ 0xFE) × (0xFE < getD f 0 0 + (length f - 1) / 2)
+
+-- What clears a bit: "reading it clears it after the word is taken"; "04h Reset gives .. status 0000h"; LDO_OFF (0Dh) "the Interrupt
+-- Status register LDO bit is cleared" (000).
+abbrev pub Clears : Bit → Call → Type 0
+Clears b (transaction f o x) = ReadsStatus f ⊎ (getD f 0 0 ≡ 0x04) ⊎ ((b ≡ LDO) × (getD f 0 0 ≡ 0x0D))
+Clears b tick = ⊥
+Clears b (flight u d) = ⊥
+Clears b (temperature w) = ⊥
+Clears b (stretch n) = ⊥
+
+-- "A word late: the measurement fails, .. TO is set"; "any open fails the measurement and sets TO", and "A short alone does not set TO"
+-- (Note 3); a measurement that fails in a tick does so "as if all its words were late or open"
+abbrev pub TimesOut : Model → Call → Type 0
+TimesOut m (transaction f o x) = ⊥
+TimesOut m tick = (k : Kind) × (failedIn k m tick ≡ 1)
+TimesOut m (flight u d) = Some (leastLate m) u ⊎ Some (leastLate m) d
+TimesOut m (temperature w) = Some (leastOpen m) w
+TimesOut m (stretch n) = ⊥
+
+-- "AM (3:2 of 43h): 01b sets AF in a tick where minutes change to the alarm's; 10b where hours change to the alarm's; 11b where minutes
+-- change and both match": from the clock of one model to that of the next, by the time of day that 35h means
+abbrev pub Rings : Model → Model → ℕ → ℕ → Type 0
+Rings m n minute hour =
+    ((modeOf m ≡ 0b01) × (¬ (m .clock .minute ≡ n .clock .minute)) × (n .clock .minute ≡ minute)) ⊎
+    ((modeOf m ≡ 0b10) × (¬ (m .clock .hour ≡ n .clock .hour)) × (n .clock .hour ≡ hour)) ⊎
+    ((modeOf m ≡ 0b11) × (¬ (m .clock .minute ≡ n .clock .minute)) × (n .clock .minute ≡ minute) × (n .clock .hour ≡ hour))
+
+abbrev pub TickRings : Model → Type 0
+TickRings m = (minute hour : ℕ) × AlarmTime (wordOf (m .setup) 0x35) minute hour × Rings m (tickModel m) minute hour
+
+-- What sets each bit; of TOF, TE and the EVTMG bits what alone may set them: the claims on single measurements and events say when it
+-- does. "05h Initialize .. sets INIT."; "0Ah HALT .. sets HALT, also when idle."; "LDO_ON sets status bit 10; a write or erase sets bit
+-- 7." (Note 8); POR is a fresh model's alone.
+abbrev pub Sets : Model → Call → Bit → Type 0
+Sets m c TO = TimesOut m c
+Sets m c AF = (c ≡ tick) × TickRings m
+Sets m c TOF = Settles differences m c
+Sets m c TE = Settles temperatures m c
+Sets m c LDO = Sent 0x0C c
+Sets m c TOF-EVTMG = Settles differences m c
+Sets m c TEMP-EVTMG = Settles temperatures m c
+Sets m c FLASH = Sent 0x10 c ⊎ Sent 0x13 c
+Sets m c HALT = Sent 0x0A c
+Sets m c INIT = Sent 0x05 c
+Sets m c POR = ⊥

@@ -16,7 +16,8 @@ use Rattle.unit.proofs.Cases.{by-test, by-eqb, by-ltb}
 use Rattle.calendar.specs.Words.{word32, word33, minuteIn, twelveIn, hourNamed}
 use Rattle.calendar.proofs.Laws.{bounds, month-length}
 use Rattle.calendar.proofs.Places.{date-shown, year-shown}
-use Rattle.calendar.proofs.Validity.{AlarmValid, alarm-means}
+use Rattle.calendar.specs.Valid.{AlarmValid}
+use Rattle.calendar.proofs.Validity.{alarm-means}
 use Rattle.setup.specs.Setup.{wordOf, alarmWord, alarmMode, hitCount, timeout, differencePeriod, differenceCount, temperaturePeriod, temperatureCount, portCycle, interruptEnabled, eventContinuous, eachInterrupt, clockStands}
 use Rattle.setup.specs.Table11.{timeoutRow}
 use Rattle.setup.proofs.Laws.{hits-bounds, difference-count-bounds, temperature-count-bounds, timeout-below, cycle-below, temperature-period-bounds}

@@ -1,51 +1,60 @@
--- The bench table: the eleven marked examples, each with what the definitions give and what the paper says.
+-- The bench table: the eleven marked examples, each with what the definitions give and what the paper says. Those of measurements
+-- and events are calls on a model that grew from a fresh one, and their answers.
 use Prim.Native.Nat.{ℕ, zero, suc, _+_, _*_}
-use mathlib.Core.Bool.{Bool, false}
+use mathlib.Core.Bool.{false}
 use mathlib.Core.List.{List, [], _∷_, _++_}
-use lib.ListN.{set}
+use lib.ListN.{getD, set}
+use lib.Dec.{eqb}
 use Rattle.unit.specs.Choice.{pick}
 use Rattle.calendar.specs.declared.Clock.{Clock}
 use Rattle.calendar.specs.Calendar.{tickClock}
 use Rattle.calendar.specs.Words.{hundredthsOf, wordsValid}
 use Rattle.setup.specs.Setup.{factory, hitCount}
 use Rattle.hit.specs.Limit.{lateFrom, openFrom, anyFrom, anyFault}
-use Rattle.hit.specs.Words.{sixWords}
-use Rattle.device.specs.declared.Schedule.{Schedule}
 use Rattle.device.specs.declared.Model.{Model}
-use Rattle.device.specs.Event.{ticks, noSchedule, startSingle, isAwaited, begins, fails, tickSchedule}
+use Rattle.device.specs.Event.{ticks}
 use Rattle.device.specs.Model.{freshModel}
 use Rattle.device.specs.Registers.{registerWord}
-use Rattle.device.specs.Delivery.{goodFlightModel}
-use Rattle.device.specs.Bus.{startsFlight, startedEvent, singleStarted}
+use Rattle.device.specs.Call.{Call, transaction, tick, flight, stretch}
+use Rattle.device.specs.Reply.{reply, valuesIn, flag}
+use Rattle.device.specs.Question.{awaitedTold, valueTold}
+use Rattle.device.specs.History.{after}
 
 pub record Example : Type 0 where
   pub number : ℕ
   pub given : List ℕ
   pub wanted : List ℕ
 
--- 1 where a test holds, else 0
-abbrev flag : Bool → ℕ
-flag b = pick b 1 0
+-- A fresh model with PL and DPL 1 (38h), TDF 0 and TDM 1 (3Fh), initialised, and then further calls.
+abbrev pub grown : List Call → Model
+grown calls =
+    after freshModel
+    (transaction (0x38 ∷ 0x01 ∷ 0x10 ∷ []) [] [] ∷
+    transaction (0x3F ∷ 0x00 ∷ 0x80 ∷ []) [] [] ∷
+    transaction (0x05 ∷ []) [] [] ∷
+    calls)
 
--- a fresh model with one set-up register, 34h + i, written
-abbrev setUp : ℕ → ℕ → Model
-setUp i w =
-    record {
-      clock = freshModel .clock;
-      setup = set factory i w;
-      status = freshModel .status;
-      initialised = freshModel .initialised;
-      regulator = freshModel .regulator;
-      flight = freshModel .flight;
-      temperature = freshModel .temperature;
-    }
+abbrev pub TOF-Diff : Call
+TOF-Diff = transaction (0x02 ∷ []) [] []
 
--- a good delivery of one word up and one down
-abbrev delivered : Model → ℕ → ℕ → Model
-delivered m up down = goodFlightModel m 1 (sixWords (up ∷ [])) (sixWords (down ∷ []))
+abbrev pub EVTMG2 : Call
+EVTMG2 = transaction (0x08 ∷ []) [] []
+
+-- a delivery of one word up and one down
+abbrev pub delivery : ℕ → ℕ → Call
+delivery up down = flight (up ∷ []) (down ∷ [])
+
+-- the values of a call's answer
+abbrev pub answered : Model → Call → List ℕ
+answered m c = valuesIn (reply m c .answer)
+
+-- whether a flight measurement is awaited; then what each call answers, and whether one is awaited after it
+unfoldable pub followed : Model → List Call → List ℕ
+followed m [] = valueTold (awaitedTold m (m .flight .schedule))
+followed m (c ∷ cs) = valueTold (awaitedTold m (m .flight .schedule)) ++ answered m c ++ followed (reply m c .model) cs
 
 -- the words of a register pair
-abbrev pair : Model → ℕ → List ℕ
+abbrev pub pair : Model → ℕ → List ℕ
 pair m int = registerWord m int ∷ registerWord m (int + 1) ∷ []
 
 -- the date, the time and s
@@ -56,32 +65,25 @@ dateAndTime c = c .year ∷ c .month ∷ c .date ∷ c .hour ∷ c .minute ∷ c
 abbrev leapDay : ℕ → ℕ
 leapDay year = flag (wordsValid 0 0 0x0129 (0x0200 + year) (ticks 0))
 
--- a schedule after n ticks, and the ticks of n, t gone before, in which it starts a measurement
-unfoldable pub awaitedFor : ℕ → Schedule → Schedule
-awaitedFor zero k = k
-awaitedFor (suc n) k = awaitedFor n (tickSchedule k)
-
-unfoldable pub startTicks : ℕ → ℕ → List ℕ → Schedule → List ℕ
-startTicks zero t found k = found
-startTicks (suc n) t found k =
-    startTicks n (t + 1) (pick (begins k) (found ++ ((t + 1) ∷ [])) found) (tickSchedule k)
-
--- 3Fh with TDF 0 and TDM 1
-abbrev twoDifferences : Model
-twoDifferences = startedEvent (setUp 11 0x0080) 8
+-- n stretches of 8 ticks, t ticks gone before: the elapsed ticks at which their answers name a start of a flight measurement
+unfoldable pub startsNamed : ℕ → ℕ → Model → List ℕ
+startsNamed zero t m = []
+startsNamed (suc n) t m =
+    let named : ℕ = getD (answered m (stretch 8)) 0 0 in
+    pick (eqb named 0) [] ((t + named) ∷ []) ++ startsNamed n (t + 8) (reply m (stretch 8) .model)
 
 unfoldable pub bench : List Example
 bench =
     -- "Difference −125,902 quanta reads FFFEh 1432h"
     record {
       number = 1;
-      given = pair (delivered (singleStarted freshModel 2) 1000000 1125902) 0xE2;
+      given = pair (grown (TOF-Diff ∷ delivery 1000000 1125902 ∷ [])) 0xE2;
       wanted = 0xFFFE ∷ 0x1432 ∷ [];
     } ∷
     -- "1,836,035 reads 001Ch 0403h."
     record {
       number = 2;
-      given = pair (delivered (singleStarted freshModel 2) 2836035 1000000) 0xE2;
+      given = pair (grown (TOF-Diff ∷ delivery 2836035 1000000 ∷ [])) 0xE2;
       wanted = 0x001C ∷ 0x0403 ∷ [];
     } ∷
     -- "k = 0: word 33,554,431 good, 33,554,432 late. k = 6 and 7: 2,147,483,647 good."
@@ -142,27 +144,23 @@ bench =
       given = leapDay 0x00 ∷ leapDay 0x96 ∷ leapDay 0x99 ∷ [];
       wanted = 1 ∷ 1 ∷ 0 ∷ [];
     } ∷
-    -- "TDF 0, TDM 1: starts at 0 and 16,384, none at 32,768."
+    -- "TDF 0, TDM 1: starts at 0 and 16,384, none at 32,768.": the command's answer tells the first
     record {
       number = 9;
-      given = startTicks 32768 0 (pick (startsFlight 8) (0 ∷ []) []) (twoDifferences .flight .schedule);
-      wanted = 0 ∷ 16384 ∷ [];
+      given = answered (grown []) EVTMG2 ++ startsNamed 4096 0 (grown (EVTMG2 ∷ []));
+      wanted = 1 ∷ 0 ∷ 16384 ∷ [];
     } ∷
-    -- "No delivery: awaited after 8,191 ticks, failed after 8,192."
+    -- "No delivery: awaited after 8,191 ticks, failed after 8,192.": whether one is awaited, before and after the last two of these ticks, and
+    -- their answers
     record {
       number = 10;
-      given =
-          flag (isAwaited (awaitedFor 8191 (startSingle noSchedule))) ∷
-          flag (fails (awaitedFor 8190 (startSingle noSchedule))) ∷
-          flag (fails (awaitedFor 8191 (startSingle noSchedule))) ∷
-          flag (isAwaited (awaitedFor 8192 (startSingle noSchedule))) ∷
-          [];
-      wanted = 1 ∷ 0 ∷ 1 ∷ 0 ∷ [];
+      given = followed (grown (TOF-Diff ∷ stretch 8190 ∷ [])) (tick ∷ tick ∷ []);
+      wanted = 1 ∷ 0 ∷ 0 ∷ 0 ∷ 0 ∷ 1 ∷ 0 ∷ 1 ∷ 0 ∷ 0 ∷ 0 ∷ [];
     } ∷
     -- "Good differences −1 and 0: average FFFFh FFFFh."
     record {
       number = 11;
-      given = pair (delivered (delivered twoDifferences 4 5) 4 4) 0xE5;
+      given = pair (grown (EVTMG2 ∷ delivery 4 5 ∷ stretch 16384 ∷ delivery 4 4 ∷ [])) 0xE5;
       wanted = 0xFFFF ∷ 0xFFFF ∷ [];
     } ∷
     []

@@ -178,10 +178,10 @@ reports-size flight temperature i done =
     rw (size-append, size-append, size-append)
     (omega (
       arith,
-      report-size (eqb (flight .failed) i) (ascii " failed-flight@") (done + i),
-      report-size (eqb (flight .started) i) (ascii " started-flight@") (done + i),
-      report-size (eqb (temperature .failed) i) (ascii " failed-temperature@") (done + i),
-      report-size (eqb (temperature .started) i) (ascii " started-temperature@") (done + i),
+      report-size (eqb (flight .failed .0) i) (ascii " failed-flight@") (done + i),
+      report-size (eqb (flight .started .0) i) (ascii " started-flight@") (done + i),
+      report-size (eqb (temperature .failed .0) i) (ascii " failed-temperature@") (done + i),
+      report-size (eqb (temperature .started .0) i) (ascii " started-temperature@") (done + i),
     ))
 
 pub named-size : (flight temperature : StretchReport) (done : ℕ) → size (named flight temperature done) ≤ 448

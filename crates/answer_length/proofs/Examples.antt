@@ -30,7 +30,7 @@ unfolding longest isListing
 a-full-listing = omega arith
 
 -- A stretch whose four things happen in one tick of ten digits has 112 bytes of them.
-four-reports : length (joined (tickReports record { started = 5; failed = 5 } record { started = 5; failed = 5 } 5 4000000000)) ≡ 112
+four-reports : length (joined (tickReports record { started = record { 0 = 5 }; failed = record { 0 = 5 } } record { started = record { 0 = 5 }; failed = record { 0 = 5 } } 5 4000000000)) ≡ 112
 unfolding tickReports reportAt decimal decimalWidth widthFrom digits glyph joined ascii
 four-reports = refl
 

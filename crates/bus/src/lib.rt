@@ -1,7 +1,7 @@
 // The bus transaction. It takes any model and any frame; a refusal changes nothing.
 ghost use mathlib.Core.Path.{_≡_};
 ghost use mathlib.Core.Bool.{true};
-ghost use Prim.Native.Nat.{_<_, _≤_, _+_, _*_};
+ghost use Prim.Native.Nat.{_≤_, _+_, _*_};
 ghost use lib.ListN.{length};
 ghost use Rattle.device.specs.Model.{isSound};
 ghost use Rattle.device.specs.Call.{Call};
@@ -11,7 +11,6 @@ use command::before_initialize;
 use command::command_busy;
 use command::command_unset;
 use command::run_model;
-use command::single_started;
 use command::starts_flight;
 use command::starts_temperature;
 use device::Model;
@@ -32,25 +31,6 @@ use registers::read::fill_words;
 use registers::read::read_model;
 use registers::write::write_invalid;
 use registers::write::write_model;
-
-// TOF_Up, TOF_Down and TOF_Diff, the most frequent commands in a list of calls: what is judged of the others and done by them is
-// passed over.
-pub fn start_reply(m: Model, op: u32) -> Reply
-    requires { ⌜ op < 3 ⌝ }
-    ensures { λ r. ⌜ r ≡ commandReply m op ⌝ }
-{
-    let setup = m.setup;
-    if is_busy(m) {
-        return refuse(m, BUSY);
-    }
-    if m.initialised {
-        if setup::flight_unset(setup) {
-            return refuse(m, SET_UP);
-        }
-        return accept(single_started(m, op), true, false);
-    }
-    refuse(m, NOT_INITIALISED)
-}
 
 fn command_reply(m: Model, op: u32) -> Reply
     ensures { λ r. ⌜ r ≡ commandReply m op ⌝ }

@@ -25,6 +25,7 @@ use sound_calls::sound_stretch;
 use sound_calls::sound_temperature_delivery;
 use sound_calls::sound_tick;
 use status::por_bit;
+use unit::Ticks;
 
 pub fn fresh() -> Model
     ensures { λ r. ⌜ r ≡ freshModel ⌝ }
@@ -43,8 +44,8 @@ pub fn tick(m: Model) -> Reply
 }
 
 // n such periods at once, at most 16,384.
-pub fn stretch(m: Model, n: u32) -> Reply
-    ensures { λ r. ⌜ r ≡ reply m (Call.stretch n) ⌝ }
+pub fn stretch(m: Model, n: Ticks) -> Reply
+    ensures { λ r. ⌜ r ≡ reply m (Call.stretch (n .0)) ⌝ }
 {
     if is_sound(m) {
         return sound_stretch(m, n);

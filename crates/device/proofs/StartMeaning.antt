@@ -13,7 +13,7 @@ use Rattle.device.specs.declared.Temperature.{Temperature}
 use Rattle.device.specs.declared.Model.{Model}
 use Rattle.device.specs.declared.Answer.the-variants.{Ticked, Stretched}
 use Rattle.unit.proofs.Joined.{neither}
-use Rattle.device.specs.Event.{isAwaited, inEvent, startsLeft, begins, beginsGroup, fails, haltSchedule}
+use Rattle.device.specs.Event.{ticks, isAwaited, inEvent, startsLeft, begins, beginsGroup, fails, haltSchedule}
 use Rattle.device.specs.Event.{tickSchedule, leftAfter, startedAfter, settledAfter, goodAfter}
 use Rattle.device.specs.Model.{isSound, kindBusy, isBusy}
 use Rattle.device.specs.Registers.{calendarWord, flightWord, temperatureWord, registerWord, upwards}
@@ -198,7 +198,7 @@ module _ (m : Model) where
   pub halt-stretch :
       (n : ℕ) →
       acceptedAnswer (runModel m 10) (stretch n)
-      ≡ Stretched (record { started = 0; failed = 0 }) (record { started = 0; failed = 0 })
+      ≡ Stretched (record { started = ticks 0; failed = ticks 0 }) (record { started = ticks 0; failed = ticks 0 })
   unfolding acceptedAnswer stretchReport
   halt-stretch n =
       rw (

@@ -107,7 +107,7 @@ unfoldable pub valuesIn : Answer → List ℕ
 valuesIn (Refused n) = []
 valuesIn (Accepted f t) = flag f ∷ flag t ∷ []
 valuesIn (Ticked f t) = flag (f .started) ∷ flag (f .failed) ∷ flag (t .started) ∷ flag (t .failed) ∷ []
-valuesIn (Stretched f t) = f .started ∷ f .failed ∷ t .started ∷ t .failed ∷ []
+valuesIn (Stretched f t) = f .started .0 ∷ f .failed .0 ∷ t .started .0 ∷ t .failed .0 ∷ []
 valuesIn Good = 1 ∷ []
 valuesIn Failed = 0 ∷ []
 

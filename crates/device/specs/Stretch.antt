@@ -5,7 +5,7 @@ use Rattle.unit.specs.Choice.{pick}
 use Rattle.device.specs.declared.Schedule.{Schedule}
 use Rattle.device.specs.declared.Model.{Model}
 use Rattle.device.specs.declared.StretchReport.{StretchReport}
-use Rattle.device.specs.Event.{begins, fails, tickSchedule}
+use Rattle.device.specs.Event.{ticks, begins, fails, tickSchedule}
 use Rattle.device.specs.Tick.{tickModel}
 
 -- "moves the caller's own model by n ticks .. with the same end as n single ticks"
@@ -26,4 +26,4 @@ lastTick test k (suc n) = pick (test (scheduleTicked n k)) (n + 1) (lastTick tes
 -- "names for each kind the tick, 1 to n, at which a measurement started, or 0, and likewise the tick at which one failed;
 -- periods are long enough that there is at most one of each"
 unfoldable pub stretchReport : Schedule → ℕ → StretchReport
-stretchReport k n = record { started = lastTick begins k n; failed = lastTick fails k n }
+stretchReport k n = record { started = ticks (lastTick begins k n); failed = ticks (lastTick fails k n) }

@@ -90,7 +90,7 @@ unfoldable pub progress : Model → ℕ → Progress
 progress m n =
     record {
       model = modelTicked n m;
-      done = n;
+      done = ticks n;
       flight = stretchReport (m .flight .schedule) n;
       temperature = stretchReport (m .temperature .schedule) n;
     }
@@ -99,21 +99,25 @@ unfoldable pub movedQuietly : ℕ → Progress → Progress
 movedQuietly q p =
     record {
       model = laterModel q (p .model);
-      done = p .done + q;
+      done = ticks (p .done .0 + q);
       flight = p .flight;
       temperature = p .temperature;
     }
 
 unfoldable pub noted : Schedule → ℕ → StretchReport → StretchReport
-noted k at r = record { started = pick (begins k) at (r .started); failed = pick (fails k) at (r .failed) }
+noted k at r =
+    record {
+      started = ticks (pick (begins k) at (r .started .0));
+      failed = ticks (pick (fails k) at (r .failed .0));
+    }
 
 unfoldable pub movedByOne : Progress → Progress
 movedByOne p =
     record {
       model = tickModel (p .model);
-      done = p .done + 1;
-      flight = noted (p .model .flight .schedule) (p .done + 1) (p .flight);
-      temperature = noted (p .model .temperature .schedule) (p .done + 1) (p .temperature);
+      done = ticks (p .done .0 + 1);
+      flight = noted (p .model .flight .schedule) (p .done .0 + 1) (p .flight);
+      temperature = noted (p .model .temperature .schedule) (p .done .0 + 1) (p .temperature);
     }
 
 unfoldable pub moved : ℕ → Progress → Progress

@@ -77,8 +77,8 @@ pub struct Report {
 
 // The ticks of a stretch, from 1 on, in which a measurement of a kind started and one failed; 0 for none.
 pub struct StretchReport {
-    pub started: u32,
-    pub failed: u32,
+    pub started: Ticks,
+    pub failed: Ticks,
 }
 
 pub enum Answer {
@@ -103,7 +103,7 @@ pub struct Reply {
 // A stretch under way: the model and the reports after so many of its ticks.
 pub struct Progress {
     pub model: Model,
-    pub done: u32,
+    pub done: Ticks,
     pub flight: StretchReport,
     pub temperature: StretchReport,
 }

@@ -55,7 +55,7 @@ unfolding movedBy moved added refusals numberIn
 a-stretch f t = (refl, refl)
 
 -- With 16,384 ticks before it, a stretch that starts a flight in its 5th tick tells ` started-flight@16389`.
-second-stretch : joined (stretchReports (Stretched record { started = 5; failed = 0 } record { started = 0; failed = 0 }) 16384)
+second-stretch : joined (stretchReports (Stretched record { started = record { 0 = 5 }; failed = record { 0 = 0 } } record { started = record { 0 = 0 }; failed = record { 0 = 0 } }) 16384)
     ≡ ascii " started-flight@16389"
 unfolding stretchReports named laterNamed nextNamed sooner tickReports reportAt decimal decimalWidth widthFrom digits glyph joined ascii
 second-stretch = refl

@@ -5,10 +5,11 @@ ghost use Rattle.device.specs.Reply.{reply};
 use converter::stretch;
 use device::Answer;
 use device::Model;
+use unit::Ticks;
 
 // The model is moved by n ticks, or left as it was where the answer is a refusal.
-pub fn stretch_own(m: &mut Model, n: u32) -> Answer
-    ensures { λ r. ⌜ (r ≡ reply (now (m .entry)) (Call.stretch n) .answer) × (now (m .exit) ≡ reply (now (m .entry)) (Call.stretch n) .model) ⌝ }
+pub fn stretch_own(m: &mut Model, n: Ticks) -> Answer
+    ensures { λ r. ⌜ (r ≡ reply (now (m .entry)) (Call.stretch (n .0)) .answer) × (now (m .exit) ≡ reply (now (m .entry)) (Call.stretch (n .0)) .model) ⌝ }
 {
     let r = stretch(*m, n);
     *m = r.model;

@@ -5,10 +5,10 @@ use native.Mathlib.Numerals.{add-one}
 use mathlib.Core.Bool.{Bool, true, false}
 use mathlib.Core.Path.{_≡_, refl, sym, ap, _∙_}
 use mathlib.Core.List.{List, _++_}
-use lib.ListN.{length, getD, take, drop, take-append-drop, length-append, length-drop, length-set}
-use lib.Seq.{getD-drop, getD-take, length-front, length-sets, length-take-le}
+use lib.ListN.{length, getD, take, drop, take-append-drop, length-append, length-set}
+use lib.Seq.{length-front, length-sets}
 use lib.Dec.{leb, eqb}
-use borrow.Author.Tests.{leb-true, le-leb, lt-leb, ltb-true, eq-eqb, ne-eqb, eqb-true}
+use borrow.Author.Tests.{leb-true, le-leb, lt-leb, eq-eqb, ne-eqb, eqb-true}
 use Rattle.unit.specs.Choice.{pick}
 use Rattle.unit.proofs.Cases.{by-test, by-ltb}
 use Rattle.unit.proofs.Joined.{both-true}
@@ -18,21 +18,19 @@ use Rattle.device.specs.declared.Answer.{Answer}
 use Rattle.device.specs.Model.{isSound}
 use Rattle.device.specs.Call.{Call, transaction, tick, flight, temperature, stretch}
 use Rattle.device.specs.Reply.{reply, refuse, output, memory, bufferOf, memoryOf}
-use Rattle.device.specs.Parts.{commandReply}
 use Rattle.device.specs.Tick.{tickModel}
 use Rattle.device.specs.Stretch.{modelTicked}
 use Rattle.device.specs.StretchSteps.{least, quietFor}
 use Rattle.device.proofs.Replies.{reply-tick}
 use Rattle.ticking.proofs.Quiet.{next-flight, next-temperature}
 use Rattle.reply_parts.proofs.Decode.{reply-unsound}
-use Rattle.bus.proofs.Starts.{start-frame}
 use Rattle.device.proofs.Sound.{keeps-sound}
 use Rattle.outcome.specs.Code.{codeOf, wordsOf, filled}
 use Rattle.call_list.specs.declared.Entry.{Entry}
 use Rattle.call_list.specs.declared.Place.{Place}
 use Rattle.call_list.specs.declared.Progress.{Progress}
 use Rattle.call_list.specs.CallList.{answersAfter, beginning, Run, part, within, entryAt, entryFits, callFits, callOf, outputAfter, flashAfter, placeAfter, step, stepBy, fits, runs}
-use Rattle.list_run.specs.Room.{Moved, Near, Room, Stepped, Ticks, Told, goesOn, isFlight, quietAnswer, quietAnswers, quietProgress}
+use Rattle.list_run.specs.Room.{AllTicks, Moved, Near, Room, Told, quietAnswer, quietAnswers, quietProgress}
 
 -- The parts of a call that fits.
 pub frame-fits :
@@ -362,7 +360,7 @@ moved-step calls frames hits s u e h k room v =
       inAnswers = rw p (i .inAnswers);
     }
 
--- Ticks in which nothing happens: as many answers as before, one more of them is a step, and n of them are a run of n.
+-- AllTicks in which nothing happens: as many answers as before, one more of them is a step, and n of them are a run of n.
 told-length : (a : Answer) (at : ℕ) (l : List ℕ) → length (answersAfter a at l) ≡ length l
 unfolding answersAfter
 told-length a at l =
@@ -446,7 +444,7 @@ module _ (calls frames hits : List ℕ) (s : Run) (sound : isSound (s .progress 
       (n : ℕ) →
       n ≤ quietFor (s .progress .model) →
       5 * (s .progress .place .calls + n) ≤ length (s .answers) →
-      Ticks calls (s .progress .place .calls) n →
+      AllTicks calls (s .progress .place .calls) n →
       quietRun n ≡ runs n calls frames hits s
   unfolding quietProgress quietAnswers modelTicked runs fits
   quiet-runs zero l room t =
@@ -470,7 +468,7 @@ module _ (calls frames hits : List ℕ) (s : Run) (sound : isSound (s .progress 
       n ≤ quietFor (s .progress .model) →
       s .progress .place .calls + n ≤ length calls / 3 →
       5 * (s .progress .place .calls + n) ≤ length (s .answers) →
-      Ticks calls (s .progress .place .calls) n →
+      AllTicks calls (s .progress .place .calls) n →
       s .progress .place .frames ≤ length frames →
       s .progress .place .hits ≤ length hits →
       s .progress .place .output ≤ length (s .output) →
@@ -595,13 +593,13 @@ pub quiet-told :
 unfolding quietAnswers
 quiet-told n k a l₀ l l′ x y z = rw (add-one n) (z ∙ rw (x, y) refl)
 
-pub first-tick : (calls : List ℕ) (k : ℕ) → getD calls (3 * k) 0 ≡ 1 → Ticks calls k 1
+pub first-tick : (calls : List ℕ) (k : ℕ) → getD calls (3 * k) 0 ≡ 1 → AllTicks calls k 1
 first-tick calls k h =
     record {
       each = λ i l. let e : 3 * (k + i) ≡ 3 * k = omega arith in ap (λ (x : ℕ). getD calls x 0) e ∙ h;
     }
 
-pub next-tick : (calls : List ℕ) (k n : ℕ) → Ticks calls k n → getD calls (3 * (k + n)) 0 ≡ 1 → Ticks calls k (n + 1)
+pub next-tick : (calls : List ℕ) (k n : ℕ) → AllTicks calls k n → getD calls (3 * (k + n)) 0 ≡ 1 → AllTicks calls k (n + 1)
 next-tick calls k n t h =
     record {
       each =
@@ -672,214 +670,3 @@ going-over n sound calls frames hits s t g h =
     (λ l _. going-stops n sound calls frames hits s t e g l refl
     (no-room e (t .progress .place) _ _ _ _ (over n (length (t .answers) / 5) (t .progress .place .calls) h l)))
     (λ l _. going-ends n sound calls frames hits s t e g l)
-
--- Starts and deliveries of flight measurements: what such a call is.
-pub start-known :
-    (e : Entry) (at : ℕ) (frames : List ℕ) →
-    (e .kind ≡ 3 → ⊥) →
-    isFlight e at frames ≡ true →
-    (e .kind ≡ 0) × (e .first ≡ 1) × (getD frames at 0 < 3)
-unfolding isFlight
-start-known e at frames n =
-    rw (ne-eqb _ _ n)
-    (λ t.
-    let (a, r) = both-true _ _ t in
-    let (b, c) = both-true _ _ r in
-    (eqb-true _ _ a, eqb-true _ _ b, ltb-true _ _ c))
-
-pub no-delivery : (e : Entry) (at : ℕ) (frames : List ℕ) → e .kind ≡ 3 → isFlight e at frames ≡ false → ⊥
-unfolding isFlight
-no-delivery e at frames k = rw k (λ t. let z : _≡_ {A = ℕ} 0 1 = cc in omega arith)
-
-pub goes-parts :
-    (e : Entry) (p : Place) (frames : List ℕ) (h o : ℕ) →
-    goesOn e p frames h o ≡ true →
-    (entryFits e (length frames - p .frames) (h - p .hits) (o - p .output) ≡ true) × (isFlight e (p .frames) frames ≡ true)
-unfolding goesOn
-goes-parts e p frames h o t = both-true _ _ t
-
-pub goes-of :
-    (e : Entry) (p : Place) (frames : List ℕ) (h o : ℕ) →
-    entryFits e (length frames - p .frames) (h - p .hits) (o - p .output) ≡ true →
-    isFlight e (p .frames) frames ≡ true →
-    goesOn e p frames h o ≡ true
-unfolding goesOn
-goes-of e p frames h o a b = rw (a, b) refl
-
--- Such a call is a step, whatever the output and the user flash are.
-pub delivery-step :
-    (frames hits : List ℕ) (e : Entry) (p r : Progress) (before after : List ℕ) →
-    e .kind ≡ 3 →
-    Told e (flight (part (p .place .hits) (e .first) hits) (part (p .place .hits + e .first) (e .second) hits)) p r before after →
-    Stepped frames hits e p r before after
-delivery-step frames hits e p r before after k t =
-    record {
-      each =
-          λ o x.
-          other-step frames hits e _ record { progress = p; output = o; flash = x; answers = before } r after (λ z. omega arith)
-          (flight-is e (p .place) frames hits o x k) t;
-    }
-
-one-byte :
-    (frames : List ℕ) (at n : ℕ) →
-    n ≡ 1 →
-    at + n ≤ length frames →
-    (length (part at n frames) ≡ 1) × (getD (part at n frames) 0 0 ≡ getD frames at 0)
-one-byte frames at n one room =
-    let z : at + 0 ≡ at = omega arith in (
-      ap (λ (k : ℕ). length (take k (drop at frames))) one ∙ length-take-le 1 (drop at frames) (rw length-drop (omega arith)),
-      ap (λ (k : ℕ). getD (take k (drop at frames)) 0 0) one
-          ∙ getD-take 1 (drop at frames) 0 0 (omega arith)
-          ∙ getD-drop at frames 0 0
-          ∙ ap (λ (k : ℕ). getD frames k 0) z,
-    )
-
-pub start-step :
-    (frames hits : List ℕ) (e : Entry) (p r : Progress) (before after : List ℕ) →
-    isSound (p .model) ≡ true →
-    e .kind ≡ 0 →
-    e .first ≡ 1 →
-    getD frames (p .place .frames) 0 < 3 →
-    p .place .frames + e .first ≤ length frames →
-    r ≡ record { model = commandReply (p .model) (getD frames (p .place .frames) 0) .model; place = placeAfter e (p .place) } →
-    after ≡ answersAfter (commandReply (p .model) (getD frames (p .place .frames) 0) .answer) (5 * p .place .calls) before →
-    Stepped frames hits e p r before after
-start-step frames hits e p r before after sound k one low room a b =
-    let (l, g) = one-byte frames (p .place .frames) (e .first) one room in
-    record {
-      each =
-          λ o x.
-          let s : Run = record { progress = p; output = o; flash = x; answers = before } in
-          let (c, w, y) =
-          start-frame (p .model) (part (p .place .frames) (e .first) frames) (part (p .place .output) (e .second) o) x sound l (rw g low) in
-          frame-step frames hits e s r o x after k
-          (told-of e (frameOf e s frames) p r (commandReply (p .model) (getD frames (p .place .frames) 0)) before after
-          (ap (commandReply (p .model)) (sym g) ∙ c) a b)
-          (put-back (p .place .output) (e .second) o ∙ ap (within (p .place .output) (e .second) o) w) y;
-    }
-
--- Some calls, or none yet, have led from s to t.
-pub record Reached (calls frames hits : List ℕ) (s t : Run) : Type 0 where
-  pub notFewer : s .progress .place .calls ≤ t .progress .place .calls
-  pub within : t .progress .place .calls ≤ length calls / 3
-  pub same : t ≡ runs (t .progress .place .calls - s .progress .place .calls) calls frames hits s
-  pub judged : isSound (s .progress .model) ≡ isSound (t .progress .model)
-  pub inside : Inside (t .progress .place) (length frames) (length hits) (length (s .output)) (length (s .answers))
-  pub outputs : length (t .output) ≡ length (s .output)
-  pub answers : length (t .answers) ≡ length (s .answers)
-
-pub reached-starts :
-    (calls frames hits : List ℕ) (s : Run) (e : Entry) →
-    s .progress .place .calls < length calls / 3 →
-    Room e (s .progress .place) (length frames) (length hits) (length (s .output)) (length (s .answers)) →
-    Reached calls frames hits s s
-reached-starts calls frames hits s e l room =
-    record {
-      notFewer = omega arith;
-      within = omega arith;
-      same = sym (run-done (s .progress .place .calls) calls frames hits s (omega arith));
-      judged = refl;
-      inside = record { inFrames = room .inFrames; inHits = room .inHits; inOutput = room .inOutput; inAnswers = room .inAnswers };
-      outputs = refl;
-      answers = refl;
-    }
-
-module _ (calls frames hits : List ℕ) (s t : Run) (g : Reached calls frames hits s t) where
-  pub reached-on :
-      (u : Run) →
-      Moved calls frames hits t u →
-      length (u .output) ≡ length (t .output) →
-      length (u .answers) ≡ length (t .answers) →
-      Reached calls frames hits s u × (length calls / 3 - u .progress .place .calls < length calls / 3 - t .progress .place .calls)
-  reached-on u m lo la =
-      let few = g .notFewer in
-      let far = m .farther in
-      let most = m .within in
-      let d :
-      (t .progress .place .calls - s .progress .place .calls) + (u .progress .place .calls - t .progress .place .calls)
-      ≡ u .progress .place .calls - s .progress .place .calls = omega arith in (
-        record {
-          notFewer = omega arith;
-          within = most;
-          same =
-              m .same
-              ∙ ap (λ (r : Run). runs (u .progress .place .calls - t .progress .place .calls) calls frames hits r) (g .same)
-              ∙ sym (run-both (t .progress .place .calls - s .progress .place .calls) (u .progress .place .calls - t .progress .place .calls) calls frames hits s)
-              ∙ ap (λ (k : ℕ). runs k calls frames hits s) d;
-          judged = g .judged ∙ m .judged;
-          inside =
-              record {
-                inFrames = m .inFrames;
-                inHits = m .inHits;
-                inOutput = rw (← g .outputs) (m .inOutput);
-                inAnswers = rw (← g .answers) (m .inAnswers);
-              };
-          outputs = lo ∙ g .outputs;
-          answers = la ∙ g .answers;
-        },
-        omega arith,
-      )
-
-  pub reached-moved : s .progress .place .calls < t .progress .place .calls → Moved calls frames hits s t
-  reached-moved l =
-      let i = g .inside in
-      record {
-        farther = l;
-        within = g .within;
-        same = g .same;
-        judged = g .judged;
-        inFrames = i .inFrames;
-        inHits = i .inHits;
-        inOutput = i .inOutput;
-        inAnswers = i .inAnswers;
-      }
-
-  still : t .progress .place .calls ≤ s .progress .place .calls → t ≡ s
-  unfolding runs
-  still l =
-      let z : t .progress .place .calls - s .progress .place .calls ≡ 0 = omega arith in
-      g .same ∙ ap (λ (k : ℕ). runs k calls frames hits s) z
-
-  -- the first call goes on, so that it is done where t's does not
-  pub reached-stops :
-      goesOn (entryAt calls (s .progress .place .calls)) (s .progress .place) frames (length hits) (length (s .output)) ≡ true →
-      goesOn (entryAt calls (t .progress .place .calls)) (t .progress .place) frames (length hits) (length (t .output)) ≡ false →
-      Moved calls frames hits s t
-  reached-stops a b =
-      by-ltb (s .progress .place .calls) (t .progress .place .calls) (λ l _. reached-moved l)
-      (λ l _.
-      let e : true ≡ false =
-      sym a
-      ∙ ap (λ (r : Run). goesOn (entryAt calls (r .progress .place .calls)) (r .progress .place) frames (length hits) (length (r .output)))
-      (sym (still l))
-      ∙ b in
-      let z : _≡_ {A = ℕ} 0 1 = cc in absurd (omega arith))
-
--- one more such call
-pub measured-on :
-    (calls frames hits out flash : List ℕ) (p q r : Progress) (before now after : List ℕ) (e : Entry) →
-    Reached calls frames hits record { progress = p; output = out; flash = flash; answers = before }
-    record { progress = q; output = out; flash = flash; answers = now } →
-    q .place .calls < length calls / 3 →
-    q .place .calls < length before / 5 →
-    e ≡ entryAt calls (q .place .calls) →
-    goesOn e (q .place) frames (length hits) (length out) ≡ true →
-    Stepped frames hits e q r now after →
-    length after ≡ length now →
-    Reached calls frames hits record { progress = p; output = out; flash = flash; answers = before }
-    record { progress = r; output = out; flash = flash; answers = after } ×
-    (length calls / 3 - r .place .calls < length calls / 3 - q .place .calls)
-measured-on calls frames hits out flash p q r before now after e g l a k t s la =
-    let i = g .inside in
-    let same = g .answers in
-    reached-on calls frames hits _ _ g _
-    (moved-step calls frames hits record { progress = q; output = out; flash = flash; answers = now } _ e l k
-    record {
-      inFrames = i .inFrames;
-      inHits = i .inHits;
-      inOutput = i .inOutput;
-      inAnswers = omega (arith, i .inAnswers);
-      enough = fits-of _ _ _ _ _ _ (rw same a) (goes-parts _ _ _ _ _ t .0);
-    }
-    (s .each out flash))
-    refl la

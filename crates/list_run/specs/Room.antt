@@ -1,11 +1,9 @@
 -- What the code of a call asks of its list: the code's own, and nothing that a reader has to believe.
 use Prim.Native.Nat.{ℕ, zero, suc, _+_, _-_, _*_, _/_, _<_, _≤_}
-use mathlib.Core.Bool.{Bool, true, false}
+use mathlib.Core.Bool.{true, false}
 use mathlib.Core.List.{List}
 use mathlib.Core.Path.{_≡_}
 use lib.ListN.{length, getD}
-use lib.Dec.{eqb, ltb}
-use Rattle.unit.specs.Choice.{pick, both}
 use Rattle.device.specs.declared.Answer.{Answer}
 use Rattle.device.specs.Model.{isSound}
 use Rattle.device.specs.Call.{Call}
@@ -14,7 +12,7 @@ use Rattle.device.specs.Stretch.{modelTicked}
 use Rattle.call_list.specs.declared.Entry.{Entry}
 use Rattle.call_list.specs.declared.Place.{Place}
 use Rattle.call_list.specs.declared.Progress.{Progress}
-use Rattle.call_list.specs.CallList.{Run, answersAfter, callFits, entryFits, placeAfter, runs, step}
+use Rattle.call_list.specs.CallList.{Run, answersAfter, callFits, placeAfter, runs}
 
 -- The places lie within the buffers, and the call fits.
 pub record Room (e : Entry) (p : Place) (frames hits out answers : ℕ) : Type 0 where
@@ -37,7 +35,7 @@ pub record Told (e : Entry) (c : Call) (p r : Progress) (before after : List ℕ
   pub answers : after ≡ answersAfter (reply (p .model) c .answer) (5 * p .place .calls) before
 
 -- The calls k, k + 1 and so on, n in all, are ticks.
-pub record Ticks (calls : List ℕ) (k n : ℕ) : Type 0 where
+pub record AllTicks (calls : List ℕ) (k n : ℕ) : Type 0 where
   pub each : (i : ℕ) → i < n → getD calls (3 * (k + i)) 0 ≡ 1
 
 -- The answers to n ticks, the first of them call k, in which nothing happens; and what such ticks leave.
@@ -71,25 +69,3 @@ pub record Moved (calls frames hits : List ℕ) (s t : Run) : Type 0 where
   pub inHits : t .progress .place .hits ≤ length hits
   pub inOutput : t .progress .place .output ≤ length (s .output)
   pub inAnswers : 5 * t .progress .place .calls ≤ length (s .answers)
-
--- Starts and deliveries of flight measurements. A start is a frame of one byte, 00h to 02h.
-unfoldable pub isFlight : Entry → ℕ → List ℕ → Bool
-isFlight e at frames =
-    pick (eqb (e .kind) 3) true (both (eqb (e .kind) 0) (both (eqb (e .first) 1) (ltb (getD frames at 0) 3)))
-
-unfoldable pub goesOn : Entry → Place → List ℕ → ℕ → ℕ → Bool
-goesOn e p frames hits out =
-    both (entryFits e (length frames - p .frames) (hits - p .hits) (out - p .output)) (isFlight e (p .frames) frames)
-
--- Such a call is done, and one or more of them: they leave the output and the user flash, whatever these are.
-pub record Stepped (frames hits : List ℕ) (e : Entry) (p r : Progress) (before after : List ℕ) : Type 0 where
-  pub each :
-      (out flash : List ℕ) →
-      _≡_ {A = Run} record { progress = r; output = out; flash = flash; answers = after }
-      (step frames hits e record { progress = p; output = out; flash = flash; answers = before })
-
-pub record Measured (calls frames hits out : List ℕ) (p r : Progress) (before after : List ℕ) : Type 0 where
-  pub each :
-      (flash : List ℕ) →
-      Moved calls frames hits record { progress = p; output = out; flash = flash; answers = before }
-      record { progress = r; output = out; flash = flash; answers = after }

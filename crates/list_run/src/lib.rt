@@ -8,11 +8,9 @@ ghost use Rattle.device.specs.Model.{isSound};
 ghost use Rattle.device.specs.Call.{Call};
 ghost use Rattle.device.specs.StretchSteps.{least, quietFor};
 ghost use Rattle.device.specs.Reply.{reply, output, memory};
-ghost use Rattle.device.specs.Parts.{commandReply};
 ghost use Rattle.call_list.specs.CallList.{answersAfter, beginning, entryAt, entryFits, part, placeAfter, runs, within};
-ghost use Rattle.list_run.specs.Room.{Measured, Moved, Near, Room, Stepped, Ticks, Told, goesOn, isFlight, quietAnswers, quietProgress};
+ghost use Rattle.list_run.specs.Room.{AllTicks, Moved, Near, Room, Told, quietAnswers, quietProgress};
 use bus::sound_transaction;
-use bus::start_reply;
 use call_list::Entry;
 use call_list::Place;
 use call_list::Progress;
@@ -30,6 +28,7 @@ use sound_calls::sound_temperature_delivery;
 use sound_calls::tick_reply;
 use ticking::stretch::quiet_for;
 use ticking::stretch::quiet_ticks;
+use unit::Ticks;
 
 // The kinds of a list's calls.
 const TRANSACTION: u32 = 0;
@@ -41,9 +40,6 @@ const STRETCH: u32 = 2;
 const FLIGHT: u32 = 3;
 
 const TEMPERATURE: u32 = 4;
-
-// The opcodes below it start a flight measurement: TOF_Up, TOF_Down, TOF_Diff.
-const AFTER_STARTS: u8 = 3;
 
 fn entry_at(calls: &[u32], k: usize) -> Entry
     requires { ⌜ 3 * k + 3 ≤ length (now calls) ⌝ }
@@ -206,7 +202,7 @@ fn stretch_call(p: Progress, e: Entry, answers: &mut [u32]) -> Progress
     ensures { λ r. ⌜ Told e (Call.stretch (e .first)) p r (now (answers .entry)) (now (answers .exit)) ⌝ }
 {
     let place = p.place;
-    let r = sound_stretch(p.model, e.first);
+    let r = sound_stretch(p.model, Ticks(e.first));
     settle(e, place, r, answers)
 }
 
@@ -255,7 +251,7 @@ fn fewer(room: usize, q: u32) -> u32
 // How many calls from k on are ticks, `most` at most; k is one.
 fn ticks_ahead(calls: &[u32], k: usize, most: u32) -> u32
     requires { ⌜ (1 ≤ most) × (3 * (k + most) ≤ length (now calls)) × (getD (now calls) (3 * k) 0 ≡ 1) ⌝ }
-    ensures { λ r. ⌜ (1 ≤ r) × (r ≤ most) × Ticks (now (calls .entry)) k r ⌝ }
+    ensures { λ r. ⌜ (1 ≤ r) × (r ≤ most) × AllTicks (now (calls .entry)) k r ⌝ }
 {
     let mut n: u32 = 1;
     while n < most {
@@ -271,7 +267,7 @@ fn ticks_ahead(calls: &[u32], k: usize, most: u32) -> u32
 // How many of them, q at most, have room for their answers too.
 fn quiet_ahead(calls: &[u32], k: usize, q: u32, answers: usize) -> u32
     requires { ⌜ (1 ≤ q) × (k < length (now calls) / 3) × (5 * k + 5 ≤ answers) × (getD (now calls) (3 * k) 0 ≡ 1) ⌝ }
-    ensures { λ r. ⌜ (1 ≤ r) × (r ≤ q) × (k + r ≤ length (now (calls .entry)) / 3) × (5 * (k + r) ≤ answers) × Ticks (now (calls .entry)) k r ⌝ }
+    ensures { λ r. ⌜ (1 ≤ r) × (r ≤ q) × (k + r ≤ length (now (calls .entry)) / 3) × (5 * (k + r) ≤ answers) × AllTicks (now (calls .entry)) k r ⌝ }
 {
     let end = lesser(calls.len() / 3, answers / 5);
     ticks_ahead(calls, k, fewer(end - k, q))
@@ -300,88 +296,10 @@ fn quiet(p: Progress, n: u32, answers: &mut [u32]) -> Progress
 {
     let place = p.place;
     tell_quiet(place.calls, n, answers);
-    let model = quiet_ticks(p.model, n);
+    let model = quiet_ticks(p.model, Ticks(n));
     let mut next = place;
     next.calls = place.calls + n as usize;
     Progress { model, place: next }
-}
-
-// Whether a call starts or delivers a flight measurement. A start is a frame of one byte.
-fn is_flight(e: Entry, at: usize, frames: &[u8]) -> bool
-    requires { ⌜ (e .kind ≡ 0 → at + e .first ≤ length (now frames)) ⌝ }
-    ensures { λ r. ⌜ r ≡ isFlight e at (now (frames .entry)) ⌝ }
-{
-    if e.kind == FLIGHT {
-        return true;
-    }
-    if e.kind == TRANSACTION {
-        if e.first == 1 {
-            return frames[at] < AFTER_STARTS;
-        }
-        return false;
-    }
-    false
-}
-
-fn start_call(p: Progress, e: Entry, op: u32, answers: &mut [u32]) -> Progress
-    requires { ⌜ (op < 3) × Near (p .place) (length (now answers)) ⌝ }
-    ensures { λ r. ⌜ (r ≡ record { model = commandReply (p .model) op .model; place = placeAfter e (p .place) }) × (now (answers .exit) ≡ answersAfter (commandReply (p .model) op .answer) (5 * p .place .calls) (now (answers .entry))) ⌝ }
-{
-    let place = p.place;
-    let r = start_reply(p.model, op);
-    settle(e, place, r, answers)
-}
-
-fn flight_step(p: Progress, e: Entry, frames: &[u8], hits: &[u32], answers: &mut [u32]) -> Progress
-    requires { ⌜ (isSound (p .model) ≡ true) × Near (p .place) (length (now answers)) × (isFlight e (p .place .frames) (now frames) ≡ true) × (e .kind ≡ 0 → p .place .frames + e .first ≤ length (now frames)) × (e .kind ≡ 3 → p .place .hits + e .first + e .second ≤ length (now hits)) ⌝ }
-    ensures { λ r. ⌜ Stepped (now (frames .entry)) (now (hits .entry)) e p r (now (answers .entry)) (now (answers .exit)) ⌝ }
-{
-    if e.kind == FLIGHT {
-        return flight_call(p, e, hits, answers);
-    }
-    let place = p.place;
-    let at = place.frames;
-    start_call(p, e, frames[at] as u32, answers)
-}
-
-// Whether a call fits that starts or delivers a flight measurement.
-fn goes_on(e: Entry, p: Place, frames: &[u8], hits: usize, out: usize) -> bool
-    requires { ⌜ (p .frames ≤ length (now frames)) × (p .hits ≤ hits) × (p .output ≤ out) ⌝ }
-    ensures { λ r. ⌜ r ≡ goesOn e p (now (frames .entry)) hits out ⌝ }
-{
-    let frames_left = frames.len() - p.frames;
-    if entry_fits(e, frames_left, hits - p.hits, out - p.output) {
-        return is_flight(e, p.frames, frames);
-    }
-    false
-}
-
-// Starts and deliveries of flight measurements, all that follow each other. They have a loop of their own, so that the compiler
-// moves no field of the model that none of them changes.
-fn measure(
-    p: Progress,
-    calls: &[u32],
-    frames: &[u8],
-    hits: &[u32],
-    out: &[u8],
-    answers: &mut [u32],
-) -> Progress
-    requires { ⌜ (isSound (p .model) ≡ true) × Room (entryAt (now calls) (p .place .calls)) (p .place) (length (now frames)) (length (now hits)) (length (now out)) (length (now answers)) × (p .place .calls < length (now calls) / 3) × (isFlight (entryAt (now calls) (p .place .calls)) (p .place .frames) (now frames) ≡ true) ⌝ }
-    ensures { λ r. ⌜ Measured (now (calls .entry)) (now (frames .entry)) (now (hits .entry)) (now (out .entry)) p r (now (answers .entry)) (now (answers .exit)) ⌝ }
-{
-    let n = lesser(calls.len() / 3, answers.len() / 5);
-    let mut q = p;
-    while q.place.calls < n {
-        let place = q.place;
-        let e = entry_at(calls, place.calls);
-        if goes_on(e, place, frames, hits.len(), out.len()) {
-            let next = flight_step(q, e, frames, hits, answers);
-            q = next;
-        } else {
-            return q;
-        }
-    }
-    q
 }
 
 // One call that fits, or several ticks in which nothing happens.
@@ -401,22 +319,22 @@ fn advance(
 {
     if sound {
         let place = p.place;
-        if is_flight(e, place.frames, frames) {
-            return measure(p, calls, frames, hits, out, answers);
-        }
         if e.kind == TRANSACTION {
             return frame_call(p, e, frames, out, flash, answers);
         }
         if e.kind == TICK {
             let q = quiet_for(p.model);
-            if 0 < q {
-                let n = quiet_ahead(calls, place.calls, q, answers.len());
+            if 0 < q.0 {
+                let n = quiet_ahead(calls, place.calls, q.0, answers.len());
                 return quiet(p, n, answers);
             }
             return tick_call(p, e, answers);
         }
         if e.kind == STRETCH {
             return stretch_call(p, e, answers);
+        }
+        if e.kind == FLIGHT {
+            return flight_call(p, e, hits, answers);
         }
         return temperature_call(p, e, hits, answers);
     }

@@ -18,6 +18,7 @@ use outcome::ACCEPTED;
 use outcome::settle;
 use snapshot::load;
 use snapshot::store;
+use unit::Ticks;
 
 // A fresh model. Number 0 for a buffer of another length than 233.
 #[no_mangle]
@@ -62,8 +63,9 @@ pub extern "C" fn max35101_tick(model: &mut [u8], answer: &mut [u32]) -> u32
 pub extern "C" fn max35101_stretch(model: &mut [u8], n: u32, answer: &mut [u32]) -> u32
     ensures { λ r. ⌜ Settled (reply (loaded (now (model .entry))) (Call.stretch n)) (now (model .entry)) (now (answer .entry)) r (now (model .exit)) (now (answer .exit)) ⌝ }
 {
+    let ticks = Ticks(n);
     let m = load(model);
-    let r = stretch(m, n);
+    let r = stretch(m, ticks);
     settle(r, model, answer)
 }
 

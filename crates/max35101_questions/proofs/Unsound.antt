@@ -9,16 +9,20 @@ use Rattle.device.specs.declared.Told.{Told}
 use Rattle.device.specs.Model.{isSound}
 use Rattle.device.specs.Call.{firstOf}
 use Rattle.device.specs.Question.{interruptPending, awaitedTold, regulatorOn, peek}
+use Rattle.run_state.specs.declared.Left.{Left}
 use Rattle.run_state.specs.declared.Placed.{Placed}
 use Rattle.run_state.specs.State.{initialisedTold, leftTold}
 use Rattle.run_state.specs.Event.{placeTold}
 use Rattle.setup_frames.specs.Frames.{framesVerdict, answerBy, bytesBy, lengthsBy}
 use Rattle.finding.specs.Finding.{toldCode, toldWords, framedCode, framedWords}
-use Rattle.max35101_questions.specs.Places.{placedCode, placedWords}
+use Rattle.max35101_questions.specs.Places.{leftCode, leftWords, placedCode, placedWords}
 use Rattle.max35101_questions.specs.Frames.{SetUp}
 
 abbrev pub NotTold : Told → Type 0
 NotTold t = (toldCode t ≡ 0) × (toldWords t ≡ [])
+
+abbrev pub NotLeft : Left → Type 0
+NotLeft l = (leftCode l ≡ 0) × (leftWords l ≡ [])
 
 abbrev pub NotPlaced : Placed → Type 0
 NotPlaced p = (placedCode p ≡ 0) × (placedWords p ≡ [])
@@ -26,8 +30,8 @@ NotPlaced p = (placedCode p ≡ 0) × (placedWords p ≡ [])
 module _ (m : Model) (unsound : isSound m ≡ false) where
   pub questions-zero : (k : Schedule) (a : ℕ)
       → NotTold (interruptPending m) × NotTold (awaitedTold m k) × NotTold (regulatorOn m) × NotTold (peek m a) × NotTold (initialisedTold m)
-      × NotTold (leftTold m k) × NotPlaced (placeTold m k)
-  unfolding interruptPending awaitedTold regulatorOn peek initialisedTold leftTold placeTold toldCode toldWords placedCode placedWords
+      × NotLeft (leftTold m k) × NotPlaced (placeTold m k)
+  unfolding interruptPending awaitedTold regulatorOn peek initialisedTold leftTold placeTold toldCode toldWords leftCode leftWords placedCode placedWords
   questions-zero k a = rw unsound ((refl, refl), (refl, refl), (refl, refl), (refl, refl), (refl, refl), (refl, refl), (refl, refl))
 
   -- set-up frames: nor is a byte or a length put

@@ -1,11 +1,21 @@
--- The place of an event, in words.
+-- The ticks left to an awaited measurement and the place of an event, in words.
 use Prim.Native.Nat.{ℕ}
 use mathlib.Core.List.{List, [], _∷_}
 use mir.Val.{boolByte}
+use Rattle.run_state.specs.declared.Left.{Left}
+use Rattle.run_state.specs.declared.Left.the-variants.{After, Refused as NotLeft}
 use Rattle.run_state.specs.declared.Place.{Place}
 use Rattle.run_state.specs.declared.Placed.{Placed}
 use Rattle.run_state.specs.declared.Placed.the-variants.{NoEvent, Event, Refused}
 use Rattle.outcome.specs.Code.{accepted}
+
+unfoldable pub leftCode : Left → ℕ
+leftCode (NotLeft n) = n
+leftCode (After t) = accepted
+
+unfoldable pub leftWords : Left → List ℕ
+leftWords (NotLeft n) = []
+leftWords (After t) = t .0 ∷ []
 
 unfoldable pub placedCode : Placed → ℕ
 placedCode (Refused n) = n

@@ -4,7 +4,7 @@ ghost use Rattle.device.specs.Question.{interruptPending, awaitedTold, regulato
 ghost use Rattle.run_state.specs.State.{initialisedTold, leftTold};
 ghost use Rattle.run_state.specs.Event.{placeTold};
 ghost use Rattle.max35101_questions.specs.Frames.{SetUp};
-ghost use Rattle.max35101_questions.specs.Places.{placeWords, placedCode, placedWords};
+ghost use Rattle.max35101_questions.specs.Places.{leftCode, leftWords, placeWords, placedCode, placedWords};
 ghost use Rattle.layout.specs.Layout.{loaded};
 ghost use Rattle.outcome.specs.Code.{filled};
 ghost use Rattle.finding.specs.Finding.{toldCode, toldWords};
@@ -23,6 +23,7 @@ use finding::told;
 use outcome::ACCEPTED;
 use outcome::put;
 use outcome::put_four;
+use run_state::Left;
 use run_state::Place;
 use run_state::Placed;
 use setup_frames::setup_frames;
@@ -52,20 +53,32 @@ pub extern "C" fn max35101_temperature_awaited(model: &[u8], answer: &mut [u32])
     told(temperature_awaited(load(model)), answer)
 }
 
+fn left(l: Left, words: &mut [u32]) -> u32
+    ensures { λ r. ⌜ (r ≡ leftCode l) × (now (words .exit) ≡ filled (now (words .entry)) (leftWords l)) ⌝ }
+{
+    match l {
+        Left::Refused(number) => number,
+        Left::After(ticks) => {
+            put(words, 0, ticks.0);
+            ACCEPTED
+        }
+    }
+}
+
 // In how many ticks the awaited flight measurement fails; 0 where none is awaited.
 #[no_mangle]
 pub extern "C" fn max35101_flight_left(model: &[u8], answer: &mut [u32]) -> u32
-    ensures { λ r. ⌜ (r ≡ toldCode (leftTold (loaded (now (model .entry))) (loaded (now (model .entry)) .flight .schedule))) × (now (answer .exit) ≡ filled (now (answer .entry)) (toldWords (leftTold (loaded (now (model .entry))) (loaded (now (model .entry)) .flight .schedule)))) ⌝ }
+    ensures { λ r. ⌜ (r ≡ leftCode (leftTold (loaded (now (model .entry))) (loaded (now (model .entry)) .flight .schedule))) × (now (answer .exit) ≡ filled (now (answer .entry)) (leftWords (leftTold (loaded (now (model .entry))) (loaded (now (model .entry)) .flight .schedule)))) ⌝ }
 {
-    told(flight_left(load(model)), answer)
+    left(flight_left(load(model)), answer)
 }
 
 // In how many ticks the awaited temperature measurement fails; 0 where none is awaited.
 #[no_mangle]
 pub extern "C" fn max35101_temperature_left(model: &[u8], answer: &mut [u32]) -> u32
-    ensures { λ r. ⌜ (r ≡ toldCode (leftTold (loaded (now (model .entry))) (loaded (now (model .entry)) .temperature .schedule))) × (now (answer .exit) ≡ filled (now (answer .entry)) (toldWords (leftTold (loaded (now (model .entry))) (loaded (now (model .entry)) .temperature .schedule)))) ⌝ }
+    ensures { λ r. ⌜ (r ≡ leftCode (leftTold (loaded (now (model .entry))) (loaded (now (model .entry)) .temperature .schedule))) × (now (answer .exit) ≡ filled (now (answer .entry)) (leftWords (leftTold (loaded (now (model .entry))) (loaded (now (model .entry)) .temperature .schedule)))) ⌝ }
 {
-    told(temperature_left(load(model)), answer)
+    left(temperature_left(load(model)), answer)
 }
 
 fn put_place(p: Place, words: &mut [u32])

@@ -26,7 +26,7 @@ unfolding wordsOf
 ticked = refl
 
 -- by the ticks of a stretch
-stretched : wordsOf (Answer.Stretched record { started = 5; failed = 0 } record { started = 7; failed = 6 }) ≡ 5 ∷ 0 ∷ 7 ∷ 6 ∷ []
+stretched : wordsOf (Answer.Stretched record { started = record { 0 = 5 }; failed = record { 0 = 0 } } record { started = record { 0 = 7 }; failed = record { 0 = 6 } }) ≡ 5 ∷ 0 ∷ 7 ∷ 6 ∷ []
 unfolding wordsOf
 stretched = refl
 

@@ -34,7 +34,7 @@ unfoldable pub wordsOf : Answer → List ℕ
 wordsOf (Refused n) = []
 wordsOf (Accepted f t) = boolByte f ∷ boolByte t ∷ []
 wordsOf (Ticked f t) = boolByte (f .started) ∷ boolByte (f .failed) ∷ boolByte (t .started) ∷ boolByte (t .failed) ∷ []
-wordsOf (Stretched f t) = f .started ∷ f .failed ∷ t .started ∷ t .failed ∷ []
+wordsOf (Stretched f t) = f .started .0 ∷ f .failed .0 ∷ t .started .0 ∷ t .failed .0 ∷ []
 wordsOf Good = []
 wordsOf Failed = []
 

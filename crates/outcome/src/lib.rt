@@ -57,7 +57,11 @@ fn put_ticked(f: Report, t: Report, words: &mut [u32])
 fn put_stretched(f: StretchReport, t: StretchReport, words: &mut [u32])
     ensures { λ r. ⌜ now (words .exit) ≡ filled (now (words .entry)) (wordsOf (Answer.Stretched f t)) ⌝ }
 {
-    put_four(words, f.started, f.failed, t.started, t.failed);
+    let f_started = f.started;
+    let f_failed = f.failed;
+    let t_started = t.started;
+    let t_failed = t.failed;
+    put_four(words, f_started.0, f_failed.0, t_started.0, t_failed.0);
 }
 
 fn put_accepted(f: bool, t: bool, words: &mut [u32])

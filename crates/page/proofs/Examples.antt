@@ -37,7 +37,7 @@ use Rattle.page.specs.Clock.{seconds, hours, timeOfDay, halfDay, seconds
 use Rattle.page.specs.Setup.{pulses, divider, tof1Row, tof2Row, halfSeconds, timing1Row, timing2Row, controlRow, clockState, oscillatorRow, setupRows, moreSetupRows}
 use Rattle.page.specs.Results.{pairWord, time, signedTime, resultTexts, portTexts, differenceTexts, resultRow, portRow, differenceRow, meanRow, countRow}
 use Rattle.page.specs.Results.{highNames, lowNames, takesTwo, statusRows, supplyRow, upRows, downRows, differenceRows, portRows, lastRows}
-use Rattle.page.specs.Run.{initialisedRow, awaitedRow, placeTexts, eventTexts, waitTexts, nextTexts, runRows}
+use Rattle.page.specs.Run.{initialisedRow, leftTicks, awaitedRow, placeTexts, eventTexts, waitTexts, nextTexts, runRows}
 use Rattle.page.specs.Commands.{answerTo, flightFields, temperatureFields, clockFields, fields, refusedTexts, answerTexts, frameRow, commandRow, flashRow, writeRow, commandRows}
 use Rattle.page.specs.Page.{page}
 
@@ -148,7 +148,7 @@ all-started = refl
 
 -- Rows as they read.
 shown : List Texts → List (List ℕ)
-unfolding joined lines page clockRows setupRows moreSetupRows upRows downRows differenceRows portRows lastRows runRows commandRows registerRow pairRow storedRow absentRow absentPair secondsRow timeRow dayRow monthRow dateTexts clockRow alarmRow alarmTexts timeOfDay hours twelveIn seconds halfDay tof1Row tof2Row timing1Row timing2Row controlRow oscillatorRow pulses divider halfSeconds plural binary counted clockState stopRow stopTable timeoutRow timeoutTable reportedWhere pairWord resultRow portRow differenceRow meanRow countRow resultTexts portTexts differenceTexts time signedTime rightJustified signedNanoseconds nanoseconds fourDecimals tenThousandths statusRows takesTwo highNames lowNames supplyRow initialisedRow awaitedRow eventTexts placeTexts nextTexts waitTexts refusedTexts fields flightFields temperatureFields clockFields refusal refusalWord refusalWords readWord toldValue peek regulatorOn initialisedTold leftTold placeTold placeOf nextStart registerWord calendarWord flightWord temperatureWord half statusWord differenceMean differenceBits portMean startsFlight startsTemperature isEvent isSound sumFits flightSound temperatureSound scheduleSound countsSound waitSound balanceSound inEvent startsLeft clockValid dateFits timeFits leap monthLength alarmValid alarmWord timeDigits minuteIn hourNamed twelveHour hourFits bcd hourDigits hundredthsOf word30 word31 word32 word33 decimal decimalWidth widthFrom digits glyph
+unfolding joined lines page clockRows setupRows moreSetupRows upRows downRows differenceRows portRows lastRows runRows commandRows registerRow pairRow storedRow absentRow absentPair secondsRow timeRow dayRow monthRow dateTexts clockRow alarmRow alarmTexts timeOfDay hours twelveIn seconds halfDay tof1Row tof2Row timing1Row timing2Row controlRow oscillatorRow pulses divider halfSeconds plural binary counted clockState stopRow stopTable timeoutRow timeoutTable reportedWhere pairWord resultRow portRow differenceRow meanRow countRow resultTexts portTexts differenceTexts time signedTime rightJustified signedNanoseconds nanoseconds fourDecimals tenThousandths statusRows takesTwo highNames lowNames supplyRow initialisedRow leftTicks awaitedRow eventTexts placeTexts nextTexts waitTexts refusedTexts fields flightFields temperatureFields clockFields refusal refusalWord refusalWords readWord toldValue peek regulatorOn initialisedTold leftTold placeTold placeOf nextStart registerWord calendarWord flightWord temperatureWord half statusWord differenceMean differenceBits portMean startsFlight startsTemperature isEvent isSound sumFits flightSound temperatureSound scheduleSound countsSound waitSound balanceSound inEvent startsLeft clockValid dateFits timeFits leap monthLength alarmValid alarmWord timeDigits minuteIn hourNamed twelveHour hourFits bcd hourDigits hundredthsOf word30 word31 word32 word33 decimal decimalWidth widthFrom digits glyph
 shown rows = map joined rows
 
 -- Each row has its line feed.

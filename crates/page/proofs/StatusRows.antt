@@ -36,7 +36,7 @@ use Rattle.page.specs.Row.{registerRow, absentRow, plural}
 use Rattle.page.specs.Clock.{clockRows}
 use Rattle.page.specs.Setup.{setupRows, moreSetupRows}
 use Rattle.page.specs.Results.{upRows, downRows, differenceRows, portRows, highNames, lowNames, takesTwo, statusRows, supplyRow, lastRows}
-use Rattle.page.specs.Run.{initialisedRow, awaitedRow, placeTexts, eventTexts, waitTexts, nextTexts, runRows}
+use Rattle.page.specs.Run.{initialisedRow, leftTicks, awaitedRow, placeTexts, eventTexts, waitTexts, nextTexts, runRows}
 use Rattle.page.specs.Commands.{commandRows}
 use Rattle.page.specs.Page.{page}
 use Rattle.page.proofs.Meaning.{word-read}
@@ -283,8 +283,8 @@ module _ (m : Model) (s : isSound m ≡ true) where
   unfolding runRows initialisedRow toldValue initialisedTold
   initialised-row = behind m 3 ∙ rw s (by-test (m .initialised) (λ e. rw e) (λ e. rw e))
 
-  awaited-at : (label : List ℕ) (k : Schedule) → awaitedRow label (toldValue (leftTold m k)) ≡ label ∷ awaitedPlace k
-  unfolding awaitedRow plural toldValue leftTold
+  awaited-at : (label : List ℕ) (k : Schedule) → awaitedRow label (leftTicks (leftTold m k)) ≡ label ∷ awaitedPlace k
+  unfolding awaitedRow plural leftTicks leftTold
   awaited-at label k =
       rw s (by-eqb (k .left .0) 0 (λ z e. rw (e, le-ltb 0 (k .left .0) (omega arith))) (λ z e. rw (e, lt-ltb 0 (k .left .0) (omega arith))))
 

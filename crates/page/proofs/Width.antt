@@ -41,7 +41,7 @@ use Rattle.page.specs.Clock.{seconds, hours, timeOfDay, halfDay, seconds
 use Rattle.page.specs.Setup.{pulses, divider, tof1Row, tof2Row, halfSeconds, timing1Row, timing2Row, controlRow, clockState, oscillatorRow, setupRows, moreSetupRows}
 use Rattle.page.specs.Results.{pairWord, time, signedTime, resultTexts, portTexts, differenceTexts, resultRow, portRow, differenceRow, meanRow, countRow}
 use Rattle.page.specs.Results.{upRows, downRows, differenceRows, portRows, highNames, lowNames, takesTwo, statusRows, supplyRow, lastRows}
-use Rattle.page.specs.Run.{initialisedRow, awaitedRow, placeTexts, eventTexts, waitTexts, nextTexts, runRows}
+use Rattle.page.specs.Run.{initialisedRow, leftTicks, awaitedRow, placeTexts, eventTexts, waitTexts, nextTexts, runRows}
 use Rattle.page.specs.Commands.{answerTo, flightFields, temperatureFields, clockFields, fields, refusedTexts, answerTexts, frameRow, commandRow, flashRow, writeRow, commandRows}
 use Rattle.page.specs.Page.{page}
 
@@ -525,8 +525,8 @@ awaited-narrow label left h few =
 
 -- the schedule of a kind, of which soundness tells the bounds, and whose waits are words of 32 bits
 module _ (m : Model) (k : Schedule) (known : isSound m ≡ true → ScheduleBounds k) where
-  left-few : toldValue (leftTold m k) ≤ 8192
-  unfolding toldValue leftTold
+  left-few : leftTicks (leftTold m k) ≤ 8192
+  unfolding leftTicks leftTold
   left-few = by-test (isSound m) (λ s. let b = known s in rw s (b .left)) (λ s. rw s (omega arith))
 
   event-width : width (eventTexts (placeTold m k)) ≤ 37

@@ -4,6 +4,8 @@ use mathlib.Core.Bool.{cond}
 use mathlib.Core.List.{List, [], _∷_, _++_}
 use lib.Dec.{eqb}
 use Rattle.device.specs.declared.Model.{Model}
+use Rattle.run_state.specs.declared.Left.{Left}
+use Rattle.run_state.specs.declared.Left.the-variants.{After, Refused as NotLeft}
 use Rattle.run_state.specs.declared.Place.{Place}
 use Rattle.run_state.specs.declared.Placed.{Placed}
 use Rattle.run_state.specs.declared.Placed.the-variants.{Refused, NoEvent, Event}
@@ -17,6 +19,10 @@ use Rattle.page.specs.Row.{plural}
 unfoldable pub initialisedRow : ℕ → Texts
 initialisedRow told =
     cond (eqb told 0) (ascii "       Initialised                         no") (ascii "       Initialised                         yes") ∷ []
+
+unfoldable pub leftTicks : Left → ℕ
+leftTicks (NotLeft n) = 0
+leftTicks (After t) = t .0
 
 -- "without a delivery it fails in so many ticks, in the last of them"
 unfoldable pub awaitedRow : List ℕ → ℕ → Texts
@@ -48,8 +54,8 @@ unfoldable pub runRows : Model → List Texts
 runRows m =
     (ascii "STATE OF THE RUN" ∷ [])
     ∷ initialisedRow (toldValue (initialisedTold m))
-    ∷ awaitedRow (ascii "       Flight measurement                  ") (toldValue (leftTold m (m .flight .schedule)))
-    ∷ awaitedRow (ascii "       Temperature measurement             ") (toldValue (leftTold m (m .temperature .schedule)))
+    ∷ awaitedRow (ascii "       Flight measurement                  ") (leftTicks (leftTold m (m .flight .schedule)))
+    ∷ awaitedRow (ascii "       Temperature measurement             ") (leftTicks (leftTold m (m .temperature .schedule)))
     ∷ (ascii "       Event of differences                " ∷ eventTexts (placeTold m (m .flight .schedule)))
     ∷ (ascii "       Next difference                     " ∷ nextTexts (placeTold m (m .flight .schedule)))
     ∷ (ascii "       Event of temperatures               " ∷ eventTexts (placeTold m (m .temperature .schedule)))

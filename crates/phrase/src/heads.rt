@@ -7,19 +7,20 @@ use crate::delivery::put_delivery;
 use crate::end::put_count;
 use crate::kept::put_refused;
 use device::Answer;
+use unit::Ticks;
 
 // `tick N`
-pub fn put_tick(out: &mut [u8], at: usize, n: u32) -> usize
-    ensures { λ r. ⌜ PutEach (now (out .entry)) at (tickHead n) r (now (out .exit)) ⌝ }
+pub fn put_tick(out: &mut [u8], at: usize, n: Ticks) -> usize
+    ensures { λ r. ⌜ PutEach (now (out .entry)) at (tickHead (n .0)) r (now (out .exit)) ⌝ }
 {
-    put_number(out, at, b"tick ", n)
+    put_number(out, at, b"tick ", n.0)
 }
 
 // `at T`
-pub fn put_at(out: &mut [u8], at: usize, t: u32) -> usize
-    ensures { λ r. ⌜ PutEach (now (out .entry)) at (atHead t) r (now (out .exit)) ⌝ }
+pub fn put_at(out: &mut [u8], at: usize, t: Ticks) -> usize
+    ensures { λ r. ⌜ PutEach (now (out .entry)) at (atHead (t .0)) r (now (out .exit)) ⌝ }
 {
-    put_number(out, at, b"at ", t)
+    put_number(out, at, b"at ", t.0)
 }
 
 fn put_number(out: &mut [u8], at: usize, word: &[u8], n: u32) -> usize
@@ -30,8 +31,8 @@ fn put_number(out: &mut [u8], at: usize, word: &[u8], n: u32) -> usize
 }
 
 // `stretch` and what it reports, or its refusal.
-pub fn put_stretch(out: &mut [u8], at: usize, answer: Answer, n: u32) -> usize
-    ensures { λ r. ⌜ PutEach (now (out .entry)) at (stretch answer n) r (now (out .exit)) ⌝ }
+pub fn put_stretch(out: &mut [u8], at: usize, answer: Answer, n: Ticks) -> usize
+    ensures { λ r. ⌜ PutEach (now (out .entry)) at (stretch answer (n .0)) r (now (out .exit)) ⌝ }
 {
     let a = numeral::put_text(out, at, b"stretch");
     let b = crate::ticks::put_stretched(out, a, answer, n);

@@ -8,9 +8,10 @@ ghost use Rattle.wording.specs.Wording.{laterNamed, named, stretched};
 use device::Answer;
 use device::Report;
 use device::StretchReport;
+use unit::Ticks;
 
 // No tick is named: a number beyond every tick of a stretch.
-const NONE: u32 = 4294967295;
+const NONE: Ticks = Ticks(4294967295);
 
 // What a single tick reports.
 pub fn put_single(out: &mut [u8], at: usize, answer: Answer) -> usize
@@ -76,15 +77,15 @@ fn put_where(out: &mut [u8], at: usize, holds: bool, what: &[u8]) -> usize
 }
 
 // What one stretch of n ticks reports, or its refusal.
-pub fn put_stretched(out: &mut [u8], at: usize, answer: Answer, n: u32) -> usize
-    ensures { λ r. ⌜ PutEach (now (out .entry)) at (stretched answer n) r (now (out .exit)) ⌝ }
+pub fn put_stretched(out: &mut [u8], at: usize, answer: Answer, n: Ticks) -> usize
+    ensures { λ r. ⌜ PutEach (now (out .entry)) at (stretched answer (n .0)) r (now (out .exit)) ⌝ }
 {
     match answer {
         Answer::Refused(number) => crate::refusal::put_refusal(out, at, number),
         Answer::Stretched(flight, temperature) => {
             let a = numeral::put_text(out, at, b" ");
-            let b = numeral::put_decimal(out, a, n as u64);
-            put_named(out, b, flight, temperature, 0)
+            let b = numeral::put_decimal(out, a, n.0 as u64);
+            put_named(out, b, flight, temperature, Ticks(0))
         }
         _ => at,
     }
@@ -94,7 +95,8 @@ pub fn put_stretched(out: &mut [u8], at: usize, answer: Answer, n: u32) -> usize
 pub fn none_named(flight: StretchReport, temperature: StretchReport) -> bool
     ensures { λ r. ⌜ r ≡ eqb (nextNamed flight temperature 0) noTick ⌝ }
 {
-    next_named(flight, temperature, 0) == NONE
+    let first = next_named(flight, temperature, Ticks(0));
+    first.0 == NONE.0
 }
 
 // The ticks that a stretch names, in order of time; `done` ticks came before it.
@@ -103,11 +105,11 @@ pub fn put_named(
     at: usize,
     flight: StretchReport,
     temperature: StretchReport,
-    done: u32,
+    done: Ticks,
 ) -> usize
-    ensures { λ r. ⌜ PutEach (now (out .entry)) at (named flight temperature done) r (now (out .exit)) ⌝ }
+    ensures { λ r. ⌜ PutEach (now (out .entry)) at (named flight temperature (done .0)) r (now (out .exit)) ⌝ }
 {
-    let first = next_named(flight, temperature, 0);
+    let first = next_named(flight, temperature, Ticks(0));
     let a = put_tick(out, at, flight, temperature, first, done);
     let second = next_named(flight, temperature, first);
     let b = put_tick(out, a, flight, temperature, second, done);
@@ -120,10 +122,10 @@ fn put_later(
     at: usize,
     flight: StretchReport,
     temperature: StretchReport,
-    tick: u32,
-    done: u32,
+    tick: Ticks,
+    done: Ticks,
 ) -> usize
-    ensures { λ r. ⌜ PutEach (now (out .entry)) at (laterNamed flight temperature tick done) r (now (out .exit)) ⌝ }
+    ensures { λ r. ⌜ PutEach (now (out .entry)) at (laterNamed flight temperature (tick .0) (done .0)) r (now (out .exit)) ⌝ }
 {
     let third = next_named(flight, temperature, tick);
     let a = put_tick(out, at, flight, temperature, third, done);
@@ -132,8 +134,8 @@ fn put_later(
 }
 
 // The first tick named after `tick`, or NONE.
-fn next_named(flight: StretchReport, temperature: StretchReport, tick: u32) -> u32
-    ensures { λ r. ⌜ r ≡ nextNamed flight temperature tick ⌝ }
+fn next_named(flight: StretchReport, temperature: StretchReport, tick: Ticks) -> Ticks
+    ensures { λ r. ⌜ r .0 ≡ nextNamed flight temperature (tick .0) ⌝ }
 {
     let a = sooner(flight.failed, tick, NONE);
     let b = sooner(flight.started, tick, a);
@@ -142,13 +144,13 @@ fn next_named(flight: StretchReport, temperature: StretchReport, tick: u32) -> u
 }
 
 // The tick `named` where it lies after `tick` and before `best`, else `best`.
-fn sooner(named: u32, tick: u32, best: u32) -> u32
-    ensures { λ r. ⌜ r ≡ Wording·sooner named tick best ⌝ }
+fn sooner(named: Ticks, tick: Ticks, best: Ticks) -> Ticks
+    ensures { λ r. ⌜ r .0 ≡ Wording·sooner (named .0) (tick .0) (best .0) ⌝ }
 {
-    if named <= tick {
+    if named.0 <= tick.0 {
         return best;
     }
-    if named < best { named } else { best }
+    if named.0 < best.0 { named } else { best }
 }
 
 // What happened in tick i of a stretch.
@@ -157,30 +159,42 @@ fn put_tick(
     at: usize,
     flight: StretchReport,
     temperature: StretchReport,
-    i: u32,
-    done: u32,
+    i: Ticks,
+    done: Ticks,
 ) -> usize
-    ensures { λ r. ⌜ PutEach (now (out .entry)) at (tickReports flight temperature i done) r (now (out .exit)) ⌝ }
+    ensures { λ r. ⌜ PutEach (now (out .entry)) at (tickReports flight temperature (i .0) (done .0)) r (now (out .exit)) ⌝ }
 {
-    let n = std::num::wrapping_add_u32(done, i);
-    let a = put_report(out, at, flight.failed == i, b" failed-flight@", n);
-    let b = put_report(out, a, flight.started == i, b" started-flight@", n);
-    let c = put_report(out, b, temperature.failed == i, b" failed-temperature@", n);
+    let n = Ticks(std::num::wrapping_add_u32(done.0, i.0));
+    let a = put_report(out, at, same(flight.failed, i), b" failed-flight@", n);
+    let b = put_report(out, a, same(flight.started, i), b" started-flight@", n);
+    let c = put_report(
+        out,
+        b,
+        same(temperature.failed, i),
+        b" failed-temperature@",
+        n,
+    );
     put_report(
         out,
         c,
-        temperature.started == i,
+        same(temperature.started, i),
         b" started-temperature@",
         n,
     )
 }
 
-fn put_report(out: &mut [u8], at: usize, holds: bool, what: &[u8], i: u32) -> usize
-    ensures { λ r. ⌜ PutEach (now (out .entry)) at (reportAt holds (now (what .entry)) i) r (now (out .exit)) ⌝ }
+fn same(a: Ticks, b: Ticks) -> bool
+    ensures { λ r. ⌜ r ≡ eqb (a .0) (b .0) ⌝ }
+{
+    a.0 == b.0
+}
+
+fn put_report(out: &mut [u8], at: usize, holds: bool, what: &[u8], i: Ticks) -> usize
+    ensures { λ r. ⌜ PutEach (now (out .entry)) at (reportAt holds (now (what .entry)) (i .0)) r (now (out .exit)) ⌝ }
 {
     if holds {
         let a = numeral::put_text(out, at, what);
-        return numeral::put_decimal(out, a, i as u64);
+        return numeral::put_decimal(out, a, i.0 as u64);
     }
     at
 }

@@ -160,8 +160,8 @@ seen-four a b c d x y z w = seen-append a (b ++ (c ++ d)) x (seen-append b (c ++
 seen-reports : (f t : StretchReport) (i done : ℕ) → seen (tickReports f t i done) ≡ true
 unfolding tickReports visible ascii
 seen-reports f t i done =
-    seen-four _ _ _ _ (seen-report (eqb (f .failed) i) (ascii " failed-flight@") _ refl) (seen-report (eqb (f .started) i) (ascii " started-flight@") _ refl)
-    (seen-report (eqb (t .failed) i) (ascii " failed-temperature@") _ refl) (seen-report (eqb (t .started) i) (ascii " started-temperature@") _ refl)
+    seen-four _ _ _ _ (seen-report (eqb (f .failed .0) i) (ascii " failed-flight@") _ refl) (seen-report (eqb (f .started .0) i) (ascii " started-flight@") _ refl)
+    (seen-report (eqb (t .failed .0) i) (ascii " failed-temperature@") _ refl) (seen-report (eqb (t .started .0) i) (ascii " started-temperature@") _ refl)
 
 seen-named : (f t : StretchReport) (done : ℕ) → seen (named f t done) ≡ true
 unfolding named laterNamed

@@ -10,6 +10,7 @@ use Rattle.device.specs.Event.{leftAfter, waitAfter, startedAfter, settledAfter
 use Rattle.device.specs.Model.{freshModel, freshWith, isSound}
 use Rattle.device.specs.Bus.{initialisedModel}
 use Rattle.device.proofs.Sound.{fresh-sound}
+use Rattle.run_state.specs.declared.Left.the-variants.{After}
 use Rattle.run_state.specs.declared.Placed.the-variants.{NoEvent, Event}
 use Rattle.run_state.specs.State.{initialisedTold, leftTold}
 use Rattle.run_state.specs.Event.{placeBy, nextStart, placeOf, placeTold}
@@ -28,20 +29,20 @@ pub initialised-after : (m : Model) → isSound m ≡ true → initialisedTold (
 unfolding initialisedModel isSound
 initialised-after m s = initialised-is (initialisedModel m) s
 
-left-is : (m : Model) (k : Schedule) → isSound m ≡ true → leftTold m k ≡ Value (k .left .0)
+left-is : (m : Model) (k : Schedule) → isSound m ≡ true → leftTold m k ≡ After (k .left)
 unfolding leftTold
 left-is m k s = rw s refl
 
-pub left-of-none : leftTold freshModel noSchedule ≡ Value 0
+pub left-of-none : leftTold freshModel noSchedule ≡ After (ticks 0)
 unfolding noSchedule
 left-of-none = left-is freshModel noSchedule fresh-sound
 
 -- "undelivered 8,192 ticks after its start", and one tick later
-pub left-at-start : leftTold freshModel (startSingle noSchedule) ≡ Value 8192
+pub left-at-start : leftTold freshModel (startSingle noSchedule) ≡ After (ticks 8192)
 unfolding startSingle
 left-at-start = left-is freshModel (startSingle noSchedule) fresh-sound
 
-pub left-later : leftTold freshModel (tickSchedule (startSingle noSchedule)) ≡ Value 8191
+pub left-later : leftTold freshModel (tickSchedule (startSingle noSchedule)) ≡ After (ticks 8191)
 unfolding noSchedule startSingle tickSchedule begins beginsGroup fails startsLeft leftAfter waitAfter startedAfter settledAfter goodAfter
 left-later = left-is freshModel (tickSchedule (startSingle noSchedule)) fresh-sound
 

@@ -5,6 +5,8 @@ use Rattle.device.specs.declared.Model.{Model}
 use Rattle.device.specs.declared.Told.{Told}
 use Rattle.device.specs.declared.Told.the-variants.{Value, Refused}
 use Rattle.device.specs.Model.{isSound}
+use Rattle.run_state.specs.declared.Left.{Left}
+use Rattle.run_state.specs.declared.Left.the-variants.{After, Refused as NotLeft}
 
 -- "05h Initialize makes the model initialised, until a Reset": 1, else 0.
 unfoldable pub initialisedTold : Model → Told
@@ -12,5 +14,5 @@ initialisedTold m = pick (isSound m) (pick (m .initialised) (Value 1) (Value 0))
 
 -- "A measurement undelivered 8,192 ticks after its start fails in that tick": in how many ticks the awaited one of a kind fails; 0
 -- where none is awaited.
-unfoldable pub leftTold : Model → Schedule → Told
-leftTold m k = pick (isSound m) (Value (k .left .0)) (Refused 0)
+unfoldable pub leftTold : Model → Schedule → Left
+leftTold m k = pick (isSound m) (After (k .left)) (NotLeft 0)

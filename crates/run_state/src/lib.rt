@@ -10,6 +10,12 @@ use model::state::is_sound;
 use schedule::in_event;
 use unit::Ticks;
 
+// In how many ticks an awaited measurement fails.
+pub enum Left {
+    Refused(u32),
+    After(Ticks),
+}
+
 // The place of an event: how many measurements it makes, or a group of a continuous one; how many of them, or of the current group,
 // are started, settled and good; and the ticks until the next start, 0 where all are started.
 pub struct Place {
@@ -27,18 +33,18 @@ pub enum Placed {
     Event(Place),
 }
 
-fn left_told(m: Model, k: Schedule) -> Told
+fn left_told(m: Model, k: Schedule) -> Left
     ensures { λ r. ⌜ r ≡ leftTold m k ⌝ }
 {
     let left = k.left;
     if is_sound(m) {
-        return Told::Value(left.0);
+        return Left::After(left);
     }
-    Told::Refused(0)
+    Left::Refused(0)
 }
 
 // In how many ticks the awaited flight measurement fails; 0 where none is awaited.
-pub fn flight_left(m: Model) -> Told
+pub fn flight_left(m: Model) -> Left
     ensures { λ r. ⌜ r ≡ leftTold m (m .flight .schedule) ⌝ }
 {
     let f = m.flight;
@@ -46,7 +52,7 @@ pub fn flight_left(m: Model) -> Told
 }
 
 // In how many ticks the awaited temperature measurement fails; 0 where none is awaited.
-pub fn temperature_left(m: Model) -> Told
+pub fn temperature_left(m: Model) -> Left
     ensures { λ r. ⌜ r ≡ leftTold m (m .temperature .schedule) ⌝ }
 {
     let t = m.temperature;

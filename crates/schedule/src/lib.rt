@@ -22,9 +22,9 @@ pub fn no_schedule() -> Schedule
 }
 
 // The ticks after its start in which a measurement fails, and the shortest period of an event.
-const UNTIL_FAILURE: u32 = 8192;
+const UNTIL_FAILURE: Ticks = Ticks(8192);
 
-const SHORTEST_PERIOD: u32 = 16384;
+const SHORTEST_PERIOD: Ticks = Ticks(16384);
 
 fn counts_sound(k: Schedule) -> bool
     ensures { λ r. ⌜ r ≡ countsSound k ⌝ }
@@ -51,18 +51,18 @@ fn wait_sound(k: Schedule) -> bool
     let left = k.left;
     let wait = k.wait;
     let period = k.period;
-    if UNTIL_FAILURE < left.0 {
+    if UNTIL_FAILURE.0 < left.0 {
         return false;
     }
     if starts_left(k) {
-        if period.0 < SHORTEST_PERIOD {
+        if period.0 < SHORTEST_PERIOD.0 {
             return false;
         }
         if period.0 < wait.0 {
             return false;
         }
         if 0 < left.0 {
-            if wait.0 < left.0 + UNTIL_FAILURE {
+            if wait.0 < left.0 + UNTIL_FAILURE.0 {
                 return false;
             }
             return true;
@@ -195,7 +195,7 @@ pub fn start_single(k: Schedule) -> Schedule
     ensures { λ r. ⌜ r ≡ startSingle k ⌝ }
 {
     let mut n = k;
-    let left = Ticks(UNTIL_FAILURE);
+    let left = UNTIL_FAILURE;
     n.left = left;
     n
 }
@@ -205,7 +205,7 @@ pub fn start_event(period: Ticks, planned: u8, continuous: bool) -> Schedule
     ensures { λ r. ⌜ r ≡ startEvent period planned continuous ⌝ }
 {
     Schedule {
-        left: Ticks(UNTIL_FAILURE),
+        left: UNTIL_FAILURE,
         wait: period,
         period,
         planned,
@@ -216,25 +216,28 @@ pub fn start_event(period: Ticks, planned: u8, continuous: bool) -> Schedule
     }
 }
 
-fn left_after(k: Schedule) -> u32
-    ensures { λ r. ⌜ r ≡ leftAfter k ⌝ }
+fn left_after(k: Schedule) -> Ticks
+    ensures { λ r. ⌜ r .0 ≡ leftAfter k ⌝ }
 {
     let left = k.left;
     if begins(k) {
         return UNTIL_FAILURE;
     }
-    if 0 < left.0 { left.0 - 1 } else { 0 }
+    if 0 < left.0 {
+        Ticks(left.0 - 1)
+    } else {
+        Ticks(0)
+    }
 }
 
-fn wait_after(k: Schedule) -> u32
-    ensures { λ r. ⌜ r ≡ waitAfter k ⌝ }
+fn wait_after(k: Schedule) -> Ticks
+    ensures { λ r. ⌜ r .0 ≡ waitAfter k ⌝ }
 {
     let wait = k.wait;
-    let period = k.period;
     if wait.0 <= 1 {
-        return period.0;
+        return k.period;
     }
-    wait.0 - 1
+    Ticks(wait.0 - 1)
 }
 
 fn started_after(k: Schedule) -> u8
@@ -276,8 +279,8 @@ fn good_after(k: Schedule) -> u16
 pub fn tick_schedule(k: Schedule) -> Schedule
     ensures { λ r. ⌜ r ≡ tickSchedule k ⌝ }
 {
-    let left = Ticks(left_after(k));
-    let wait = Ticks(wait_after(k));
+    let left = left_after(k);
+    let wait = wait_after(k);
     let started = started_after(k);
     let settled = settled_after(k);
     let good = good_after(k);

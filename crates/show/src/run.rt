@@ -1,16 +1,19 @@
 // The state of the run.
 ghost use mathlib.Core.List.{_∷_};
+ghost use mathlib.Core.Path.{_≡_};
 ghost use Rattle.wording.specs.Text.{PutEach};
 ghost use Rattle.page.specs.Row.{ended, lines};
-ghost use Rattle.page.specs.Run.{initialisedRow, awaitedRow, placeTexts, eventTexts, waitTexts, nextTexts, runRows};
+ghost use Rattle.page.specs.Run.{initialisedRow, leftTicks, awaitedRow, placeTexts, eventTexts, waitTexts, nextTexts, runRows};
 use crate::row::put_line;
 use crate::row::put_plural;
 use crate::row::put_where;
 use device::Model;
 use form::put_form;
 use item_state::told::value;
+use run_state::Left;
 use run_state::Place;
 use run_state::Placed;
+use unit::Ticks;
 
 pub fn put_run(buf: &mut [u8], at: usize, m: Model) -> usize
     ensures { λ r. ⌜ PutEach (now (buf .entry)) at (lines (runRows m)) r (now (buf .exit)) ⌝ }
@@ -23,13 +26,13 @@ pub fn put_run(buf: &mut [u8], at: usize, m: Model) -> usize
         buf,
         b,
         b"       Flight measurement                  ",
-        value(run_state::flight_left(m)),
+        ticks_left(run_state::flight_left(m)),
     );
     let d = put_awaited(
         buf,
         c,
         b"       Temperature measurement             ",
-        value(run_state::temperature_left(m)),
+        ticks_left(run_state::temperature_left(m)),
     );
     let e = put_event(buf, d, b"       Event of differences                ", p);
     let f = put_next(buf, e, b"       Next difference                     ", p);
@@ -46,15 +49,25 @@ fn put_initialised(buf: &mut [u8], at: usize, told: u32) -> usize
     put_line(buf, at, b"       Initialised                         yes")
 }
 
-fn put_awaited(buf: &mut [u8], at: usize, label: &[u8], left: u32) -> usize
-    ensures { λ r. ⌜ PutEach (now (buf .entry)) at (ended (awaitedRow (now (label .entry)) left)) r (now (buf .exit)) ⌝ }
+// The ticks left, or 0.
+fn ticks_left(left: Left) -> Ticks
+    ensures { λ r. ⌜ r .0 ≡ leftTicks left ⌝ }
+{
+    match left {
+        Left::After(ticks) => ticks,
+        Left::Refused(_) => Ticks(0),
+    }
+}
+
+fn put_awaited(buf: &mut [u8], at: usize, label: &[u8], left: Ticks) -> usize
+    ensures { λ r. ⌜ PutEach (now (buf .entry)) at (ended (awaitedRow (now (label .entry)) (left .0))) r (now (buf .exit)) ⌝ }
 {
     let a = numeral::put_text(buf, at, label);
-    if left == 0 {
+    if left.0 == 0 {
         return put_line(buf, a, b"none awaited");
     }
     let b = numeral::put_text(buf, a, b"awaited, fails in ");
-    let c = put_plural(buf, b, left, b" tick");
+    let c = put_plural(buf, b, left.0, b" tick");
     numeral::put_text(buf, c, b"\n")
 }
 
@@ -92,14 +105,14 @@ fn put_event(buf: &mut [u8], at: usize, label: &[u8], p: Placed) -> usize
     numeral::put_text(buf, b, b"\n")
 }
 
-fn put_wait(buf: &mut [u8], at: usize, n: u32) -> usize
-    ensures { λ r. ⌜ PutEach (now (buf .entry)) at (waitTexts n) r (now (buf .exit)) ⌝ }
+fn put_wait(buf: &mut [u8], at: usize, n: Ticks) -> usize
+    ensures { λ r. ⌜ PutEach (now (buf .entry)) at (waitTexts (n .0)) r (now (buf .exit)) ⌝ }
 {
-    if n == 0 {
+    if n.0 == 0 {
         return numeral::put_text(buf, at, b"none");
     }
     let a = numeral::put_text(buf, at, b"in ");
-    put_plural(buf, a, n, b" tick")
+    put_plural(buf, a, n.0, b" tick")
 }
 
 fn put_next_texts(buf: &mut [u8], at: usize, p: Placed) -> usize
@@ -108,7 +121,7 @@ fn put_next_texts(buf: &mut [u8], at: usize, p: Placed) -> usize
     match p {
         Placed::Event(place) => {
             let next = place.next;
-            let a = put_wait(buf, at, next.0);
+            let a = put_wait(buf, at, next);
             put_where(buf, a, place.continuous, b", continuous")
         }
         _ => numeral::put_text(buf, at, b"none"),

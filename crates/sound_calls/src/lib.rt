@@ -23,6 +23,7 @@ use ticking::stretch::next_is_quiet;
 use ticking::stretch::quiet_tick;
 use ticking::tick::report_of;
 use ticking::tick::tick_model;
+use unit::Ticks;
 
 // One period of the 32,768 Hz clock.
 pub fn sound_tick(m: Model) -> Reply
@@ -66,11 +67,11 @@ pub fn tick_reply(m: Model) -> Reply
 }
 
 // n such periods at once, at most 16,384.
-pub fn sound_stretch(m: Model, n: u32) -> Reply
+pub fn sound_stretch(m: Model, n: Ticks) -> Reply
     requires { ⌜ isSound m ≡ true ⌝ }
-    ensures { λ r. ⌜ r ≡ reply m (Call.stretch n) ⌝ }
+    ensures { λ r. ⌜ r ≡ reply m (Call.stretch (n .0)) ⌝ }
 {
-    if LONGEST < n {
+    if LONGEST.0 < n.0 {
         return refuse(m, SPAN);
     }
     let end = ticking::stretch::run(m, n);

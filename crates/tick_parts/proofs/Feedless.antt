@@ -98,14 +98,14 @@ module _ (flight temperature : StretchReport) where
   unfolding tickReports ascii hasLine
   reports-feedless i done =
       let n : ℕ = (done + i) % 4294967296 in
-      let a : Texts = reportAt (eqb (flight .failed) i) (ascii " failed-flight@") n in
-      let b : Texts = reportAt (eqb (flight .started) i) (ascii " started-flight@") n in
-      let c : Texts = reportAt (eqb (temperature .failed) i) (ascii " failed-temperature@") n in
-      let d : Texts = reportAt (eqb (temperature .started) i) (ascii " started-temperature@") n in
-      feedless-then a (b ++ (c ++ d)) (report-feedless (eqb (flight .failed) i) (ascii " failed-flight@") n refl)
-      (feedless-then b (c ++ d) (report-feedless (eqb (flight .started) i) (ascii " started-flight@") n refl)
-      (feedless-then c d (report-feedless (eqb (temperature .failed) i) (ascii " failed-temperature@") n refl)
-      (report-feedless (eqb (temperature .started) i) (ascii " started-temperature@") n refl)))
+      let a : Texts = reportAt (eqb (flight .failed .0) i) (ascii " failed-flight@") n in
+      let b : Texts = reportAt (eqb (flight .started .0) i) (ascii " started-flight@") n in
+      let c : Texts = reportAt (eqb (temperature .failed .0) i) (ascii " failed-temperature@") n in
+      let d : Texts = reportAt (eqb (temperature .started .0) i) (ascii " started-temperature@") n in
+      feedless-then a (b ++ (c ++ d)) (report-feedless (eqb (flight .failed .0) i) (ascii " failed-flight@") n refl)
+      (feedless-then b (c ++ d) (report-feedless (eqb (flight .started .0) i) (ascii " started-flight@") n refl)
+      (feedless-then c d (report-feedless (eqb (temperature .failed .0) i) (ascii " failed-temperature@") n refl)
+      (report-feedless (eqb (temperature .started .0) i) (ascii " started-temperature@") n refl)))
 
   named-feedless : (done : ℕ) → Feedless (named flight temperature done)
   unfolding named laterNamed

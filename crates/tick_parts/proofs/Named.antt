@@ -19,10 +19,10 @@ eachTold flight temperature done j (suc k) =
 
 -- Each tick that is named is one of the first n.
 pub record Within (flight temperature : StretchReport) (n : ℕ) : Type 0 where
-  pub failed-flight : flight .failed ≤ n
-  pub started-flight : flight .started ≤ n
-  pub failed-temperature : temperature .failed ≤ n
-  pub started-temperature : temperature .started ≤ n
+  pub failed-flight : flight .failed .0 ≤ n
+  pub started-flight : flight .started .0 ≤ n
+  pub failed-temperature : temperature .failed .0 ≤ n
+  pub started-temperature : temperature .started .0 ≤ n
 
 -- 1 for a named tick that lies behind the j-th, else 0
 unfoldable ahead : ℕ → ℕ → ℕ
@@ -54,32 +54,32 @@ by-sooner P named j best a b = by-leb named j (λ _ e. rw e b) (λ h e. rw e (by
 module _ (flight temperature : StretchReport) where
   -- the ticks named behind the j-th, counted
   abbrev left : ℕ → ℕ
-  left j = ahead (flight .failed) j + ahead (flight .started) j + ahead (temperature .failed) j + ahead (temperature .started) j
+  left j = ahead (flight .failed .0) j + ahead (flight .started .0) j + ahead (temperature .failed .0) j + ahead (temperature .started .0) j
 
-  by-next : (P : ℕ → Type 0) (j : ℕ) → P noTick → (j < flight .failed → P (flight .failed)) → (j < flight .started → P (flight .started))
-      → (j < temperature .failed → P (temperature .failed)) → (j < temperature .started → P (temperature .started))
+  by-next : (P : ℕ → Type 0) (j : ℕ) → P noTick → (j < flight .failed .0 → P (flight .failed .0)) → (j < flight .started .0 → P (flight .started .0))
+      → (j < temperature .failed .0 → P (temperature .failed .0)) → (j < temperature .started .0 → P (temperature .started .0))
       → P (nextNamed flight temperature j)
   unfolding nextNamed
   by-next P j none a b c d =
-      by-sooner P (temperature .started) j _ d
-      (by-sooner P (temperature .failed) j _ c (by-sooner P (flight .started) j _ b (by-sooner P (flight .failed) j noTick a none)))
+      by-sooner P (temperature .started .0) j _ d
+      (by-sooner P (temperature .failed .0) j _ c (by-sooner P (flight .started .0) j _ b (by-sooner P (flight .failed .0) j noTick a none)))
 
   none-later : (j : ℕ) → Within flight temperature j → nextNamed flight temperature j ≡ noTick
   unfolding nextNamed sooner
   none-later j w =
       rw (
-        le-leb (flight .failed) j (w .failed-flight),
-        le-leb (flight .started) j (w .started-flight),
-        le-leb (temperature .failed) j (w .failed-temperature),
-        le-leb (temperature .started) j (w .started-temperature),
+        le-leb (flight .failed .0) j (w .failed-flight),
+        le-leb (flight .started .0) j (w .started-flight),
+        le-leb (temperature .failed .0) j (w .failed-temperature),
+        le-leb (temperature .started .0) j (w .started-temperature),
       )
 
   -- a tick that is not named
-  untold : (i done : ℕ) → ¬ (flight .failed ≡ i) → ¬ (flight .started ≡ i) → ¬ (temperature .failed ≡ i) → ¬ (temperature .started ≡ i)
+  untold : (i done : ℕ) → ¬ (flight .failed .0 ≡ i) → ¬ (flight .started .0 ≡ i) → ¬ (temperature .failed .0 ≡ i) → ¬ (temperature .started .0 ≡ i)
       → tickReports flight temperature i done ≡ []
   unfolding tickReports reportAt
   untold i done a b c d =
-      rw (ne-eqb (flight .failed) i a, ne-eqb (flight .started) i b, ne-eqb (temperature .failed) i c, ne-eqb (temperature .started) i d)
+      rw (ne-eqb (flight .failed .0) i a, ne-eqb (flight .started .0) i b, ne-eqb (temperature .failed .0) i c, ne-eqb (temperature .started .0) i d)
 
   -- From the j-th tick to the next one that is named, p, nothing is told.
   to-next : (k j p done : ℕ) → Within flight temperature (j + k) → j < p → Next flight temperature j p
@@ -88,10 +88,10 @@ module _ (flight temperature : StretchReport) where
   unfolding eachTold
   to-next zero j p done w l next =
       let none : j + 0 - p ≡ 0 = omega arith in
-      let a : flight .failed ≤ j + 0 = w .failed-flight in
-      let b : flight .started ≤ j + 0 = w .started-flight in
-      let c : temperature .failed ≤ j + 0 = w .failed-temperature in
-      let d : temperature .started ≤ j + 0 = w .started-temperature in
+      let a : flight .failed .0 ≤ j + 0 = w .failed-flight in
+      let b : flight .started .0 ≤ j + 0 = w .started-flight in
+      let c : temperature .failed .0 ≤ j + 0 = w .failed-temperature in
+      let d : temperature .started .0 ≤ j + 0 = w .started-temperature in
       rw (none, untold p done (λ e. omega arith) (λ e. omega arith) (λ e. omega arith) (λ e. omega arith))
   to-next (suc k) j p done w l next =
       by-eqb (j + 1) p
@@ -117,10 +117,10 @@ module _ (flight temperature : StretchReport) where
     unfolding eachTold
     beyond done =
         let none : n - noTick ≡ 0 = omega arith in
-        let a : flight .failed ≤ n = w .failed-flight in
-        let b : flight .started ≤ n = w .started-flight in
-        let c : temperature .failed ≤ n = w .failed-temperature in
-        let d : temperature .started ≤ n = w .started-temperature in
+        let a : flight .failed .0 ≤ n = w .failed-flight in
+        let b : flight .started .0 ≤ n = w .started-flight in
+        let c : temperature .failed .0 ≤ n = w .failed-temperature in
+        let d : temperature .started .0 ≤ n = w .started-temperature in
         rw (none, untold noTick done (λ e. omega arith) (λ e. omega arith) (λ e. omega arith) (λ e. omega arith))
 
     abbrev rest : ℕ → ℕ → Texts
@@ -161,68 +161,68 @@ module _ (flight temperature : StretchReport) where
         by-next (λ p. left p ≤ left j - 1) j
         (omega (
           arith,
-          ahead-none (flight .failed) noTick (omega (arith, w .failed-flight)),
-          ahead-none (flight .started) noTick (omega (arith, w .started-flight)),
-          ahead-none (temperature .failed) noTick (omega (arith, w .failed-temperature)),
-          ahead-none (temperature .started) noTick (omega (arith, w .started-temperature)),
+          ahead-none (flight .failed .0) noTick (omega (arith, w .failed-flight)),
+          ahead-none (flight .started .0) noTick (omega (arith, w .started-flight)),
+          ahead-none (temperature .failed .0) noTick (omega (arith, w .failed-temperature)),
+          ahead-none (temperature .started .0) noTick (omega (arith, w .started-temperature)),
         ))
         (λ h.
-        let p : ℕ = flight .failed in
+        let p : ℕ = flight .failed .0 in
         omega (
           arith,
           ahead-none p p (omega arith),
           ahead-some p j h,
-          ahead-falls (flight .started) j p (omega arith),
-          ahead-falls (temperature .failed) j p (omega arith),
-          ahead-falls (temperature .started) j p (omega arith),
+          ahead-falls (flight .started .0) j p (omega arith),
+          ahead-falls (temperature .failed .0) j p (omega arith),
+          ahead-falls (temperature .started .0) j p (omega arith),
         ))
         (λ h.
-        let p : ℕ = flight .started in
+        let p : ℕ = flight .started .0 in
         omega (
           arith,
           ahead-none p p (omega arith),
           ahead-some p j h,
-          ahead-falls (flight .failed) j p (omega arith),
-          ahead-falls (temperature .failed) j p (omega arith),
-          ahead-falls (temperature .started) j p (omega arith),
+          ahead-falls (flight .failed .0) j p (omega arith),
+          ahead-falls (temperature .failed .0) j p (omega arith),
+          ahead-falls (temperature .started .0) j p (omega arith),
         ))
         (λ h.
-        let p : ℕ = temperature .failed in
+        let p : ℕ = temperature .failed .0 in
         omega (
           arith,
           ahead-none p p (omega arith),
           ahead-some p j h,
-          ahead-falls (flight .failed) j p (omega arith),
-          ahead-falls (flight .started) j p (omega arith),
-          ahead-falls (temperature .started) j p (omega arith),
+          ahead-falls (flight .failed .0) j p (omega arith),
+          ahead-falls (flight .started .0) j p (omega arith),
+          ahead-falls (temperature .started .0) j p (omega arith),
         ))
         (λ h.
-        let p : ℕ = temperature .started in
+        let p : ℕ = temperature .started .0 in
         omega (
           arith,
           ahead-none p p (omega arith),
           ahead-some p j h,
-          ahead-falls (flight .failed) j p (omega arith),
-          ahead-falls (flight .started) j p (omega arith),
-          ahead-falls (temperature .failed) j p (omega arith),
+          ahead-falls (flight .failed .0) j p (omega arith),
+          ahead-falls (flight .started .0) j p (omega arith),
+          ahead-falls (temperature .failed .0) j p (omega arith),
         ))
 
     none-behind : (p : ℕ) → left p ≡ 0 → Within flight temperature p
     none-behind p none = record {
-      failed-flight = none-ahead (flight .failed) p (omega arith);
-      started-flight = none-ahead (flight .started) p (omega arith);
-      failed-temperature = none-ahead (temperature .failed) p (omega arith);
-      started-temperature = none-ahead (temperature .started) p (omega arith);
+      failed-flight = none-ahead (flight .failed .0) p (omega arith);
+      started-flight = none-ahead (flight .started .0) p (omega arith);
+      failed-temperature = none-ahead (temperature .failed .0) p (omega arith);
+      started-temperature = none-ahead (temperature .started .0) p (omega arith);
     }
 
     most-left : (j : ℕ) → left j ≤ 4
     most-left j =
         omega (
           arith,
-          ahead-most (flight .failed) j,
-          ahead-most (flight .started) j,
-          ahead-most (temperature .failed) j,
-          ahead-most (temperature .started) j,
+          ahead-most (flight .failed .0) j,
+          ahead-most (flight .started .0) j,
+          ahead-most (temperature .failed .0) j,
+          ahead-most (temperature .started .0) j,
         )
 
     -- At most four ticks are named: what is told of the first four is all.

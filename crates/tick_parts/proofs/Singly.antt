@@ -40,8 +40,8 @@ use Rattle.tick_parts.proofs.Named.{eachTold, Within, named-each, stret
 -- ---- one tick of a stretch
 
 -- A tick's answer against what a stretch names: the same texts.
-same-reports : (f t : Report) (flight temperature : StretchReport) (i j done : ℕ) → f .failed ≡ eqb (flight .failed) j
-    → f .started ≡ eqb (flight .started) j → t .failed ≡ eqb (temperature .failed) j → t .started ≡ eqb (temperature .started) j
+same-reports : (f t : Report) (flight temperature : StretchReport) (i j done : ℕ) → f .failed ≡ eqb (flight .failed .0) j
+    → f .started ≡ eqb (flight .started .0) j → t .failed ≡ eqb (temperature .failed .0) j → t .started ≡ eqb (temperature .started .0) j
     → (done + j) % 4294967296 ≡ i → oneReported (Ticked f t) i ≡ tickReports flight temperature j done
 unfolding oneReported tickReports
 same-reports f t flight temperature i j done a b c d number = rw (a, b, c, d, number)
@@ -70,19 +70,19 @@ module _ (m : Model) (sound : isSound m ≡ true) where
     abbrev there : Model
     there = modelTicked j m
 
-    flight-failed : fails (there .flight .schedule) ≡ eqb (flights n .failed) (j + 1)
+    flight-failed : fails (there .flight .schedule) ≡ eqb (flights n .failed .0) (j + 1)
     unfolding stretchReport
     flight-failed = sym (failure-named m sound Kind.differences n j l short)
 
-    flight-started : begins (there .flight .schedule) ≡ eqb (flights n .started) (j + 1)
+    flight-started : begins (there .flight .schedule) ≡ eqb (flights n .started .0) (j + 1)
     unfolding stretchReport
     flight-started = sym (start-named m sound Kind.differences n j l short)
 
-    temperature-failed : fails (there .temperature .schedule) ≡ eqb (temperatures n .failed) (j + 1)
+    temperature-failed : fails (there .temperature .schedule) ≡ eqb (temperatures n .failed .0) (j + 1)
     unfolding stretchReport
     temperature-failed = sym (failure-named m sound Kind.temperatures n j l short)
 
-    temperature-started : begins (there .temperature .schedule) ≡ eqb (temperatures n .started) (j + 1)
+    temperature-started : begins (there .temperature .schedule) ≡ eqb (temperatures n .started .0) (j + 1)
     unfolding stretchReport
     temperature-started = sym (start-named m sound Kind.temperatures n j l short)
 

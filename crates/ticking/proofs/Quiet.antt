@@ -318,22 +318,23 @@ step-fits m most =
 
 -- What the loop over a stretch keeps, and what it leaves.
 pub record Kept (m : Model) (n d : ℕ) (r : Progress) : Type 0 where
-  pub progressed : r ≡ progress m (r .done)
-  pub within : r .done ≤ n
-  pub farther : d < r .done
+  pub progressed : r ≡ progress m (r .done .0)
+  pub within : r .done .0 ≤ n
+  pub farther : d < r .done .0
 
 pub loop-keeps :
-    (m : Model) (p r : Progress) (n : ℕ) →
-    p ≡ progress m (p .done) →
-    p .done < n →
-    r ≡ moved (n - p .done) p →
-    Kept m n (p .done) r
+    (m : Model) (p r : Progress) (n most : ℕ) →
+    p ≡ progress m (p .done .0) →
+    p .done .0 < n →
+    most ≡ n - p .done .0 →
+    r ≡ moved most p →
+    Kept m n (p .done .0) r
 unfolding progress
-loop-keeps m p r n e l f =
-    let d : ℕ = p .done in
+loop-keeps m p r n most e l h f =
+    let d : ℕ = p .done .0 in
     let s : ℕ = stepOf (n - d) (modelTicked d m) in
-    let q : r ≡ progress m (d + s) = f ∙ ap (moved (n - d)) e ∙ step-moves m d (n - d) in
-    let g : r .done ≡ d + s = ap (λ (x : Progress). x .done) q in
+    let q : r ≡ progress m (d + s) = f ∙ ap (λ (x : ℕ). moved x p) h ∙ ap (moved (n - d)) e ∙ step-moves m d (n - d) in
+    let g : r .done .0 ≡ d + s = ap (λ (x : Progress). x .done .0) q in
     let b = step-bounds (n - d) (modelTicked d m) (omega arith) in
     record {
       progressed = q ∙ ap (progress m) (sym g);
@@ -341,20 +342,20 @@ loop-keeps m p r n e l f =
       farther = omega arith;
     }
 
-pub loop-starts : (m : Model) (p : Progress) → p ≡ progress m 0 → (p ≡ progress (p .model) (p .done)) × (p .done ≡ 0)
+pub loop-starts : (m : Model) (p : Progress) → p ≡ progress m 0 → (p ≡ progress (p .model) (p .done .0)) × (p .done .0 ≡ 0)
 unfolding progress modelTicked
 loop-starts m p e = rw e (refl, refl)
 
 pub loop-ends :
     (m : Model) (p r : Progress) (n : ℕ) →
     p ≡ progress m 0 →
-    r ≡ progress (p .model) (r .done) →
-    r .done ≤ n →
-    n ≤ r .done →
+    r ≡ progress (p .model) (r .done .0) →
+    r .done .0 ≤ n →
+    n ≤ r .done .0 →
     r ≡ progress m n
 unfolding progress modelTicked
 loop-ends m p r n e f a b =
-    let d : r .done ≡ n = omega arith in
+    let d : r .done .0 ≡ n = omega arith in
     let g : p .model ≡ m = ap (λ (x : Progress). x .model) e in
     f ∙ ap (progress (p .model)) d ∙ ap (λ (x : Model). progress x n) g
 

@@ -9,8 +9,8 @@ pub struct Ticks(pub u32);
 // 65,536ths of a 4 MHz period; wide enough for sums of hit words. Never stands for ticks.
 pub struct Quanta(pub u64);
 
-pub fn choose(test: bool, yes: u32, no: u32) -> u32
-    ensures { λ r. ⌜ r ≡ pick test yes no ⌝ }
+pub fn choose(test: bool, yes: Ticks, no: Ticks) -> Ticks
+    ensures { λ r. ⌜ r .0 ≡ pick test (yes .0) (no .0) ⌝ }
 {
     if test { yes } else { no }
 }

@@ -25,7 +25,7 @@ report failed started = record { started = started; failed = failed }
 
 -- of a stretch: the tick of a failure, the tick of a start
 abbrev ticks : ℕ → ℕ → StretchReport
-ticks failed started = record { started = started; failed = failed }
+ticks failed started = record { started = record { 0 = started }; failed = record { 0 = failed } }
 
 -- `bus ok flight+temperature out EE0A`
 bus-ok : joined (bus (Accepted true true) (0xEE ∷ 0x0A ∷ [])) ≡ 98 ∷ 117 ∷ 115 ∷ 32 ∷ 111 ∷ 107 ∷ 32 ∷ 102 ∷ 108 ∷ 105 ∷ 103 ∷ 104 ∷ 116 ∷ 43 ∷ 116 ∷ 101 ∷ 109 ∷ 112 ∷ 101 ∷ 114 ∷ 97 ∷ 116 ∷ 117 ∷ 114 ∷ 101 ∷ 32 ∷ 111 ∷ 117 ∷ 116 ∷ 32 ∷ 69 ∷ 69 ∷ 48 ∷ 65 ∷ 10 ∷ []

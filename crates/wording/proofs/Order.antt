@@ -34,24 +34,24 @@ module _ (named tick best : ℕ) where
 -- The next tick named after `tick` lies after it, and no tick that is named after `tick` lies before it.
 pub record Next (flight temperature : StretchReport) (tick n : ℕ) : Type 0 where
   pub after : tick < noTick → tick < n
-  pub failed-flight : tick < flight .failed → n ≤ flight .failed
-  pub started-flight : tick < flight .started → n ≤ flight .started
-  pub failed-temperature : tick < temperature .failed → n ≤ temperature .failed
-  pub started-temperature : tick < temperature .started → n ≤ temperature .started
+  pub failed-flight : tick < flight .failed .0 → n ≤ flight .failed .0
+  pub started-flight : tick < flight .started .0 → n ≤ flight .started .0
+  pub failed-temperature : tick < temperature .failed .0 → n ≤ temperature .failed .0
+  pub started-temperature : tick < temperature .started .0 → n ≤ temperature .started .0
 
 pub next-named : (flight temperature : StretchReport) (tick : ℕ) → Next flight temperature tick (nextNamed flight temperature tick)
 unfolding nextNamed
 next-named flight temperature tick =
-    let a = sooner (flight .failed) tick noTick in
-    let b = sooner (flight .started) tick a in
-    let c = sooner (temperature .failed) tick b in
-    let d : sooner (temperature .started) tick c ≤ c = sooner-most (temperature .started) tick c in
-    let e : c ≤ b = sooner-most (temperature .failed) tick b in
-    let f : b ≤ a = sooner-most (flight .started) tick a in
+    let a = sooner (flight .failed .0) tick noTick in
+    let b = sooner (flight .started .0) tick a in
+    let c = sooner (temperature .failed .0) tick b in
+    let d : sooner (temperature .started .0) tick c ≤ c = sooner-most (temperature .started .0) tick c in
+    let e : c ≤ b = sooner-most (temperature .failed .0) tick b in
+    let f : b ≤ a = sooner-most (flight .started .0) tick a in
     record {
       after = λ h. sooner-after _ tick c (sooner-after _ tick b (sooner-after _ tick a (sooner-after _ tick noTick h)));
-      failed-flight = λ h. omega (arith, sooner-named (flight .failed) tick noTick h);
-      started-flight = λ h. omega (arith, sooner-named (flight .started) tick a h);
-      failed-temperature = λ h. omega (arith, sooner-named (temperature .failed) tick b h);
-      started-temperature = λ h. sooner-named (temperature .started) tick c h;
+      failed-flight = λ h. omega (arith, sooner-named (flight .failed .0) tick noTick h);
+      started-flight = λ h. omega (arith, sooner-named (flight .started .0) tick a h);
+      failed-temperature = λ h. omega (arith, sooner-named (temperature .failed .0) tick b h);
+      started-temperature = λ h. sooner-named (temperature .started .0) tick c h;
     }

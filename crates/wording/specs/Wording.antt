@@ -139,7 +139,7 @@ reportsAt failedFlight startedFlight failedTemperature startedTemperature i =
 unfoldable pub tickReports : StretchReport → StretchReport → ℕ → ℕ → Texts
 tickReports flight temperature i done =
     let n = (done + i) % 4294967296 in
-    reportsAt (eqb (flight .failed) i) (eqb (flight .started) i) (eqb (temperature .failed) i) (eqb (temperature .started) i) n
+    reportsAt (eqb (flight .failed .0) i) (eqb (flight .started .0) i) (eqb (temperature .failed .0) i) (eqb (temperature .started .0) i) n
 
 -- beyond every tick that a stretch names
 abbrev pub noTick : ℕ
@@ -152,8 +152,8 @@ sooner named tick best = cond (leb named tick) best (cond (ltb named best) named
 -- the first tick after `tick` that a stretch names
 unfoldable pub nextNamed : StretchReport → StretchReport → ℕ → ℕ
 nextNamed flight temperature tick =
-    sooner (temperature .started) tick
-    (sooner (temperature .failed) tick (sooner (flight .started) tick (sooner (flight .failed) tick noTick)))
+    sooner (temperature .started .0) tick
+    (sooner (temperature .failed .0) tick (sooner (flight .started .0) tick (sooner (flight .failed .0) tick noTick)))
 
 -- by tick, and "in this order within one tick": the ticks named, the first, the second, and two more at most
 unfoldable pub laterNamed : StretchReport → StretchReport → ℕ → ℕ → Texts

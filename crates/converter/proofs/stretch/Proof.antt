@@ -24,7 +24,7 @@ returns-2 : tie.Need-returns-2
 returns-2 c =
     let m = c .before .before .before .args .m in
     let e : isSound m ≡ false = sym (c .before .before .is-sound .ensures) ∙ c .before .if1 .left in
-    c .refuse .ensures ∙ reply-unsound m (stretch (c .before .before .before .args .n)) e .0
+    c .refuse .ensures ∙ reply-unsound m (stretch (c .before .before .before .args .n .0)) e .0
 
 pub stretch-spec : {M : Type 1} → statement M
 stretch-spec =

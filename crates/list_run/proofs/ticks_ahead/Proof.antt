@@ -2,13 +2,13 @@
 use Prim.Native.Nat.{_-_, _≤_}
 use native.Mathlib.Omega.{arith}
 use borrow.Author.Needs.{needs}
-use Rattle.list_run.specs.Room.{Ticks}
+use Rattle.list_run.specs.Room.{AllTicks}
 use Rattle.list_run.proofs.Laws.{first-tick, next-tick}
 use Rattle.list_run.proofs.ticks_ahead.Statement.{statement}
 use Rattle.list_run.proofs.ticks_ahead.Tie as tie
 
 abbrev Inv-loop : tie.InvT-loop
-Inv-loop calls k most n₀ n = (1 ≤ n) × (n ≤ most) × Ticks calls k n
+Inv-loop calls k most n₀ n = (1 ≤ n) × (n ≤ most) × AllTicks calls k n
 
 abbrev μ-loop : tie.MeasureT-loop
 μ-loop calls k most n₀ n = most - n

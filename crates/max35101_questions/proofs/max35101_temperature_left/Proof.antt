@@ -1,7 +1,7 @@
 -- `max35101_questions::max35101_temperature_left` meets its contract.
 use denote.Ref.{now}
 use borrow.Author.Needs.{needs}
-use Rattle.max35101_questions.proofs.Handed.{told-by}
+use Rattle.max35101_questions.proofs.Handed.{left-by}
 use Rattle.max35101_questions.proofs.max35101_temperature_left.Statement.{statement}
 use Rattle.max35101_questions.proofs.max35101_temperature_left.Tie as tie
 
@@ -11,16 +11,16 @@ load-requires c κs = search needs
 temperature-left-requires : tie.Need-temperature-left-requires
 temperature-left-requires c κs = search needs
 
-told-requires : tie.Need-told-requires
-told-requires c κs = search needs
+left-requires : tie.Need-left-requires
+left-requires c κs = search needs
 
 same-length : tie.Need-same-length
 same-length c = search needs
 
 returns : tie.Need-returns
 returns c =
-    told-by (now (c .before .before .before .before .before .before .before .before .args .answer)) (rw (c .before .before .before .before .before .load .ensures) at (c .before .before .before .before .temperature-left .ensures)) (c .before .before .told .ensures)
+    left-by (now (c .before .before .before .before .before .before .before .before .args .answer)) (rw (c .before .before .before .before .before .load .ensures) at (c .before .before .before .before .temperature-left .ensures)) (c .before .before .left .ensures)
 
 pub max35101-temperature-left-spec : {M : Type 1} → statement M
 max35101-temperature-left-spec =
-    tie.close (tie.spec load-requires temperature-left-requires told-requires same-length returns)
+    tie.close (tie.spec load-requires temperature-left-requires left-requires same-length returns)

@@ -12,8 +12,8 @@ returns : tie.Need-returns
 unfolding leftAfter
 returns c = search (needs, tests, c .if1 .taken, ← c .before .begins .ensures)
 
-sub-result : tie.Need-sub-result
-sub-result c = search needs
+sub-t6 : tie.Need-sub-t6
+sub-t6 c = search needs
 
 returns-2 : tie.Need-returns-2
 unfolding leftAfter
@@ -24,4 +24,4 @@ unfolding leftAfter
 returns-3 c = search (needs, tests, c .if2 .left, c .before .before .if1 .left, ← c .before .before .before .begins .ensures)
 
 pub left-after-spec : {M : Type 1} → statement M
-left-after-spec = tie.close (tie.spec begins-requires returns sub-result returns-2 returns-3)
+left-after-spec = tie.close (tie.spec begins-requires returns sub-t6 returns-2 returns-3)

@@ -9,12 +9,12 @@ returns : tie.Need-returns
 unfolding waitAfter
 returns c = search (needs, tests)
 
-sub-result : tie.Need-sub-result
-sub-result c = search needs
+sub-t4 : tie.Need-sub-t4
+sub-t4 c = search needs
 
 returns-2 : tie.Need-returns-2
 unfolding waitAfter
 returns-2 c = search (needs, tests)
 
 pub wait-after-spec : {M : Type 1} → statement M
-wait-after-spec = tie.close (tie.spec returns sub-result returns-2)
+wait-after-spec = tie.close (tie.spec returns sub-t4 returns-2)

@@ -14,18 +14,18 @@ refuse-requires c κs = search needs
 
 returns : tie.Need-returns
 returns c =
-    let m = c .before .before .args .m in
-    let s : isSound m ≡ true = c .before .before .pre in
-    simp (reply-stretch m s (c .before .before .args .n), c .refuse .ensures, lt-ltb _ _ (c .before .if1 .taken))
+    let m = c .before .before .before .before .args .m in
+    let s : isSound m ≡ true = c .before .before .before .before .pre in
+    simp (reply-stretch m s (c .before .before .before .before .args .n .0), c .refuse .ensures, lt-ltb _ _ (c .before .if1 .taken))
 
 run-requires : tie.Need-run-requires
 run-requires c κs = search needs
 
 returns-2 : tie.Need-returns-2
 returns-2 c =
-    let m = c .before .before .before .before .before .args .m in
-    let s : isSound m ≡ true = c .before .before .before .before .before .pre in
-    simp (reply-stretch m s (c .before .before .before .before .before .args .n), le-ltb _ _ (c .before .before .before .before .if1 .left), ← c .before .before .before .run .ensures)
+    let m = c .before .before .before .before .before .before .before .args .m in
+    let s : isSound m ≡ true = c .before .before .before .before .before .before .before .pre in
+    simp (reply-stretch m s (c .before .before .before .before .before .before .before .args .n .0), le-ltb _ _ (c .before .before .before .before .if1 .left), ← c .before .before .before .run .ensures)
 
 pub sound-stretch-spec : {M : Type 1} → statement M
 sound-stretch-spec =

@@ -20,6 +20,9 @@ element-copy-out-left-to c = search needs
 left-to-requires : tie.Need-left-to-requires
 left-to-requires c κs = search needs
 
+cast-counts : tie.Need-cast-counts
+cast-counts c = search needs
+
 element-write-counts : tie.Need-element-write-counts
 element-write-counts c = search needs
 
@@ -40,7 +43,7 @@ same-length c = search needs
 
 returns-2 : tie.Need-returns-2
 unfolding atBegun unlessUnderWay ticksAhead called
-returns-2 c = rw (eq-eqb _ 0 (c .before .before .before .before .before .before .before .before .before .if1 .left), ← c .before .before .before .before .before .before .before .left-to .ensures, ← c .before .before .before .before .put-at .ensures .next, ← c .before .before .before .before .put-at .ensures .bytes, c .count .ensures)
+returns-2 c = rw (eq-eqb _ 0 (c .before .before .before .before .before .before .before .before .before .before .if1 .left), ← c .before .before .before .before .before .before .before .before .left-to .ensures, ← c .before .before .before .before .put-at .ensures .next, ← c .before .before .before .before .put-at .ensures .bytes, c .count .ensures)
 
 pub begin-at-spec : {M : Type 1} → statement M
 begin-at-spec =
@@ -50,6 +53,7 @@ begin-at-spec =
     returns
     element-copy-out-left-to
     left-to-requires
+    cast-counts
     element-write-counts
     element-copy-out-put-at
     put-at-requires

@@ -18,6 +18,9 @@ some-left n h = ne-eqb n 0 (λ none. omega arith)
 none-left : (n : ℕ) → n ≤ 0 → eqb n 0 ≡ true
 none-left n h = eq-eqb n 0 (omega arith)
 
+cast-counts : tie.Need-cast-counts
+cast-counts c = search needs
+
 element-write-counts : tie.Need-element-write-counts
 element-write-counts c = search needs
 
@@ -45,6 +48,7 @@ pub end-part-spec : {M : Type 1} → statement M
 end-part-spec =
     tie.close
     (tie.spec
+    cast-counts
     element-write-counts
     returns
     element-copy-out-put-end

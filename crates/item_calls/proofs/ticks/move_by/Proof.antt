@@ -30,6 +30,9 @@ enum-told c = search needs
 element-copy-out-more : tie.Need-element-copy-out-more
 element-copy-out-more c = search needs
 
+cast-more : tie.Need-cast-more
+cast-more c = search needs
+
 more-requires : tie.Need-more-requires
 more-requires c κs = search needs
 
@@ -42,9 +45,16 @@ returns c = rw (c .enum-told .given .1)
 
 returns-2 : tie.Need-returns-2
 unfolding moved added
-returns-2 c = others _ _ _ (c .before .before .match .keys2) (rw (c .more .ensures))
+returns-2 c = others _ _ _ (c .before .before .before .match .keys2) (rw (c .more .ensures))
 
 pub move-by-spec : {M : Type 1} → statement M
 move-by-spec =
     tie.close
-    (tie.spec enum-told element-copy-out-more more-requires element-write-counts returns returns-2)
+    (tie.spec
+    enum-told
+    element-copy-out-more
+    cast-more
+    more-requires
+    element-write-counts
+    returns
+    returns-2)

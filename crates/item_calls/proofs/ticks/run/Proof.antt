@@ -13,14 +13,15 @@ use Rattle.item_calls.proofs.ticks.run.Statement.{statement}
 use Rattle.item_calls.proofs.ticks.run.Tie as tie
 
 abbrev Inv-loop : tie.InvT-loop
-Inv-loop total counts answers₀ all part model₀ left₀ before₀ place₀ answers model left before place =
+Inv-loop counts answers₀ all part model₀ left₀ before₀ place₀ answers model left before place =
     (length answers ≡ length answers₀)
-    × (before + left ≤ total)
-    × (ticked left left before model .model ≡ ticked left₀ left₀ before₀ model₀ .model)
-    × (putEach answers place (ticked left left before model .texts) ≡ putEach answers₀ place₀ (ticked left₀ left₀ before₀ model₀ .texts))
+    × (before .0 + left .0 ≤ before₀ .0 + left₀ .0)
+    × (ticked (left .0) (left .0) (before .0) model .model ≡ ticked (left₀ .0) (left₀ .0) (before₀ .0) model₀ .model)
+    × (putEach answers place (ticked (left .0) (left .0) (before .0) model .texts)
+    ≡ putEach answers₀ place₀ (ticked (left₀ .0) (left₀ .0) (before₀ .0) model₀ .texts))
 
 abbrev μ-loop : tie.MeasureT-loop
-μ-loop total counts answers₀ all part model₀ left₀ before₀ place₀ answers model left before place = left
+μ-loop counts answers₀ all part model₀ left₀ before₀ place₀ answers model left before place = left .0
 
 element-copy-out-at-most : tie.Need-element-copy-out-at-most Inv-loop μ-loop
 element-copy-out-at-most c = search needs
@@ -34,14 +35,14 @@ cast-at-most c = search needs
 at-most-requires-2 : tie.Need-at-most-requires-2 Inv-loop μ-loop
 at-most-requires-2 c κs = search needs
 
-sub-before : tie.Need-sub-before Inv-loop μ-loop
-sub-before c = omega (arith, c .before .at-most .ensures)
+sub-t20 : tie.Need-sub-t20 Inv-loop μ-loop
+sub-t20 c = omega (arith, c .before .before .before .before .at-most .ensures)
 
 element-copy-out-place : tie.Need-element-copy-out-place Inv-loop μ-loop
 element-copy-out-place c = search needs
 
 loop-holds : tie.Need-loop-holds Inv-loop μ-loop
-loop-holds c = (refl, omega (arith, c .before .before .at-most .ensures, c .before .at-most2 .ensures), refl, refl)
+loop-holds c = (refl, omega arith, refl, refl)
 
 cast-at-most-2 : tie.Need-cast-at-most-2 Inv-loop μ-loop
 cast-at-most-2 c = search needs
@@ -55,23 +56,23 @@ stretch-requires c κs = search needs
 add-reports-requires : tie.Need-add-reports-requires Inv-loop μ-loop
 add-reports-requires c κs = search needs
 
-add-before : tie.Need-add-before Inv-loop μ-loop
-add-before c = omega (arith, c .before .before .before .before .before .before .at-most3 .ensures, c .before .before .before .before .before .before .before .before .loop .inv .1)
+add-t28 : tie.Need-add-t28 Inv-loop μ-loop
+add-t28 c = omega (arith, c .before .before .before .before .before .before .before .before .before .before .before .before .before .before .before .struct-known2 .given .0 .fits, c .before .before .before .before .before .before .before .before .before .before .before .before .before .before .before .before .before .before .at-most .ensures, c .before .before .before .before .before .before .before .before .before .before .before .before .before .before .before .before .at-most2 .ensures, c .before .before .before .before .before .before .before .before .at-most3 .ensures, c .before .before .before .before .before .before .before .before .before .before .before .before .loop .inv .1)
 
-sub-left : tie.Need-sub-left Inv-loop μ-loop
-sub-left c = omega (arith, c .before .before .before .before .before .before .at-most3 .ensures)
+sub-t28 : tie.Need-sub-t28 Inv-loop μ-loop
+sub-t28 c = omega (arith, c .before .before .before .before .before .before .before .before .before .before .at-most3 .ensures)
 
 loop-less : tie.Need-loop-less Inv-loop μ-loop
-loop-less c = omega (arith, c .before .before .before .before .before .before .at-most3 .ensures, c .before .before .before .before .before .before .before .loop-test .taken)
+loop-less c = omega (arith, c .before .before .before .before .before .before .before .before .before .before .at-most3 .ensures, c .before .before .before .before .before .before .before .before .before .before .before .before .if1 .taken)
 
 loop-again : tie.Need-loop-again Inv-loop μ-loop
-loop-again c = (search needs, omega (arith, c .before .before .before .before .before .before .at-most3 .ensures, c .before .before .before .before .before .before .before .before .loop .inv .1), turn-model (c .before .before .before .before .before .before .before .before .loop .model) (c .before .before .before .before .before .before .before .before .loop .left) (c .before .before .before .before .before .before .before .before .loop .before) (c .before .before .before .before .before .before .before .loop-test .taken) (c .before .before .before .before .before .before .at-most3 .ensures) (c .before .before .before .before .before .stretch .ensures) (c .before .before .before .before .before .before .before .before .loop .inv .2), turn-texts (c .before .before .before .before .before .before .before .before .loop .model) (c .before .before .before .before .before .before .before .before .loop .left) (c .before .before .before .before .before .before .before .before .loop .before) (c .before .before .before .before .before .before .before .loop-test .taken) (c .before .before .before .before .before .before .at-most3 .ensures) (c .before .before .before .before .before .stretch .ensures) (c .before .before .add-reports .ensures) (c .before .before .before .before .before .before .before .before .loop .inv .3))
+loop-again c = (search needs, omega (arith, c .before .before .before .before .before .before .before .before .before .before .at-most3 .ensures, c .before .before .before .before .before .before .before .before .before .before .before .before .before .before .loop .inv .1), turn-model (c .before .before .before .before .before .before .before .before .before .before .before .before .before .before .loop .model) (c .before .before .before .before .before .before .before .before .before .before .before .before .before .before .loop .left .0) (c .before .before .before .before .before .before .before .before .before .before .before .before .before .before .loop .before .0) (c .before .before .before .before .before .before .before .before .before .before .before .before .if1 .taken) (c .before .before .before .before .before .before .before .before .before .before .at-most3 .ensures) (c .before .before .before .before .before .before .before .before .before .stretch .ensures) (c .before .before .before .before .before .before .before .before .before .before .before .before .before .before .loop .inv .2), turn-texts (c .before .before .before .before .before .before .before .before .before .before .before .before .before .before .loop .model) (c .before .before .before .before .before .before .before .before .before .before .before .before .before .before .loop .left .0) (c .before .before .before .before .before .before .before .before .before .before .before .before .before .before .loop .before .0) (c .before .before .before .before .before .before .before .before .before .before .before .before .if1 .taken) (c .before .before .before .before .before .before .before .before .before .before .at-most3 .ensures) (c .before .before .before .before .before .before .before .before .before .stretch .ensures) (c .before .before .before .before .before .before .add-reports .ensures) (c .before .before .before .before .before .before .before .before .before .before .before .before .before .before .loop .inv .3))
 
 element-write-counts : tie.Need-element-write-counts Inv-loop μ-loop
 element-write-counts c = search needs
 
-sub-end-part : tie.Need-sub-end-part Inv-loop μ-loop
-sub-end-part c = omega (arith, c .before .before .before .at-most2 .ensures)
+sub-t20-2 : tie.Need-sub-t20-2 Inv-loop μ-loop
+sub-t20-2 c = omega (arith, c .before .before .before .before .before .before .before .before .at-most2 .ensures)
 
 end-part-requires : tie.Need-end-part-requires Inv-loop μ-loop
 end-part-requires c κs = search needs
@@ -81,7 +82,7 @@ same-length c = search needs
 
 returns : tie.Need-returns Inv-loop μ-loop
 unfolding ticksPart said putEach
-returns c = let over = ticks-none (c .before .before .before .before .before .before .loop .left) (c .before .before .before .before .before .before .loop .before) (c .before .before .before .before .before .before .loop .model) (c .before .before .before .before .before .loop-test .left) in let model = rw over at (c .before .before .before .before .before .before .loop .inv .2) in let texts = rw over at (c .before .before .before .before .before .before .loop .inv .3) in rw (← c .before .before .before .before .before .before .before .before .before .at-most .ensures, ← c .before .before .before .before .before .before .before .before .at-most2 .ensures, ← model, ← texts, ← c .before .before .end-part .ensures)
+returns c = let over = ticks-none (c .before .before .before .before .before .before .before .before .before .loop .left .0) (c .before .before .before .before .before .before .before .before .before .loop .before .0) (c .before .before .before .before .before .before .before .before .before .loop .model) (c .before .before .before .before .before .before .before .if1 .left) in let model = rw over at (c .before .before .before .before .before .before .before .before .before .loop .inv .2) in let texts = rw over at (c .before .before .before .before .before .before .before .before .before .loop .inv .3) in rw (← c .before .before .before .before .before .before .before .before .before .before .before .before .before .before .before .at-most .ensures, ← c .before .before .before .before .before .before .before .before .before .before .before .before .before .at-most2 .ensures, ← model, ← texts, ← c .before .before .end-part .ensures)
 
 pub run-spec : {M : Type 1} → statement M
 run-spec =
@@ -93,19 +94,19 @@ run-spec =
     at-most-requires
     cast-at-most
     at-most-requires-2
-    sub-before
+    sub-t20
     element-copy-out-place
     loop-holds
     cast-at-most-2
     at-most-requires-3
     stretch-requires
     add-reports-requires
-    add-before
-    sub-left
+    add-t28
+    sub-t28
     loop-less
     loop-again
     element-write-counts
-    sub-end-part
+    sub-t20-2
     end-part-requires
     same-length
     returns)

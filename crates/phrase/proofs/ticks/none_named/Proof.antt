@@ -8,7 +8,7 @@ next-named-requires : tie.Need-next-named-requires
 next-named-requires c κs = search needs
 
 returns : tie.Need-returns
-returns c = rw (c .next-named .ensures)
+returns c = rw (c .before .before .next-named .ensures)
 
 pub none-named-spec : {M : Type 1} → statement M
 none-named-spec =

@@ -9,6 +9,9 @@ use Rattle.phrase.proofs.ticks.put_report.Tie as tie
 put-text-requires : tie.Need-put-text-requires
 put-text-requires c κs = search needs
 
+cast-put-decimal : tie.Need-cast-put-decimal
+cast-put-decimal c = search needs
+
 put-decimal-requires : tie.Need-put-decimal-requires
 put-decimal-requires c κs = search needs
 
@@ -17,7 +20,7 @@ same-length c = search needs
 
 returns : tie.Need-returns
 unfolding reportAt
-returns c = rw (c .before .before .before .before .before .before .before .before .if1 .taken) (put-first (c .before .before .before .before .before .before .put-text .ensures) (put-one (c .before .before .put-decimal .ensures)))
+returns c = rw (c .before .before .before .before .before .before .before .before .before .if1 .taken) (put-first (c .before .before .before .before .before .before .before .put-text .ensures) (put-one (c .before .before .put-decimal .ensures)))
 
 returns-2 : tie.Need-returns-2
 unfolding reportAt
@@ -28,6 +31,7 @@ put-report-spec =
     tie.close
     (tie.spec
     put-text-requires
+    cast-put-decimal
     put-decimal-requires
     same-length
     returns

@@ -39,6 +39,9 @@ slice-aggregate-put-text c = search needs
 put-text-requires : tie.Need-put-text-requires
 put-text-requires c κs = search needs
 
+cast-put-decimal : tie.Need-cast-put-decimal
+cast-put-decimal c = search needs
+
 put-decimal-requires : tie.Need-put-decimal-requires
 put-decimal-requires c κs = search needs
 
@@ -57,7 +60,7 @@ same-length-2 c = search needs
 
 returns-2 : tie.Need-returns-2
 unfolding ascii stretched
-returns-2 c = rw (c .before .before .before .before .before .before .before .before .before .before .before .before .before .before .answer2 .given .1) (put-first (c .before .before .before .before .before .before .before .before .before .before .put-text .ensures) (put-first (c .before .before .before .before .before .before .put-decimal .ensures) (c .before .before .put-named .ensures)))
+returns-2 c = rw (c .before .before .before .before .before .before .before .before .before .before .before .before .before .before .before .answer2 .given .1) (put-first (c .before .before .before .before .before .before .before .before .before .before .before .put-text .ensures) (put-first (c .before .before .before .before .before .before .put-decimal .ensures) (c .before .before .put-named .ensures)))
 
 returns-3 : tie.Need-returns-3
 returns-3 c = others _ _ _ _ (c .match .keys3)
@@ -71,6 +74,7 @@ put-stretched-spec =
     enum-known-answer-2
     slice-aggregate-put-text
     put-text-requires
+    cast-put-decimal
     put-decimal-requires
     put-named-requires
     same-length

@@ -22,7 +22,7 @@ same-length c = search needs
 
 returns : tie.Need-returns
 unfolding ascii awaitedRow
-returns c = rw (eq-eqb _ _ (c .before .before .before .before .before .if1 .taken)) (put-first (c .before .before .before .before .before .before .before .before .put-text .ensures) (c .before .before .put-line .ensures))
+returns c = rw (eq-eqb _ _ (c .before .before .before .before .before .if1 .taken)) (put-first (c .before .before .before .before .before .before .before .before .before .put-text .ensures) (c .before .before .put-line .ensures))
 
 slice-aggregate-put-text : tie.Need-slice-aggregate-put-text
 slice-aggregate-put-text c = search needs
@@ -47,7 +47,7 @@ same-length-2 c = search needs
 
 returns-2 : tie.Need-returns-2
 unfolding ascii awaitedRow
-returns-2 c = rw (ne-eqb _ _ (c .before .before .before .before .before .before .before .before .before .before .before .before .before .before .before .if1 .left)) (put-first (c .before .before .before .before .before .before .before .before .before .before .before .before .before .before .before .before .before .before .put-text .ensures) (put-first (c .before .before .before .before .before .before .before .before .before .before .before .before .put-text2 .ensures) (put-then (c .before .before .before .before .before .before .before .put-plural .ensures) (put-one (c .before .before .put-text3 .ensures)))))
+returns-2 c = rw (ne-eqb _ _ (c .before .before .before .before .before .before .before .before .before .before .before .before .before .before .before .if1 .left)) (put-first (c .before .before .before .before .before .before .before .before .before .before .before .before .before .before .before .before .before .before .before .put-text .ensures) (put-first (c .before .before .before .before .before .before .before .before .before .before .before .before .put-text2 .ensures) (put-then (c .before .before .before .before .before .before .before .put-plural .ensures) (put-one (c .before .before .put-text3 .ensures)))))
 
 pub put-awaited-spec : {M : Type 1} → statement M
 put-awaited-spec =

@@ -36,8 +36,8 @@ slice-aggregate-put-awaited c = search needs
 flight-left-requires : tie.Need-flight-left-requires
 flight-left-requires c κs = search needs
 
-value-requires-2 : tie.Need-value-requires-2
-value-requires-2 c κs = search needs
+ticks-left-requires : tie.Need-ticks-left-requires
+ticks-left-requires c κs = search needs
 
 put-awaited-requires : tie.Need-put-awaited-requires
 put-awaited-requires c κs = search needs
@@ -48,8 +48,8 @@ slice-aggregate-put-awaited-2 c = search needs
 temperature-left-requires : tie.Need-temperature-left-requires
 temperature-left-requires c κs = search needs
 
-value-requires-3 : tie.Need-value-requires-3
-value-requires-3 c κs = search needs
+ticks-left-requires-2 : tie.Need-ticks-left-requires-2
+ticks-left-requires-2 c κs = search needs
 
 put-awaited-requires-2 : tie.Need-put-awaited-requires-2
 put-awaited-requires-2 c κs = search needs
@@ -83,7 +83,7 @@ same-length c = c .before .before .put-next2 .kept .0 ∙ c .before .before .bef
 
 returns : tie.Need-returns
 unfolding ascii lines runRows
-returns c = rw (← (c .before .before .before .before .before .before .before .before .before .before .before .before .before .before .before .before .before .before .before .before .before .before .before .before .before .before .before .before .before .before .before .before .before .before .before .before .before .before .before .before .before .before .before .before .before .before .flight-place .ensures), ← (c .before .before .before .before .before .before .before .before .before .before .before .before .before .before .before .before .before .before .before .before .before .before .before .before .before .before .before .before .before .before .before .before .before .before .before .before .before .before .before .before .before .before .before .before .before .temperature-place .ensures), ← (c .before .before .before .before .before .before .before .before .before .before .before .before .before .before .before .before .before .before .before .before .before .before .before .before .before .before .before .before .before .before .before .before .before .before .before .before .before .before .initialised .ensures), ← (c .before .before .before .before .before .before .before .before .before .before .before .before .before .before .before .before .before .before .before .before .before .before .before .before .before .before .before .before .before .before .before .before .before .before .before .before .before .value .ensures), ← (c .before .before .before .before .before .before .before .before .before .before .before .before .before .before .before .before .before .before .before .before .before .before .before .before .before .before .before .before .before .before .before .flight-left .ensures), ← (c .before .before .before .before .before .before .before .before .before .before .before .before .before .before .before .before .before .before .before .before .before .before .before .before .before .before .before .before .before .before .value2 .ensures), ← (c .before .before .before .before .before .before .before .before .before .before .before .before .before .before .before .before .before .before .before .before .before .before .before .before .temperature-left .ensures), ← (c .before .before .before .before .before .before .before .before .before .before .before .before .before .before .before .before .before .before .before .before .before .before .before .value3 .ensures)) (put-then (c .before .before .before .before .before .before .before .before .before .before .before .before .before .before .before .before .before .before .before .before .before .before .before .before .before .before .before .before .before .before .before .before .before .before .before .before .before .before .before .before .before .before .put-line .ensures) (put-then (c .before .before .before .before .before .before .before .before .before .before .before .before .before .before .before .before .before .before .before .before .before .before .before .before .before .before .before .before .before .before .before .before .before .before .before .before .put-initialised .ensures) (put-then (c .before .before .before .before .before .before .before .before .before .before .before .before .before .before .before .before .before .before .before .before .before .before .before .before .before .before .before .before .before .put-awaited .ensures) (put-then (c .before .before .before .before .before .before .before .before .before .before .before .before .before .before .before .before .before .before .before .before .before .before .put-awaited2 .ensures) (put-then (c .before .before .before .before .before .before .before .before .before .before .before .before .before .before .before .before .before .put-event .ensures) (put-then (c .before .before .before .before .before .before .before .before .before .before .before .before .put-next .ensures) (put-then (c .before .before .before .before .before .before .before .put-event2 .ensures) (put-then (c .before .before .put-next2 .ensures) (put-none _ _)))))))))
+returns c = rw (← (c .before .before .before .before .before .before .before .before .before .before .before .before .before .before .before .before .before .before .before .before .before .before .before .before .before .before .before .before .before .before .before .before .before .before .before .before .before .before .before .before .before .before .before .before .before .before .flight-place .ensures), ← (c .before .before .before .before .before .before .before .before .before .before .before .before .before .before .before .before .before .before .before .before .before .before .before .before .before .before .before .before .before .before .before .before .before .before .before .before .before .before .before .before .before .before .before .before .before .temperature-place .ensures), ← (c .before .before .before .before .before .before .before .before .before .before .before .before .before .before .before .before .before .before .before .before .before .before .before .before .before .before .before .before .before .before .before .before .before .before .before .before .before .before .initialised .ensures), ← (c .before .before .before .before .before .before .before .before .before .before .before .before .before .before .before .before .before .before .before .before .before .before .before .before .before .before .before .before .before .before .before .before .before .before .before .before .before .value .ensures), ← (c .before .before .before .before .before .before .before .before .before .before .before .before .before .before .before .before .before .before .before .before .before .before .before .before .before .before .before .before .before .before .before .flight-left .ensures), ← (c .before .before .before .before .before .before .before .before .before .before .before .before .before .before .before .before .before .before .before .before .before .before .before .before .before .before .before .before .before .before .ticks-left .ensures), ← (c .before .before .before .before .before .before .before .before .before .before .before .before .before .before .before .before .before .before .before .before .before .before .before .before .temperature-left .ensures), ← (c .before .before .before .before .before .before .before .before .before .before .before .before .before .before .before .before .before .before .before .before .before .before .before .ticks-left2 .ensures)) (put-then (c .before .before .before .before .before .before .before .before .before .before .before .before .before .before .before .before .before .before .before .before .before .before .before .before .before .before .before .before .before .before .before .before .before .before .before .before .before .before .before .before .before .before .put-line .ensures) (put-then (c .before .before .before .before .before .before .before .before .before .before .before .before .before .before .before .before .before .before .before .before .before .before .before .before .before .before .before .before .before .before .before .before .before .before .before .before .put-initialised .ensures) (put-then (c .before .before .before .before .before .before .before .before .before .before .before .before .before .before .before .before .before .before .before .before .before .before .before .before .before .before .before .before .before .put-awaited .ensures) (put-then (c .before .before .before .before .before .before .before .before .before .before .before .before .before .before .before .before .before .before .before .before .before .before .put-awaited2 .ensures) (put-then (c .before .before .before .before .before .before .before .before .before .before .before .before .before .before .before .before .before .put-event .ensures) (put-then (c .before .before .before .before .before .before .before .before .before .before .before .before .put-next .ensures) (put-then (c .before .before .before .before .before .before .before .put-event2 .ensures) (put-then (c .before .before .put-next2 .ensures) (put-none _ _)))))))))
 
 pub put-run-spec : {M : Type 1} → statement M
 put-run-spec =
@@ -98,11 +98,11 @@ put-run-spec =
     put-initialised-requires
     slice-aggregate-put-awaited
     flight-left-requires
-    value-requires-2
+    ticks-left-requires
     put-awaited-requires
     slice-aggregate-put-awaited-2
     temperature-left-requires
-    value-requires-3
+    ticks-left-requires-2
     put-awaited-requires-2
     slice-aggregate-put-event
     put-event-requires

@@ -4,8 +4,8 @@ use borrow.Author.Needs.{needs}
 use Rattle.ticking.proofs.stretch.moved_by_one.Statement.{statement}
 use Rattle.ticking.proofs.stretch.moved_by_one.Tie as tie
 
-add-done : tie.Need-add-done
-add-done c = search needs
+add-t14 : tie.Need-add-t14
+add-t14 c = search needs
 
 note-tick-requires : tie.Need-note-tick-requires
 note-tick-requires c κs = search needs
@@ -23,4 +23,4 @@ returns c = simp (← c .tick-model .ensures, ← c .before .note-tick2 .ensures
 pub moved-by-one-spec : {M : Type 1} → statement M
 moved-by-one-spec =
     tie.close
-    (tie.spec add-done note-tick-requires note-tick-requires-2 tick-model-requires returns)
+    (tie.spec add-t14 note-tick-requires note-tick-requires-2 tick-model-requires returns)

@@ -16,7 +16,7 @@ less-requires c κs = search needs
 
 returns-2 : tie.Need-returns-2
 unfolding quietClock
-returns-2 c = simp (← c .less .ensures, c .before .before .if1 .left, ← c .before .before .before .clock-stands .ensures)
+returns-2 c = simp (← c .less .ensures, c .before .if1 .left, ← c .before .before .clock-stands .ensures)
 
 pub quiet-clock-spec : {M : Type 1} → statement M
 quiet-clock-spec = tie.close (tie.spec clock-stands-requires returns less-requires returns-2)

@@ -5,8 +5,8 @@ use borrow.Author.Needs.{needs}
 use Rattle.ticking.proofs.stretch.quiet_left.Statement.{statement}
 use Rattle.ticking.proofs.stretch.quiet_left.Tie as tie
 
-sub-result : tie.Need-sub-result
-sub-result c = search needs
+sub-t5 : tie.Need-sub-t5
+sub-t5 c = search needs
 
 returns : tie.Need-returns
 unfolding quietLeft
@@ -17,4 +17,4 @@ unfolding quietLeft
 returns-2 c = search (needs, tests)
 
 pub quiet-left-spec : {M : Type 1} → statement M
-quiet-left-spec = tie.close (tie.spec sub-result returns returns-2)
+quiet-left-spec = tie.close (tie.spec sub-t5 returns returns-2)

@@ -20,8 +20,8 @@ returns-3 : tie.Need-returns-3
 unfolding quietWait
 returns-3 c = search (needs, tests, c .before .before .before .if2 .left, ← c .before .before .before .before .begins .ensures)
 
-sub-result : tie.Need-sub-result
-sub-result c = search needs
+sub-t7 : tie.Need-sub-t7
+sub-t7 c = search needs
 
 returns-4 : tie.Need-returns-4
 unfolding quietWait
@@ -29,4 +29,4 @@ returns-4 c = search (needs, tests)
 
 pub quiet-wait-spec : {M : Type 1} → statement M
 quiet-wait-spec =
-    tie.close (tie.spec begins-requires returns returns-2 returns-3 sub-result returns-4)
+    tie.close (tie.spec begins-requires returns returns-2 returns-3 sub-t7 returns-4)

@@ -16,10 +16,10 @@ moved-quietly-requires : tie.Need-moved-quietly-requires
 unfolding progress modelTicked
 moved-quietly-requires c κs =
     let m = c .before .args .m in
-    let n = c .before .args .n in
+    let n = c .before .args .n .0 in
     let e = c .begin .ensures in
     let model : c .begin .result .model ≡ m = ap (λ (p : Progress). p .model) e in
-    let done : c .begin .result .done ≡ 0 = ap (λ (p : Progress). p .done) e in
+    let done : c .begin .result .done .0 ≡ 0 = ap (λ (p : Progress). p .done .0) e in
     (rw model (quiet-fits m n (c .before .pre .0)), omega (arith, done, c .before .pre .1))
 
 returns : tie.Need-returns

@@ -5,7 +5,7 @@ ghost use Prim.Native.Nat.{_≤_, _+_, _*_};
 ghost use lib.ListN.{length};
 ghost use Rattle.device.specs.Model.{isSound};
 ghost use Rattle.device.specs.Call.{Call};
-ghost use Rattle.device.specs.Reply.{reply, output, memory};
+ghost use Rattle.device.specs.Reply.{reply, output, memory, Transacted};
 ghost use Rattle.device.specs.Parts.{commandReply, writeReply, readReply, readOutput, refusalNumber, readFits, frameFits, flashFrameReply, flashFrameOutput, flashFrameMemory, wordsReply};
 use command::before_initialize;
 use command::command_busy;
@@ -105,7 +105,7 @@ fn words_reply(m: Model, d: Decoded, b: &[u8], out: &mut [u8], mem: &mut [u8]) -
 
 // One bus transaction: the bytes of a chip-enable window, the output buffer, and the user flash.
 pub fn transaction(m: Model, frame: &[u8], out: &mut [u8], mem: &mut [u8]) -> Reply
-    ensures { λ r. ⌜ (r ≡ reply m (Call.transaction (now (frame .entry)) (now (out .entry)) (now (mem .entry)))) × (now (out .exit) ≡ output m (Call.transaction (now (frame .entry)) (now (out .entry)) (now (mem .entry)))) × (now (mem .exit) ≡ memory m (Call.transaction (now (frame .entry)) (now (out .entry)) (now (mem .entry)))) ⌝ }
+    ensures { λ r. ⌜ Transacted m (Call.transaction (now (frame .entry)) (now (out .entry)) (now (mem .entry))) r (now (out .exit)) (now (mem .exit)) ⌝ }
 {
     if is_sound(m) {
         return sound_transaction(m, frame, out, mem);

@@ -2,7 +2,7 @@
 ghost use mathlib.Core.Path.{_≡_};
 ghost use Rattle.device.specs.Model.{freshModel};
 ghost use Rattle.device.specs.Call.{Call};
-ghost use Rattle.device.specs.Reply.{reply};
+ghost use Rattle.device.specs.Reply.{Replied};
 pub use bus::transaction;
 use device::Model;
 use device::Reply;
@@ -35,7 +35,7 @@ pub fn fresh() -> Model
 
 // One period of the 32,768 Hz clock.
 pub fn tick(m: Model) -> Reply
-    ensures { λ r. ⌜ r ≡ reply m Call.tick ⌝ }
+    ensures { λ r. ⌜ Replied m Call.tick r ⌝ }
 {
     if is_sound(m) {
         return sound_tick(m);
@@ -45,7 +45,7 @@ pub fn tick(m: Model) -> Reply
 
 // n such periods at once, at most 16,384.
 pub fn stretch(m: Model, n: Ticks) -> Reply
-    ensures { λ r. ⌜ r ≡ reply m (Call.stretch (n .0)) ⌝ }
+    ensures { λ r. ⌜ Replied m (Call.stretch (n .0)) r ⌝ }
 {
     if is_sound(m) {
         return sound_stretch(m, n);
@@ -55,7 +55,7 @@ pub fn stretch(m: Model, n: Ticks) -> Reply
 
 // The hit words of an awaited flight measurement: the up list and the down list.
 pub fn flight_delivery(m: Model, up: &[u32], down: &[u32]) -> Reply
-    ensures { λ r. ⌜ r ≡ reply m (Call.flight (now (up .entry)) (now (down .entry))) ⌝ }
+    ensures { λ r. ⌜ Replied m (Call.flight (now (up .entry)) (now (down .entry))) r ⌝ }
 {
     if is_sound(m) {
         return sound_flight_delivery(m, up, down);
@@ -65,7 +65,7 @@ pub fn flight_delivery(m: Model, up: &[u32], down: &[u32]) -> Reply
 
 // The words of an awaited temperature measurement, T1 to T4.
 pub fn temperature_delivery(m: Model, words: &[u32]) -> Reply
-    ensures { λ r. ⌜ r ≡ reply m (Call.temperature (now (words .entry))) ⌝ }
+    ensures { λ r. ⌜ Replied m (Call.temperature (now (words .entry))) r ⌝ }
 {
     if is_sound(m) {
         return sound_temperature_delivery(m, words);

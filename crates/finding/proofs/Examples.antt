@@ -1,26 +1,32 @@
--- What is returned, in plain numbers. Assumes nothing.
+-- What is returned, in plain numbers: the code of an answer's number, and its values. Assumes nothing.
 use Prim.Native.Nat.{ℕ}
 use mathlib.Core.List.{[], _∷_}
 use mathlib.Core.Path.{_≡_, refl}
 use lib.IntN.{ℤ, pos, negsuc}
 use Rattle.device.specs.declared.Told.{Told}
+use Rattle.device.specs.Question.{numberTold, valueTold}
 use Rattle.thermometer.specs.declared.InDegrees.{InDegrees}
+use Rattle.thermometer.specs.Degrees.{numberRead, valueRead}
 use Rattle.quietest.specs.declared.Place.{Place}
+use Rattle.quietest.specs.Quietest.{numberFound, valueFound}
 use Rattle.listing.specs.declared.Listed.{Listed}
+use Rattle.listing.specs.Listing.{numberListed, valueListed}
 use Rattle.setup_frames.specs.declared.Framed.{Framed}
-use Rattle.finding.specs.Finding.{toldCode, toldWords, readingCode, readingWords, placeCode, placeWords, placeRun, listedCode, listedWords, framedCode, framedWords}
+use Rattle.setup_frames.specs.Frames.{numberFramed, valuesFramed}
+use Rattle.outcome.specs.Code.{codeIn}
+use Rattle.finding.specs.Finding.{placeRun}
 
-question-told : (toldCode (Told.Value 7) ≡ 0xFFFFFFFF) × (toldWords (Told.Value 7) ≡ 7 ∷ []) × (toldCode (Told.Refused 4) ≡ 4) × (toldWords (Told.Refused 4) ≡ [])
-unfolding toldCode toldWords
+question-told : (codeIn (numberTold (Told.Value 7)) ≡ 0xFFFFFFFF) × (valueTold (Told.Value 7) ≡ 7 ∷ []) × (codeIn (numberTold (Told.Refused 4)) ≡ 4) × (valueTold (Told.Refused 4) ≡ [])
+unfolding numberTold valueTold
 question-told = (refl, refl, refl, refl)
 
-degrees-told : (readingCode (InDegrees.Thousandths 21500) ≡ 0xFFFFFFFF) × (readingWords (InDegrees.Thousandths 21500) ≡ 21500 ∷ [])
-    × (readingCode (InDegrees.Refused 14) ≡ 14) × (readingWords (InDegrees.Refused 14) ≡ [])
-unfolding readingCode readingWords
+degrees-told : (codeIn (numberRead (InDegrees.Thousandths 21500)) ≡ 0xFFFFFFFF) × (valueRead (InDegrees.Thousandths 21500) ≡ 21500 ∷ [])
+    × (codeIn (numberRead (InDegrees.Refused 14)) ≡ 14) × (valueRead (InDegrees.Refused 14) ≡ [])
+unfolding numberRead valueRead
 degrees-told = (refl, refl, refl, refl)
 
-place-told : (placeCode (Place.At 3) ≡ 0xFFFFFFFF) × (placeWords (Place.At 3) ≡ 3 ∷ []) × (placeCode (Place.Refused 18) ≡ 18) × (placeWords (Place.Refused 18) ≡ [])
-unfolding placeCode placeWords
+place-told : (codeIn (numberFound (Place.At 3)) ≡ 0xFFFFFFFF) × (valueFound (Place.At 3) ≡ 3 ∷ []) × (codeIn (numberFound (Place.Refused 18)) ≡ 18) × (valueFound (Place.Refused 18) ≡ [])
+unfolding numberFound valueFound
 place-told = (refl, refl, refl, refl)
 
 -- the run of two values from the second on
@@ -28,13 +34,13 @@ run-told : (placeRun (Place.At 1) (pos 5 ∷ negsuc 0 ∷ pos 7 ∷ pos 9 ∷ []
 unfolding placeRun
 run-told = (refl, refl)
 
-listing-told : (listedCode (Listed.Written 46) ≡ 0xFFFFFFFF) × (listedWords (Listed.Written 46) ≡ 46 ∷ []) × (listedCode (Listed.Refused 21) ≡ 21)
-    × (listedWords (Listed.Refused 21) ≡ [])
-unfolding listedCode listedWords
+listing-told : (codeIn (numberListed (Listed.Written 46)) ≡ 0xFFFFFFFF) × (valueListed (Listed.Written 46) ≡ 46 ∷ []) × (codeIn (numberListed (Listed.Refused 21)) ≡ 21)
+    × (valueListed (Listed.Refused 21) ≡ [])
+unfolding numberListed valueListed
 listing-told = (refl, refl, refl, refl)
 
 -- bytes, then frames
-frames-told : (framedCode (Framed.Frames 9 2) ≡ 0xFFFFFFFF) × (framedWords (Framed.Frames 9 2) ≡ 9 ∷ 2 ∷ []) × (framedCode (Framed.Refused 19) ≡ 19)
-    × (framedWords (Framed.Refused 19) ≡ [])
-unfolding framedCode framedWords
+frames-told : (codeIn (numberFramed (Framed.Frames 9 2)) ≡ 0xFFFFFFFF) × (valuesFramed (Framed.Frames 9 2) ≡ 9 ∷ 2 ∷ []) × (codeIn (numberFramed (Framed.Refused 19)) ≡ 19)
+    × (valuesFramed (Framed.Refused 19) ≡ [])
+unfolding numberFramed valuesFramed
 frames-told = (refl, refl, refl, refl)

@@ -2,8 +2,12 @@
 ghost use mathlib.Core.Path.{_≡_};
 ghost use Prim.Native.Nat.{_+_, _≤_};
 ghost use lib.ListN.{drop, length, set, take};
-ghost use Rattle.outcome.specs.Code.{filled};
-ghost use Rattle.finding.specs.Finding.{framedCode, framedWords, listedCode, listedWords, placeCode, placeWords, readingCode, readingWords, toldCode, toldWords};
+ghost use Rattle.outcome.specs.Code.{Gives, filled};
+ghost use Rattle.device.specs.Question.{numberTold, valueTold};
+ghost use Rattle.thermometer.specs.Degrees.{numberRead, valueRead};
+ghost use Rattle.quietest.specs.Quietest.{numberFound, valueFound};
+ghost use Rattle.listing.specs.Listing.{numberListed, valueListed};
+ghost use Rattle.setup_frames.specs.Frames.{numberFramed, valuesFramed};
 use device::Told;
 use listing::Listed;
 use outcome::ACCEPTED;
@@ -21,7 +25,7 @@ fn put_size(sizes: &mut [usize], i: usize, n: usize)
 }
 
 pub fn told(t: Told, words: &mut [u32]) -> u32
-    ensures { λ r. ⌜ (r ≡ toldCode t) × (now (words .exit) ≡ filled (now (words .entry)) (toldWords t)) ⌝ }
+    ensures { λ r. ⌜ Gives numberTold valueTold t (now (words .entry)) r (now (words .exit)) ⌝ }
 {
     match t {
         Told::Refused(number) => number,
@@ -33,7 +37,7 @@ pub fn told(t: Told, words: &mut [u32]) -> u32
 }
 
 pub fn reading(t: InDegrees, words: &mut [u32]) -> u32
-    ensures { λ r. ⌜ (r ≡ readingCode t) × (now (words .exit) ≡ filled (now (words .entry)) (readingWords t)) ⌝ }
+    ensures { λ r. ⌜ Gives numberRead valueRead t (now (words .entry)) r (now (words .exit)) ⌝ }
 {
     match t {
         InDegrees::Refused(number) => number,
@@ -45,7 +49,7 @@ pub fn reading(t: InDegrees, words: &mut [u32]) -> u32
 }
 
 pub fn place(p: Place, sizes: &mut [usize]) -> u32
-    ensures { λ r. ⌜ (r ≡ placeCode p) × (now (sizes .exit) ≡ filled (now (sizes .entry)) (placeWords p)) ⌝ }
+    ensures { λ r. ⌜ Gives numberFound valueFound p (now (sizes .entry)) r (now (sizes .exit)) ⌝ }
 {
     match p {
         Place::Refused(number) => number,
@@ -57,7 +61,7 @@ pub fn place(p: Place, sizes: &mut [usize]) -> u32
 }
 
 pub fn listed(l: Listed, sizes: &mut [usize]) -> u32
-    ensures { λ r. ⌜ (r ≡ listedCode l) × (now (sizes .exit) ≡ filled (now (sizes .entry)) (listedWords l)) ⌝ }
+    ensures { λ r. ⌜ Gives numberListed valueListed l (now (sizes .entry)) r (now (sizes .exit)) ⌝ }
 {
     match l {
         Listed::Refused(number) => number,
@@ -69,7 +73,7 @@ pub fn listed(l: Listed, sizes: &mut [usize]) -> u32
 }
 
 pub fn framed(f: Framed, sizes: &mut [usize]) -> u32
-    ensures { λ r. ⌜ (r ≡ framedCode f) × (now (sizes .exit) ≡ filled (now (sizes .entry)) (framedWords f)) ⌝ }
+    ensures { λ r. ⌜ Gives numberFramed valuesFramed f (now (sizes .entry)) r (now (sizes .exit)) ⌝ }
 {
     match f {
         Framed::Refused(number) => number,

@@ -85,7 +85,7 @@ abbrev report : Bool → Bool → Report
 report failed started = record { started = started; failed = failed }
 
 abbrev ticks : ℕ → ℕ → StretchReport
-ticks failed started = record { started = started; failed = failed }
+ticks failed started = record { started = record { 0 = started }; failed = record { 0 = failed } }
 
 -- transactions, and the buffer that they leave; a measurement that is awaited is busy, a delivery ends it
 abbrev transactionsRows : Rows

@@ -62,7 +62,7 @@ reportsAt i (Accepted flight temperature) = []
 reportsAt i (Ticked flight temperature) =
     reports (flight .failed) (flight .started) (temperature .failed) (temperature .started) i
 reportsAt i (Stretched flight temperature) =
-    reports (eqb (flight .failed) i) (eqb (flight .started) i) (eqb (temperature .failed) i) (eqb (temperature .started) i) i
+    reports (eqb (flight .failed .0) i) (eqb (flight .started .0) i) (eqb (temperature .failed .0) i) (eqb (temperature .started .0) i) i
 reportsAt i Good = []
 reportsAt i Failed = []
 

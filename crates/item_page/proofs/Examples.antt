@@ -55,7 +55,7 @@ measured =
       schedule = noSchedule;
       up = true;
       down = true;
-      sum = 0;
+      sum = record { 0 = 0 };
       ups = 0x00460000 ∷ 0x00470001 ∷ 0 ∷ 0 ∷ 0 ∷ 0 ∷ 0x00468000 ∷ [];
       downs = 0x00480000 ∷ 0x00490000 ∷ 0 ∷ 0 ∷ 0 ∷ 0 ∷ 0x00488000 ∷ [];
       difference = 0xFFFE0000;

@@ -97,13 +97,13 @@ module _ (m : Model) {bytes lengths bytes′ lengths′ : List ℕ} {r : Framed}
   unfolding answerBy bytesBy lengthsBy fs
   whole sound =
       let v = sound-verdict sound in (
-        rw (long, many, v) at (wrote .answer),
+        rw (long, many, v) at (wrote .answer .same),
         rw (rw (long, many, v) at (wrote .inBytes), rw (long, many, v) at (wrote .inLengths)) (cut-back fs bytes lengths),
       )
 
   none : isSound m ≡ false → r ≡ Refused 0
   unfolding answerBy
-  none unsound = rw (long, many, unsound-verdict unsound) at (wrote .answer)
+  none unsound = rw (long, many, unsound-verdict unsound) at (wrote .answer .same)
 
   pub frames-told : {b n : ℕ} → r ≡ Frames b n → (l : Log) → framesTold n (cut bytes′ (take n lengths′)) l ≡ framesLine m l
   unfolding framesLine fs

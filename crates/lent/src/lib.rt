@@ -1,7 +1,6 @@
 // Calls on a model that its caller keeps and lends by reference.
-ghost use mathlib.Core.Path.{_≡_};
 ghost use Rattle.device.specs.Call.{Call};
-ghost use Rattle.device.specs.Reply.{reply};
+ghost use Rattle.device.specs.Reply.{Replied};
 use converter::stretch;
 use device::Answer;
 use device::Model;
@@ -9,7 +8,7 @@ use unit::Ticks;
 
 // The model is moved by n ticks, or left as it was where the answer is a refusal.
 pub fn stretch_own(m: &mut Model, n: Ticks) -> Answer
-    ensures { λ r. ⌜ (r ≡ reply (now (m .entry)) (Call.stretch (n .0)) .answer) × (now (m .exit) ≡ reply (now (m .entry)) (Call.stretch (n .0)) .model) ⌝ }
+    ensures { λ r. ⌜ Replied (now (m .entry)) (Call.stretch (n .0)) record { answer = r; model = now (m .exit) } ⌝ }
 {
     let r = stretch(*m, n);
     *m = r.model;

@@ -19,7 +19,7 @@ use Rattle.numeral.specs.Print.{Nearest}
 use Rattle.numeral.proofs.PrintLaws.{rounded, four-decimals-value, decimal-first, length-decimal}
 use Rattle.listing.specs.declared.Listed.the-variants.{Written}
 use Rattle.listing.specs.Listing.{sign, rightJustified, line, lineLength, lines, lastAbove, Outcome, refused, written, listing}
-use Rattle.listing.specs.Listing.{numberIn, countIn}
+use Rattle.listing.specs.Listing.{numberListed, valueListed}
 use Rattle.listing.proofs.Time.{time-fits, length-time}
 use Rattle.listing.proofs.Sequence.{line-length}
 
@@ -151,13 +151,13 @@ apart : {t : Bool} → t ≡ true → ¬ (t ≡ false)
 apart p q = let z : _≡_ {A = ℕ} 0 1 = cc in omega arith
 
 -- what an answer says, of a refusal and of lines written
-refused-says : (n : ℕ) (out : List ℕ) {o : Outcome} → o ≡ refused n out → (numberIn (o .answer) ≡ n ∷ []) × (countIn (o .answer) ≡ [])
-unfolding numberIn countIn
-refused-says n out s = (ap (λ (p : Outcome). numberIn (p .answer)) s, ap (λ (p : Outcome). countIn (p .answer)) s)
+refused-says : (n : ℕ) (out : List ℕ) {o : Outcome} → o ≡ refused n out → (numberListed (o .answer) ≡ n ∷ []) × (valueListed (o .answer) ≡ [])
+unfolding numberListed valueListed
+refused-says n out s = (ap (λ (p : Outcome). numberListed (p .answer)) s, ap (λ (p : Outcome). valueListed (p .answer)) s)
 
-written-says : (text out : List ℕ) {o : Outcome} → o ≡ written text out → (numberIn (o .answer) ≡ []) × (countIn (o .answer) ≡ length text ∷ [])
-unfolding numberIn countIn
-written-says text out s = (ap (λ (p : Outcome). numberIn (p .answer)) s, ap (λ (p : Outcome). countIn (p .answer)) s)
+written-says : (text out : List ℕ) {o : Outcome} → o ≡ written text out → (numberListed (o .answer) ≡ []) × (valueListed (o .answer) ≡ length text ∷ [])
+unfolding numberListed valueListed
+written-says text out s = (ap (λ (p : Outcome). numberListed (p .answer)) s, ap (λ (p : Outcome). valueListed (p .answer)) s)
 
 says-nothing : {n : ℕ} {G : Type 0} → [] ≡ n ∷ [] → G
 says-nothing e = let z : _≡_ {A = ℕ} 0 1 = ap length e in absurd (omega arith)
@@ -184,43 +184,43 @@ module _ (d : ℕ) (ds : List ℤ) (first : ℕ) (out : List ℕ) where
       (λ e. let low : ¬ Above d first (length ds) = λ a. apart (means .1 a) e in
       by-ltb (length out) (length ds * lineLength d) (λ l t. g low l (rw (e, t))) (λ l t. h low l (rw (e, t))))
 
-  pub twenty-exactly : (numberIn (done .answer) ≡ 20 ∷ []) ↔ Above d first (length ds)
+  pub twenty-exactly : (numberListed (done .answer) ≡ 20 ∷ []) ↔ Above d first (length ds)
   twenty-exactly = (there, back)
     where
-      there : numberIn (done .answer) ≡ 20 ∷ [] → Above d first (length ds)
+      there : numberListed (done .answer) ≡ 20 ∷ [] → Above d first (length ds)
       there e =
           by-outcome (λ a s. a)
           (λ a l s. let z : _≡_ {A = ℕ} 21 20 = says-same (sym (refused-says 21 out s .0) ∙ e) in absurd (omega arith))
           (λ a l s. says-nothing (sym (written-says (lines d first ds) out s .0) ∙ e))
 
-      back : Above d first (length ds) → numberIn (done .answer) ≡ 20 ∷ []
+      back : Above d first (length ds) → numberListed (done .answer) ≡ 20 ∷ []
       back a = by-outcome (λ b s. refused-says 20 out s .0) (λ n l s. absurd (n a)) (λ n l s. absurd (n a))
 
   -- "then number 21 when the output is shorter than 17 bytes a line"
-  pub twenty-one-exactly : (numberIn (done .answer) ≡ 21 ∷ []) ↔ ((¬ Above d first (length ds)) × (length out < length ds * lineLength d))
+  pub twenty-one-exactly : (numberListed (done .answer) ≡ 21 ∷ []) ↔ ((¬ Above d first (length ds)) × (length out < length ds * lineLength d))
   twenty-one-exactly = (there, back)
     where
-      there : numberIn (done .answer) ≡ 21 ∷ [] → (¬ Above d first (length ds)) × (length out < length ds * lineLength d)
+      there : numberListed (done .answer) ≡ 21 ∷ [] → (¬ Above d first (length ds)) × (length out < length ds * lineLength d)
       there e =
           by-outcome
           (λ a s. let z : _≡_ {A = ℕ} 20 21 = says-same (sym (refused-says 20 out s .0) ∙ e) in absurd (omega arith))
           (λ n l s. (n, l))
           (λ n l s. says-nothing (sym (written-says (lines d first ds) out s .0) ∙ e))
 
-      back : (¬ Above d first (length ds)) × (length out < length ds * lineLength d) → numberIn (done .answer) ≡ 21 ∷ []
+      back : (¬ Above d first (length ds)) × (length out < length ds * lineLength d) → numberListed (done .answer) ≡ 21 ∷ []
       back p = by-outcome (λ a s. absurd (p .0 a)) (λ n l s. refused-says 21 out s .0) (λ n l s. absurd (omega (arith, p .1)))
 
-  pub only-numbers : (n : ℕ) → numberIn (done .answer) ≡ n ∷ [] → (n ≡ 20) ⊎ (n ≡ 21)
+  pub only-numbers : (n : ℕ) → numberListed (done .answer) ≡ n ∷ [] → (n ≡ 20) ⊎ (n ≡ 21)
   only-numbers n e =
       by-outcome (λ a s. inl (says-same (sym e ∙ refused-says 20 out s .0))) (λ a l s. inr (says-same (sym e ∙ refused-says 21 out s .0)))
       (λ a l s. says-nothing (sym (written-says (lines d first ds) out s .0) ∙ e))
 
   -- "nothing is written then"
-  pub refused-keeps : (n : ℕ) → numberIn (done .answer) ≡ n ∷ [] → done .bytes ≡ out
+  pub refused-keeps : (n : ℕ) → numberListed (done .answer) ≡ n ∷ [] → done .bytes ≡ out
   refused-keeps n e = by-outcome (λ a s. left s) (λ a l s. left s) (λ a l s. says-nothing (sym (written-says (lines d first ds) out s .0) ∙ e))
 
   -- the lines from the start on; "Places past the last line keep their values"
-  pub written-means : Fit ds → (n : ℕ) → countIn (done .answer) ≡ n ∷ []
+  pub written-means : Fit ds → (n : ℕ) → valueListed (done .answer) ≡ n ∷ []
       → (n ≡ length ds * lineLength d) × (take n (done .bytes) ≡ lines d first ds) × (drop n (done .bytes) ≡ drop n out)
   written-means fit n e =
       by-outcome (λ a s. says-nothing (sym (refused-says 20 out s .1) ∙ e)) (λ a l s. says-nothing (sym (refused-says 21 out s .1) ∙ e))

@@ -73,10 +73,16 @@ listing d differences first out =
     (written (lines d first differences) out))
 
 -- What an answer says: the number of a refusal; how many bytes were written.
-unfoldable pub numberIn : Listed → List ℕ
-numberIn (Refused number) = number ∷ []
-numberIn (Written count) = []
+unfoldable pub numberListed : Listed → List ℕ
+numberListed (Refused number) = number ∷ []
+numberListed (Written count) = []
 
-unfoldable pub countIn : Listed → List ℕ
-countIn (Refused number) = []
-countIn (Written count) = count ∷ []
+unfoldable pub valueListed : Listed → List ℕ
+valueListed (Refused number) = []
+valueListed (Written count) = count ∷ []
+
+abbrev pub numberOut : Outcome → List ℕ
+numberOut o = numberListed (o .answer)
+
+abbrev pub valueOut : Outcome → List ℕ
+valueOut o = valueListed (o .answer)

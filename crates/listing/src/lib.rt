@@ -1,7 +1,8 @@
 // A printed listing of differences: for each, a line with its capture number and its nanoseconds.
 ghost use mathlib.Core.Path.{_≡_};
 ghost use Prim.Native.Nat.{_≤_};
-ghost use Rattle.listing.specs.Listing.{captureDigits, usual, listing};
+ghost use Rattle.unit.specs.Says.{Says};
+ghost use Rattle.listing.specs.Listing.{captureDigits, usual, listing, numberOut, valueOut};
 
 mod line;
 mod lines;
@@ -28,14 +29,14 @@ pub enum Listed {
 // Lists the differences, whose captures count up from `first`, in the first places of `out`; a capture
 // number has eight digits.
 pub fn write_listing(differences: &[i32], first: u32, out: &mut [u8]) -> Listed
-    ensures { λ r. ⌜ record { answer = r; bytes = now (out .exit) } ≡ listing (captureDigits usual) (now (differences .entry)) first (now (out .entry)) ⌝ }
+    ensures { λ r. ⌜ Says numberOut valueOut record { answer = r; bytes = now (out .exit) } (listing (captureDigits usual) (now (differences .entry)) first (now (out .entry))) ⌝ }
 {
     write_listing_as(Width::Eight, differences, first, out)
 }
 
 // Lists the differences as `write_listing` does, a capture number having as many digits as `width` names.
 pub fn write_listing_as(width: Width, differences: &[i32], first: u32, out: &mut [u8]) -> Listed
-    ensures { λ r. ⌜ record { answer = r; bytes = now (out .exit) } ≡ listing (captureDigits width) (now (differences .entry)) first (now (out .entry)) ⌝ }
+    ensures { λ r. ⌜ Says numberOut valueOut record { answer = r; bytes = now (out .exit) } (listing (captureDigits width) (now (differences .entry)) first (now (out .entry))) ⌝ }
 {
     write_digits(capture_digits(width), differences, first, out)
 }

@@ -4,16 +4,15 @@ use mathlib.Core.List.{List}
 use lib.Dec.{eqb}
 use lib.IntN.{ℤ}
 use Rattle.unit.specs.Choice.{pick}
-use Rattle.outcome.specs.Code.{filled}
-use Rattle.finding.specs.Finding.{listedCode, listedWords}
+use Rattle.outcome.specs.Code.{codeIn, filled}
 use Rattle.listing.specs.declared.Width.the-variants.{Two, Eight}
-use Rattle.listing.specs.Listing.{captureDigits, listing}
+use Rattle.listing.specs.Listing.{captureDigits, listing, numberOut, valueOut}
 
 -- A listing's capture numbers have as many digits as a `Width` gives them; number 22 for another count.
 unfoldable pub listedNumber : ℕ → List ℤ → ℕ → List ℕ → ℕ
 listedNumber digits differences first out =
-    pick (eqb digits (captureDigits Two)) (listedCode (listing (captureDigits Two) differences first out .answer))
-    (pick (eqb digits (captureDigits Eight)) (listedCode (listing (captureDigits Eight) differences first out .answer)) 22)
+    pick (eqb digits (captureDigits Two)) (codeIn (numberOut (listing (captureDigits Two) differences first out)))
+    (pick (eqb digits (captureDigits Eight)) (codeIn (numberOut (listing (captureDigits Eight) differences first out))) 22)
 
 unfoldable pub listedOut : ℕ → List ℤ → ℕ → List ℕ → List ℕ
 listedOut digits differences first out =
@@ -21,5 +20,5 @@ listedOut digits differences first out =
 
 unfoldable pub listedSizes : ℕ → List ℤ → ℕ → List ℕ → List ℕ → List ℕ
 listedSizes digits differences first out sizes =
-    pick (eqb digits (captureDigits Two)) (filled sizes (listedWords (listing (captureDigits Two) differences first out .answer)))
-    (pick (eqb digits (captureDigits Eight)) (filled sizes (listedWords (listing (captureDigits Eight) differences first out .answer))) sizes)
+    pick (eqb digits (captureDigits Two)) (filled sizes (valueOut (listing (captureDigits Two) differences first out)))
+    (pick (eqb digits (captureDigits Eight)) (filled sizes (valueOut (listing (captureDigits Eight) differences first out))) sizes)

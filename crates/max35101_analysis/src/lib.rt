@@ -1,12 +1,12 @@
 // Degrees, quiet runs, nanoseconds and listings: calls beside the model.
 ghost use mathlib.Core.Path.{_≡_};
 ghost use Rattle.thermometer.specs.Table.{pt1000};
-ghost use Rattle.thermometer.specs.Degrees.{degreesOver, degreesBy};
-ghost use Rattle.quietest.specs.Quietest.{quietestPlace};
+ghost use Rattle.thermometer.specs.Degrees.{degreesOver, degreesBy, numberRead, valueRead};
+ghost use Rattle.quietest.specs.Quietest.{quietestPlace, numberFound, valueFound};
 ghost use Rattle.nanosecond.specs.Nanosecond.{Nanoseconds};
 ghost use Rattle.listing.specs.Listing.{captureDigits, usual};
-ghost use Rattle.outcome.specs.Code.{filled};
-ghost use Rattle.finding.specs.Finding.{placeCode, placeRun, placeWords, readingCode, readingWords};
+ghost use Rattle.outcome.specs.Code.{Gives, codeIn, filled};
+ghost use Rattle.finding.specs.Finding.{placeRun};
 ghost use Rattle.max35101_analysis.specs.Listed.{listedNumber, listedOut, listedSizes};
 use finding::copy_run;
 use finding::listed;
@@ -25,7 +25,7 @@ use thermometer::degrees_by;
 // Thousandths of a degree of a PT1000 probe, from its word and the word of its reference.
 #[no_mangle]
 pub extern "C" fn max35101_degrees(probe: u32, reference: u32, answer: &mut [u32]) -> u32
-    ensures { λ r. ⌜ (r ≡ readingCode (degreesOver pt1000 probe reference)) × (now (answer .exit) ≡ filled (now (answer .entry)) (readingWords (degreesOver pt1000 probe reference))) ⌝ }
+    ensures { λ r. ⌜ Gives numberRead valueRead (degreesOver pt1000 probe reference) (now (answer .entry)) r (now (answer .exit)) ⌝ }
 {
     reading(degrees(probe, reference), answer)
 }
@@ -38,7 +38,7 @@ pub extern "C" fn max35101_degrees_by(
     reference: u32,
     answer: &mut [u32],
 ) -> u32
-    ensures { λ r. ⌜ (r ≡ readingCode (degreesBy (now (table .entry)) probe reference)) × (now (answer .exit) ≡ filled (now (answer .entry)) (readingWords (degreesBy (now (table .entry)) probe reference))) ⌝ }
+    ensures { λ r. ⌜ Gives numberRead valueRead (degreesBy (now (table .entry)) probe reference) (now (answer .entry)) r (now (answer .exit)) ⌝ }
 {
     reading(degrees_by(table, probe, reference), answer)
 }
@@ -46,7 +46,7 @@ pub extern "C" fn max35101_degrees_by(
 // The place of the quietest run of `width` neighbours, the earliest among equals.
 #[no_mangle]
 pub extern "C" fn max35101_quietest_place(values: &[i32], width: usize, answer: &mut [usize]) -> u32
-    ensures { λ r. ⌜ (r ≡ placeCode (quietestPlace (now (values .entry)) width)) × (now (answer .exit) ≡ filled (now (answer .entry)) (placeWords (quietestPlace (now (values .entry)) width))) ⌝ }
+    ensures { λ r. ⌜ Gives numberFound valueFound (quietestPlace (now (values .entry)) width) (now (answer .entry)) r (now (answer .exit)) ⌝ }
 {
     place(quietest_place(values, width), answer)
 }
@@ -54,7 +54,7 @@ pub extern "C" fn max35101_quietest_place(values: &[i32], width: usize, answer: 
 // The values of that run.
 #[no_mangle]
 pub extern "C" fn max35101_quietest(values: &[i32], width: usize, run: &mut [i32]) -> u32
-    ensures { λ r. ⌜ (r ≡ placeCode (quietestPlace (now (values .entry)) width)) × (now (run .exit) ≡ filled (now (run .entry)) (placeRun (quietestPlace (now (values .entry)) width) (now (values .entry)) width)) ⌝ }
+    ensures { λ r. ⌜ (r ≡ codeIn (numberFound (quietestPlace (now (values .entry)) width))) × (now (run .exit) ≡ filled (now (run .entry)) (placeRun (quietestPlace (now (values .entry)) width) (now (values .entry)) width)) ⌝ }
 {
     let p = quietest_place(values, width);
     match p {

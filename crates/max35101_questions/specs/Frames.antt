@@ -4,13 +4,12 @@ use mathlib.Core.Path.{_≡_}
 use mathlib.Core.List.{List}
 use lib.ListN.{length}
 use Rattle.device.specs.declared.Model.{Model}
-use Rattle.setup_frames.specs.Frames.{framesVerdict, answerBy, bytesBy, lengthsBy}
-use Rattle.outcome.specs.Code.{filled}
-use Rattle.finding.specs.Finding.{framedCode, framedWords}
+use Rattle.setup_frames.specs.Frames.{framesVerdict, answerBy, bytesBy, lengthsBy, numberFramed, valuesFramed}
+use Rattle.outcome.specs.Code.{Gives}
 
 -- Set-up frames: the answer's number and sizes, and both buffers.
 pub record SetUp (m : Model) (bytes lengths sizes : List ℕ) (code : ℕ) (bytes′ lengths′ sizes′ : List ℕ) : Type 0 where
-  pub number : code ≡ framedCode (answerBy (framesVerdict m (length bytes) (length lengths)) (m .setup))
-  pub answer : sizes′ ≡ filled sizes (framedWords (answerBy (framesVerdict m (length bytes) (length lengths)) (m .setup)))
+  pub answer :
+      Gives numberFramed valuesFramed (answerBy (framesVerdict m (length bytes) (length lengths)) (m .setup)) sizes code sizes′
   pub inBytes : bytes′ ≡ bytesBy (framesVerdict m (length bytes) (length lengths)) (m .setup) bytes
   pub inLengths : lengths′ ≡ lengthsBy (framesVerdict m (length bytes) (length lengths)) (m .setup) lengths

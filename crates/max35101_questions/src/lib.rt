@@ -1,13 +1,11 @@
 // Questions about a model, which change nothing. Each value goes to the first place of the lent words.
 ghost use mathlib.Core.Path.{_≡_};
-ghost use Rattle.device.specs.Question.{interruptPending, awaitedTold, regulatorOn, peek};
-ghost use Rattle.run_state.specs.State.{initialisedTold, leftTold};
-ghost use Rattle.run_state.specs.Event.{placeTold};
+ghost use Rattle.device.specs.Question.{numberTold, valueTold, interruptPending, awaitedTold, regulatorOn, peek};
+ghost use Rattle.run_state.specs.State.{initialisedTold, leftTold, numberLeft, valuesLeft};
+ghost use Rattle.run_state.specs.Event.{placeTold, numberPlaced, valuesOf, valuesPlaced};
 ghost use Rattle.max35101_questions.specs.Frames.{SetUp};
-ghost use Rattle.max35101_questions.specs.Places.{leftCode, leftWords, placeWords, placedCode, placedWords};
 ghost use Rattle.layout.specs.Layout.{loaded};
-ghost use Rattle.outcome.specs.Code.{filled};
-ghost use Rattle.finding.specs.Finding.{toldCode, toldWords};
+ghost use Rattle.outcome.specs.Code.{Gives, filled};
 use converter::flight_awaited;
 use converter::flight_left;
 use converter::flight_place;
@@ -32,7 +30,7 @@ use snapshot::load;
 // The INT answer: 1 for yes, 0 for no.
 #[no_mangle]
 pub extern "C" fn max35101_interrupt_pending(model: &[u8], answer: &mut [u32]) -> u32
-    ensures { λ r. ⌜ (r ≡ toldCode (interruptPending (loaded (now (model .entry))))) × (now (answer .exit) ≡ filled (now (answer .entry)) (toldWords (interruptPending (loaded (now (model .entry)))))) ⌝ }
+    ensures { λ r. ⌜ Gives numberTold valueTold (interruptPending (loaded (now (model .entry)))) (now (answer .entry)) r (now (answer .exit)) ⌝ }
 {
     told(interrupt_pending(load(model)), answer)
 }
@@ -40,7 +38,7 @@ pub extern "C" fn max35101_interrupt_pending(model: &[u8], answer: &mut [u32]) -
 // Whether a flight measurement is awaited: 1 or 0.
 #[no_mangle]
 pub extern "C" fn max35101_flight_awaited(model: &[u8], answer: &mut [u32]) -> u32
-    ensures { λ r. ⌜ (r ≡ toldCode (awaitedTold (loaded (now (model .entry))) (loaded (now (model .entry)) .flight .schedule))) × (now (answer .exit) ≡ filled (now (answer .entry)) (toldWords (awaitedTold (loaded (now (model .entry))) (loaded (now (model .entry)) .flight .schedule)))) ⌝ }
+    ensures { λ r. ⌜ Gives numberTold valueTold (awaitedTold (loaded (now (model .entry))) (loaded (now (model .entry)) .flight .schedule)) (now (answer .entry)) r (now (answer .exit)) ⌝ }
 {
     told(flight_awaited(load(model)), answer)
 }
@@ -48,13 +46,13 @@ pub extern "C" fn max35101_flight_awaited(model: &[u8], answer: &mut [u32]) -> u
 // Whether a temperature measurement is awaited: 1 or 0.
 #[no_mangle]
 pub extern "C" fn max35101_temperature_awaited(model: &[u8], answer: &mut [u32]) -> u32
-    ensures { λ r. ⌜ (r ≡ toldCode (awaitedTold (loaded (now (model .entry))) (loaded (now (model .entry)) .temperature .schedule))) × (now (answer .exit) ≡ filled (now (answer .entry)) (toldWords (awaitedTold (loaded (now (model .entry))) (loaded (now (model .entry)) .temperature .schedule)))) ⌝ }
+    ensures { λ r. ⌜ Gives numberTold valueTold (awaitedTold (loaded (now (model .entry))) (loaded (now (model .entry)) .temperature .schedule)) (now (answer .entry)) r (now (answer .exit)) ⌝ }
 {
     told(temperature_awaited(load(model)), answer)
 }
 
 fn left(l: Left, words: &mut [u32]) -> u32
-    ensures { λ r. ⌜ (r ≡ leftCode l) × (now (words .exit) ≡ filled (now (words .entry)) (leftWords l)) ⌝ }
+    ensures { λ r. ⌜ Gives numberLeft valuesLeft l (now (words .entry)) r (now (words .exit)) ⌝ }
 {
     match l {
         Left::Refused(number) => number,
@@ -68,7 +66,7 @@ fn left(l: Left, words: &mut [u32]) -> u32
 // In how many ticks the awaited flight measurement fails; 0 where none is awaited.
 #[no_mangle]
 pub extern "C" fn max35101_flight_left(model: &[u8], answer: &mut [u32]) -> u32
-    ensures { λ r. ⌜ (r ≡ leftCode (leftTold (loaded (now (model .entry))) (loaded (now (model .entry)) .flight .schedule))) × (now (answer .exit) ≡ filled (now (answer .entry)) (leftWords (leftTold (loaded (now (model .entry))) (loaded (now (model .entry)) .flight .schedule)))) ⌝ }
+    ensures { λ r. ⌜ Gives numberLeft valuesLeft (leftTold (loaded (now (model .entry))) (loaded (now (model .entry)) .flight .schedule)) (now (answer .entry)) r (now (answer .exit)) ⌝ }
 {
     left(flight_left(load(model)), answer)
 }
@@ -76,13 +74,13 @@ pub extern "C" fn max35101_flight_left(model: &[u8], answer: &mut [u32]) -> u32
 // In how many ticks the awaited temperature measurement fails; 0 where none is awaited.
 #[no_mangle]
 pub extern "C" fn max35101_temperature_left(model: &[u8], answer: &mut [u32]) -> u32
-    ensures { λ r. ⌜ (r ≡ leftCode (leftTold (loaded (now (model .entry))) (loaded (now (model .entry)) .temperature .schedule))) × (now (answer .exit) ≡ filled (now (answer .entry)) (leftWords (leftTold (loaded (now (model .entry))) (loaded (now (model .entry)) .temperature .schedule)))) ⌝ }
+    ensures { λ r. ⌜ Gives numberLeft valuesLeft (leftTold (loaded (now (model .entry))) (loaded (now (model .entry)) .temperature .schedule)) (now (answer .entry)) r (now (answer .exit)) ⌝ }
 {
     left(temperature_left(load(model)), answer)
 }
 
 fn put_place(p: Place, words: &mut [u32])
-    ensures { λ r. ⌜ now (words .exit) ≡ filled (now (words .entry)) (placeWords p) ⌝ }
+    ensures { λ r. ⌜ now (words .exit) ≡ filled (now (words .entry)) (valuesOf p) ⌝ }
 {
     let next = p.next;
     put_four(
@@ -98,7 +96,7 @@ fn put_place(p: Place, words: &mut [u32])
 }
 
 fn placed(p: Placed, words: &mut [u32]) -> u32
-    ensures { λ r. ⌜ (r ≡ placedCode p) × (now (words .exit) ≡ filled (now (words .entry)) (placedWords p)) ⌝ }
+    ensures { λ r. ⌜ Gives numberPlaced valuesPlaced p (now (words .entry)) r (now (words .exit)) ⌝ }
 {
     match p {
         Placed::Refused(number) => number,
@@ -117,7 +115,7 @@ fn placed(p: Placed, words: &mut [u32]) -> u32
 // started, settled and good, the ticks until the next start, and whether it is a continuous event.
 #[no_mangle]
 pub extern "C" fn max35101_flight_place(model: &[u8], answer: &mut [u32]) -> u32
-    ensures { λ r. ⌜ (r ≡ placedCode (placeTold (loaded (now (model .entry))) (loaded (now (model .entry)) .flight .schedule))) × (now (answer .exit) ≡ filled (now (answer .entry)) (placedWords (placeTold (loaded (now (model .entry))) (loaded (now (model .entry)) .flight .schedule)))) ⌝ }
+    ensures { λ r. ⌜ Gives numberPlaced valuesPlaced (placeTold (loaded (now (model .entry))) (loaded (now (model .entry)) .flight .schedule)) (now (answer .entry)) r (now (answer .exit)) ⌝ }
 {
     placed(flight_place(load(model)), answer)
 }
@@ -125,7 +123,7 @@ pub extern "C" fn max35101_flight_place(model: &[u8], answer: &mut [u32]) -> u32
 // The same of the event of temperatures.
 #[no_mangle]
 pub extern "C" fn max35101_temperature_place(model: &[u8], answer: &mut [u32]) -> u32
-    ensures { λ r. ⌜ (r ≡ placedCode (placeTold (loaded (now (model .entry))) (loaded (now (model .entry)) .temperature .schedule))) × (now (answer .exit) ≡ filled (now (answer .entry)) (placedWords (placeTold (loaded (now (model .entry))) (loaded (now (model .entry)) .temperature .schedule)))) ⌝ }
+    ensures { λ r. ⌜ Gives numberPlaced valuesPlaced (placeTold (loaded (now (model .entry))) (loaded (now (model .entry)) .temperature .schedule)) (now (answer .entry)) r (now (answer .exit)) ⌝ }
 {
     placed(temperature_place(load(model)), answer)
 }
@@ -133,7 +131,7 @@ pub extern "C" fn max35101_temperature_place(model: &[u8], answer: &mut [u32]) -
 // Whether the model is initialised: 1 or 0.
 #[no_mangle]
 pub extern "C" fn max35101_initialised(model: &[u8], answer: &mut [u32]) -> u32
-    ensures { λ r. ⌜ (r ≡ toldCode (initialisedTold (loaded (now (model .entry))))) × (now (answer .exit) ≡ filled (now (answer .entry)) (toldWords (initialisedTold (loaded (now (model .entry)))))) ⌝ }
+    ensures { λ r. ⌜ Gives numberTold valueTold (initialisedTold (loaded (now (model .entry)))) (now (answer .entry)) r (now (answer .exit)) ⌝ }
 {
     told(initialised(load(model)), answer)
 }
@@ -141,7 +139,7 @@ pub extern "C" fn max35101_initialised(model: &[u8], answer: &mut [u32]) -> u32
 // Whether the regulator of the user flash is on: 1 or 0.
 #[no_mangle]
 pub extern "C" fn max35101_regulator_on(model: &[u8], answer: &mut [u32]) -> u32
-    ensures { λ r. ⌜ (r ≡ toldCode (regulatorOn (loaded (now (model .entry))))) × (now (answer .exit) ≡ filled (now (answer .entry)) (toldWords (regulatorOn (loaded (now (model .entry)))))) ⌝ }
+    ensures { λ r. ⌜ Gives numberTold valueTold (regulatorOn (loaded (now (model .entry)))) (now (answer .entry)) r (now (answer .exit)) ⌝ }
 {
     told(regulator_on(load(model)), answer)
 }
@@ -149,7 +147,7 @@ pub extern "C" fn max35101_regulator_on(model: &[u8], answer: &mut [u32]) -> u32
 // The word that a read at an address, B0h to FFh, would give, with nothing cleared.
 #[no_mangle]
 pub extern "C" fn max35101_peek(model: &[u8], address: u32, answer: &mut [u32]) -> u32
-    ensures { λ r. ⌜ (r ≡ toldCode (peek (loaded (now (model .entry))) address)) × (now (answer .exit) ≡ filled (now (answer .entry)) (toldWords (peek (loaded (now (model .entry))) address))) ⌝ }
+    ensures { λ r. ⌜ Gives numberTold valueTold (peek (loaded (now (model .entry))) address) (now (answer .entry)) r (now (answer .exit)) ⌝ }
 {
     told(peek(load(model), address), answer)
 }

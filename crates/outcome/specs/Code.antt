@@ -2,7 +2,7 @@
 use Prim.Native.Nat.{ℕ}
 use mathlib.Core.Path.{_≡_}
 use mathlib.Core.List.{List, [], _∷_}
-use lib.ListN.{length}
+use lib.ListN.{length, getD}
 use lib.Dec.{eqb}
 use lib.Seq.{sets}
 use mir.Val.{boolByte}
@@ -19,6 +19,9 @@ accepted = 0xFFFFFFFF
 
 abbrev pub failed : ℕ
 failed = 0xFFFFFFFE
+
+abbrev pub codeIn : List ℕ → ℕ
+codeIn numbers = getD numbers 0 accepted
 
 unfoldable pub codeOf : Answer → ℕ
 codeOf (Refused n) = n
@@ -41,6 +44,11 @@ wordsOf Failed = []
 -- Words go to the first places of the buffer, as many as it has; its further places stay.
 abbrev pub filled : {A : Type 0} → List A → List A → List A
 filled buffer words = sets buffer 0 words
+
+-- A question's or an analysis's answer `a`, handed over: the code by its number, and its values in the first places of the buffer.
+pub record Gives {A : Type 0} (number values : A → List ℕ) (a : A) (words : List ℕ) (code : ℕ) (words′ : List ℕ) : Type 0 where
+  pub coded : code ≡ codeIn (number a)
+  pub worded : words′ ≡ filled words (values a)
 
 -- The bytes of a model, in a buffer of their length and in no other.
 unfoldable pub kept : Model → List ℕ → List ℕ

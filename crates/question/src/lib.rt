@@ -1,6 +1,6 @@
 // Questions about a model: INT, what is awaited, the regulator of the user flash, and a register's word. They change nothing.
-ghost use mathlib.Core.Path.{_≡_};
-ghost use Rattle.device.specs.Question.{interruptPending, awaitedTold, regulatorOn, peek};
+ghost use Rattle.unit.specs.Says.{Says};
+ghost use Rattle.device.specs.Question.{numberTold, valueTold, interruptPending, awaitedTold, regulatorOn, peek};
 use device::Model;
 use device::Schedule;
 use device::Told;
@@ -10,7 +10,7 @@ use status::status_word;
 
 // The INT answer: 1 for yes, 0 for no.
 pub fn interrupt_pending(m: Model) -> Told
-    ensures { λ r. ⌜ r ≡ interruptPending m ⌝ }
+    ensures { λ r. ⌜ Says numberTold valueTold r (interruptPending m) ⌝ }
 {
     if is_sound(m) {
         let setup = m.setup;
@@ -27,7 +27,7 @@ pub fn interrupt_pending(m: Model) -> Told
 }
 
 fn awaited_told(m: Model, k: Schedule) -> Told
-    ensures { λ r. ⌜ r ≡ awaitedTold m k ⌝ }
+    ensures { λ r. ⌜ Says numberTold valueTold r (awaitedTold m k) ⌝ }
 {
     if is_sound(m) {
         if is_awaited(k) {
@@ -40,7 +40,7 @@ fn awaited_told(m: Model, k: Schedule) -> Told
 
 // Whether a flight measurement is awaited: 1 or 0.
 pub fn flight_awaited(m: Model) -> Told
-    ensures { λ r. ⌜ r ≡ awaitedTold m (m .flight .schedule) ⌝ }
+    ensures { λ r. ⌜ Says numberTold valueTold r (awaitedTold m (m .flight .schedule)) ⌝ }
 {
     let f = m.flight;
     awaited_told(m, f.schedule)
@@ -48,7 +48,7 @@ pub fn flight_awaited(m: Model) -> Told
 
 // Whether a temperature measurement is awaited: 1 or 0.
 pub fn temperature_awaited(m: Model) -> Told
-    ensures { λ r. ⌜ r ≡ awaitedTold m (m .temperature .schedule) ⌝ }
+    ensures { λ r. ⌜ Says numberTold valueTold r (awaitedTold m (m .temperature .schedule)) ⌝ }
 {
     let t = m.temperature;
     awaited_told(m, t.schedule)
@@ -56,7 +56,7 @@ pub fn temperature_awaited(m: Model) -> Told
 
 // Whether the regulator of the user flash is on: 1 or 0.
 pub fn regulator_on(m: Model) -> Told
-    ensures { λ r. ⌜ r ≡ regulatorOn m ⌝ }
+    ensures { λ r. ⌜ Says numberTold valueTold r (regulatorOn m) ⌝ }
 {
     if is_sound(m) {
         if m.regulator {
@@ -69,7 +69,7 @@ pub fn regulator_on(m: Model) -> Told
 
 // The word that a read at address a, B0h to FFh, would give, with nothing cleared.
 pub fn peek(m: Model, a: u32) -> Told
-    ensures { λ r. ⌜ r ≡ peek m a ⌝ }
+    ensures { λ r. ⌜ Says numberTold valueTold r (peek m a) ⌝ }
 {
     if is_sound(m) {
         if a < 0xb0 {

@@ -13,7 +13,7 @@ use lib.Seq.{getD-take, getD-drop}
 use denote.Ref.{RefT}
 use Rattle.unit.proofs.Cases.{by-test, by-ltb}
 use Rattle.quietest.specs.Quietest.{valueAt, larger, smaller, extreme, largest, smallest, spread, quieter, quietestPlace}
-use Rattle.quietest.specs.Quietest.{runSpread, numberIn, placeIn, numberGiven, PartOf, Handed}
+use Rattle.quietest.specs.Quietest.{runSpread, numberFound, valueFound, numberGiven, PartOf, Handed}
 use Rattle.quietest.specs.declared.Place.{Place}
 use Rattle.quietest.specs.declared.Place.the-variants.{At, Refused}
 use Rattle.quietest.proofs.Order.{ge-trans, not-below-itself, one-way, below-at-most, less, at-most, no-less}
@@ -173,12 +173,12 @@ pub record Quietest (values : List ℤ) (w start : ℕ) : Type 0 where
   pub earliest : (other : ℕ) → other < start → spread values start w <ℤ spread values other w
 
 -- the place that an answer says
-at-place : (p : Place) {start : ℕ} → placeIn p ≡ start ∷ [] → p ≡ At start
-unfolding placeIn
+at-place : (p : Place) {start : ℕ} → valueFound p ≡ start ∷ [] → p ≡ At start
+unfolding valueFound
 at-place (Refused n) e = none e
 at-place (At s) e = cc
 
-pub quietest-run : (values : List ℤ) (w start : ℕ) → placeIn (quietestPlace values w) ≡ start ∷ [] → Quietest values w start
+pub quietest-run : (values : List ℤ) (w start : ℕ) → valueFound (quietestPlace values w) ≡ start ∷ [] → Quietest values w start
 quietest-run values w start p =
     by-width values w (λ o e. apart (sym (at-place _ p) ∙ e)) (λ h k e. run h k e)
   where
@@ -200,22 +200,22 @@ quietest-only values w a b p q =
 
 -- ---- number 18, exactly for a width of 0 or above the length
 
-pub number-18 : (values : List ℤ) (w : ℕ) → (numberIn (quietestPlace values w) ≡ 18 ∷ []) ↔ ((w ≡ 0) ⊎ (length values < w))
-unfolding numberIn
+pub number-18 : (values : List ℤ) (w : ℕ) → (numberFound (quietestPlace values w) ≡ 18 ∷ []) ↔ ((w ≡ 0) ⊎ (length values < w))
+unfolding numberFound
 number-18 values w =
-    by-width values w (λ o e. (λ _. o, λ _. ap numberIn e))
-    (λ h k e. (λ n. none (sym (ap numberIn e) ∙ n), λ o. not-refused h k o))
+    by-width values w (λ o e. (λ _. o, λ _. ap numberFound e))
+    (λ h k e. (λ n. none (sym (ap numberFound e) ∙ n), λ o. not-refused h k o))
 
-pub no-number : (values : List ℤ) (w : ℕ) → (numberIn (quietestPlace values w) ≡ []) ↔ ((1 ≤ w) × (w ≤ length values))
-unfolding numberIn
+pub no-number : (values : List ℤ) (w : ℕ) → (numberFound (quietestPlace values w) ≡ []) ↔ ((1 ≤ w) × (w ≤ length values))
+unfolding numberFound
 no-number values w =
-    by-width values w (λ o e. (λ n. none (sym n ∙ ap numberIn e), λ p. not-refused (p .0) (p .1) o))
-    (λ h k e. (λ _. (h, k), λ _. ap numberIn e))
+    by-width values w (λ o e. (λ n. none (sym n ∙ ap numberFound e), λ p. not-refused (p .0) (p .1) o))
+    (λ h k e. (λ _. (h, k), λ _. ap numberFound e))
 
-pub only-number : (values : List ℤ) (w n : ℕ) → numberIn (quietestPlace values w) ≡ n ∷ [] → n ≡ 18
-unfolding numberIn
+pub only-number : (values : List ℤ) (w n : ℕ) → numberFound (quietestPlace values w) ≡ n ∷ [] → n ≡ 18
+unfolding numberFound
 only-number values w n p =
-    by-width values w (λ o e. same (sym p ∙ ap numberIn e)) (λ h k e. none (sym (ap numberIn e) ∙ p))
+    by-width values w (λ o e. same (sym p ∙ ap numberFound e)) (λ h k e. none (sym (ap numberFound e) ∙ p))
   where
     same : {a b : ℕ} → a ∷ [] ≡ b ∷ [] → a ≡ b
     same f = cc
@@ -238,11 +238,11 @@ module _ (s r : RefT (List ℤ)) (w number : ℕ) (handed : Handed (quietestPlac
       → (Refusal → number ≡ 18 → PartOf s r 0 0 → G)
       → (1 ≤ w → w ≤ length (s .now) → number ≡ 0 → (start : ℕ) → Quietest (s .now) w start → PartOf s r start w → G)
       → G
-  unfolding numberIn placeIn
+  unfolding numberFound valueFound
   by-number f g =
       by-width (s .now) w
       (λ o e. f o (given ∙ ap numberGiven e) (rw e at handed))
-      (λ h k e. g h k (given ∙ ap numberGiven e) _ (quietest-run (s .now) w _ (ap placeIn e)) (rw e at handed))
+      (λ h k e. g h k (given ∙ ap numberGiven e) _ (quietest-run (s .now) w _ (ap valueFound e)) (rw e at handed))
 
   pub eighteen-given : (number ≡ 18) ↔ Refusal
   eighteen-given =

@@ -55,17 +55,17 @@ quietestPlace values w =
     (At (quieter values w 0 1 (length values - w)))
 
 -- What an answer says: the number of a refusal; the place of the run.
-unfoldable pub numberIn : Place → List ℕ
-numberIn (Refused number) = number ∷ []
-numberIn (At start) = []
+unfoldable pub numberFound : Place → List ℕ
+numberFound (Refused number) = number ∷ []
+numberFound (At start) = []
 
-unfoldable pub placeIn : Place → List ℕ
-placeIn (Refused number) = []
-placeIn (At start) = start ∷ []
+unfoldable pub valueFound : Place → List ℕ
+valueFound (Refused number) = []
+valueFound (At start) = start ∷ []
 
 -- the number beside a part that is handed back: 0 where the answer says none
 abbrev pub numberGiven : Place → ℕ
-numberGiven place = getD (numberIn place) 0 0
+numberGiven place = getD (numberFound place) 0 0
 
 -- r is the part of the slice s itself that holds n values from its place `start` on: it lies in the same memory, four bytes a
 -- value further on

@@ -1,7 +1,8 @@
 // The quietest run of neighbours in a list of differences: the run whose largest value less its
 // smallest is least.
 ghost use mathlib.Core.Path.{_≡_};
-ghost use Rattle.quietest.specs.Quietest.{quietestPlace, numberGiven, Handed, runSpread};
+ghost use Rattle.unit.specs.Says.{Says};
+ghost use Rattle.quietest.specs.Quietest.{quietestPlace, numberFound, valueFound, numberGiven, Handed, runSpread};
 
 mod extremes;
 mod search;
@@ -17,7 +18,7 @@ pub enum Place {
 
 // The place of the quietest run of `width` neighbours, the earliest among equals.
 pub fn quietest_place(values: &[i32], width: usize) -> Place
-    ensures { λ r. ⌜ r ≡ quietestPlace (now (values .entry)) width ⌝ }
+    ensures { λ r. ⌜ Says numberFound valueFound r (quietestPlace (now (values .entry)) width) ⌝ }
 {
     if width == 0 {
         return Place::Refused(WIDTH);

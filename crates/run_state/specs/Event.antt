@@ -1,6 +1,8 @@
 -- The place of an event: a question of ours.
 use Prim.Native.Nat.{ℕ}
 use mathlib.Core.Bool.{Bool}
+use mathlib.Core.List.{List, [], _∷_}
+use mir.Val.{boolByte}
 use Rattle.unit.specs.Choice.{pick}
 use Rattle.unit.specs.declared.Ticks.{Ticks}
 use Rattle.device.specs.declared.Schedule.{Schedule}
@@ -35,3 +37,19 @@ placeOf k =
 -- (Note 5): then there is none.
 unfoldable pub placeTold : Model → Schedule → Placed
 placeTold m k = pick (isSound m) (pick (inEvent k) (Event (placeOf k)) NoEvent) (Refused 0)
+
+-- What the answer says: the number of a refusal; else whether an event runs, and then how many measurements it makes, how many of them
+-- are started, settled and good, the ticks until the next start, and whether it is a continuous one. Yes is 1, no is 0.
+unfoldable pub numberPlaced : Placed → List ℕ
+numberPlaced (Refused n) = n ∷ []
+numberPlaced NoEvent = []
+numberPlaced (Event p) = []
+
+unfoldable pub valuesOf : Place → List ℕ
+valuesOf p =
+    1 ∷ p .planned ∷ p .started ∷ p .settled ∷ p .good ∷ p .next .0 ∷ boolByte (p .continuous) ∷ []
+
+unfoldable pub valuesPlaced : Placed → List ℕ
+valuesPlaced (Refused n) = []
+valuesPlaced NoEvent = 0 ∷ []
+valuesPlaced (Event p) = valuesOf p

@@ -1,4 +1,6 @@
 -- What a model tells of its run, and no register does: questions of ours.
+use Prim.Native.Nat.{ℕ}
+use mathlib.Core.List.{List, [], _∷_}
 use Rattle.unit.specs.Choice.{pick}
 use Rattle.device.specs.declared.Schedule.{Schedule}
 use Rattle.device.specs.declared.Model.{Model}
@@ -16,3 +18,12 @@ initialisedTold m = pick (isSound m) (pick (m .initialised) (Value 1) (Value 0))
 -- where none is awaited.
 unfoldable pub leftTold : Model → Schedule → Left
 leftTold m k = pick (isSound m) (After (k .left)) (NotLeft 0)
+
+-- What an answer on the ticks left says: the number of a refusal; the ticks.
+unfoldable pub numberLeft : Left → List ℕ
+numberLeft (NotLeft n) = n ∷ []
+numberLeft (After t) = []
+
+unfoldable pub valuesLeft : Left → List ℕ
+valuesLeft (NotLeft n) = []
+valuesLeft (After t) = t .0 ∷ []

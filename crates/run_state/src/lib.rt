@@ -1,8 +1,10 @@
 // Questions about the state of a model's run, which no register tells: in how many ticks the awaited measurement fails, the place of an
 // event, and whether the model is initialised. They change nothing.
 ghost use mathlib.Core.Path.{_≡_};
-ghost use Rattle.run_state.specs.State.{initialisedTold, leftTold};
-ghost use Rattle.run_state.specs.Event.{nextStart, placeOf, placeTold};
+ghost use Rattle.unit.specs.Says.{Says};
+ghost use Rattle.device.specs.Question.{numberTold, valueTold};
+ghost use Rattle.run_state.specs.State.{initialisedTold, leftTold, numberLeft, valuesLeft};
+ghost use Rattle.run_state.specs.Event.{nextStart, placeOf, placeTold, numberPlaced, valuesPlaced};
 use device::Model;
 use device::Schedule;
 use device::Told;
@@ -34,7 +36,7 @@ pub enum Placed {
 }
 
 fn left_told(m: Model, k: Schedule) -> Left
-    ensures { λ r. ⌜ r ≡ leftTold m k ⌝ }
+    ensures { λ r. ⌜ Says numberLeft valuesLeft r (leftTold m k) ⌝ }
 {
     let left = k.left;
     if is_sound(m) {
@@ -45,7 +47,7 @@ fn left_told(m: Model, k: Schedule) -> Left
 
 // In how many ticks the awaited flight measurement fails; 0 where none is awaited.
 pub fn flight_left(m: Model) -> Left
-    ensures { λ r. ⌜ r ≡ leftTold m (m .flight .schedule) ⌝ }
+    ensures { λ r. ⌜ Says numberLeft valuesLeft r (leftTold m (m .flight .schedule)) ⌝ }
 {
     let f = m.flight;
     left_told(m, f.schedule)
@@ -53,7 +55,7 @@ pub fn flight_left(m: Model) -> Left
 
 // In how many ticks the awaited temperature measurement fails; 0 where none is awaited.
 pub fn temperature_left(m: Model) -> Left
-    ensures { λ r. ⌜ r ≡ leftTold m (m .temperature .schedule) ⌝ }
+    ensures { λ r. ⌜ Says numberLeft valuesLeft r (leftTold m (m .temperature .schedule)) ⌝ }
 {
     let t = m.temperature;
     left_told(m, t.schedule)
@@ -88,7 +90,7 @@ fn place_of(k: Schedule) -> Place
 }
 
 fn place_told(m: Model, k: Schedule) -> Placed
-    ensures { λ r. ⌜ r ≡ placeTold m k ⌝ }
+    ensures { λ r. ⌜ Says numberPlaced valuesPlaced r (placeTold m k) ⌝ }
 {
     if is_sound(m) {
         if in_event(k) {
@@ -101,7 +103,7 @@ fn place_told(m: Model, k: Schedule) -> Placed
 
 // The place of the event of differences.
 pub fn flight_place(m: Model) -> Placed
-    ensures { λ r. ⌜ r ≡ placeTold m (m .flight .schedule) ⌝ }
+    ensures { λ r. ⌜ Says numberPlaced valuesPlaced r (placeTold m (m .flight .schedule)) ⌝ }
 {
     let f = m.flight;
     place_told(m, f.schedule)
@@ -109,7 +111,7 @@ pub fn flight_place(m: Model) -> Placed
 
 // The place of the event of temperatures.
 pub fn temperature_place(m: Model) -> Placed
-    ensures { λ r. ⌜ r ≡ placeTold m (m .temperature .schedule) ⌝ }
+    ensures { λ r. ⌜ Says numberPlaced valuesPlaced r (placeTold m (m .temperature .schedule)) ⌝ }
 {
     let t = m.temperature;
     place_told(m, t.schedule)
@@ -117,7 +119,7 @@ pub fn temperature_place(m: Model) -> Placed
 
 // Whether the model is initialised: 1 or 0.
 pub fn initialised(m: Model) -> Told
-    ensures { λ r. ⌜ r ≡ initialisedTold m ⌝ }
+    ensures { λ r. ⌜ Says numberTold valueTold r (initialisedTold m) ⌝ }
 {
     if is_sound(m) {
         if m.initialised {

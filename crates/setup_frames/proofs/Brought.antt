@@ -15,7 +15,7 @@ use Rattle.device.specs.Call.{opcode}
 use Rattle.device.proofs.Sound.{bounds-of}
 use Rattle.setup_frames.specs.declared.Framed.{Framed}
 use Rattle.setup_frames.specs.declared.Framed.the-variants.{Refused}
-use Rattle.setup_frames.specs.Frames.{starts, frameAt, framesFrom, frames, Written, numberIn}
+use Rattle.setup_frames.specs.Frames.{starts, frameAt, framesFrom, frames, Written, numberFramed}
 use Rattle.setup_frames.specs.Sending.{onlyWrites, framesLeft, Brings}
 use Rattle.setup_frames.proofs.Words.{Words}
 use Rattle.setup_frames.proofs.Outcome.{number-0}
@@ -41,11 +41,11 @@ frames-bring s w v = record { writes = writes-from s 16 0 refl; same = same-word
 
 -- an accepted call is one on a sound model
 accepted-sound :
-    (m : Model) (bytes lengths b l : List ℕ) (r : Framed) → Written m bytes lengths r b l → numberIn r ≡ [] → isSound m ≡ true
+    (m : Model) (bytes lengths b l : List ℕ) (r : Framed) → Written m bytes lengths r b l → numberFramed r ≡ [] → isSound m ≡ true
 accepted-sound m bytes lengths b l r w e =
     by-test (isSound m) (λ s. s)
     (λ f.
-    let t : numberIn r ≡ 0 ∷ [] = number-0 m bytes lengths b l r w .1 f in
+    let t : numberFramed r ≡ 0 ∷ [] = number-0 m bytes lengths b l r w .1 f in
     let z : _≡_ {A = ℕ} 0 1 = cc in
     absurd (omega arith))
 
@@ -54,13 +54,13 @@ accepted-sound m bytes lengths b l r w e =
 pub buffers-bring :
     (m : Model) (bytes lengths b l : List ℕ) (r : Framed) →
     Written m bytes lengths r b l →
-    numberIn r ≡ [] →
+    numberFramed r ≡ [] →
     Words (m .setup) →
     Brings (framesLeft r b l) (m .setup)
 buffers-bring m bytes lengths b l r w e sixteen =
     rw (frames-left m bytes lengths b l r w e)
     (frames-bring (m .setup) sixteen (bounds-of m (accepted-sound m bytes lengths b l r w e) .alarm))
 
-pub refusal-sends-none : {G : Type 0} (n : ℕ) → numberIn (Refused n) ≡ [] → G
-unfolding numberIn
+pub refusal-sends-none : {G : Type 0} (n : ℕ) → numberFramed (Refused n) ≡ [] → G
+unfolding numberFramed
 refusal-sends-none n e = let z : _≡_ {A = ℕ} 0 1 = cc in absurd (omega arith)

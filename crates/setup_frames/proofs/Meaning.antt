@@ -13,7 +13,7 @@ use Rattle.device.specs.Call.{accepted}
 use Rattle.setup_frames.specs.declared.Framed.{Framed}
 use Rattle.setup_frames.specs.declared.Framed.the-variants.{Frames}
 use Rattle.setup_frames.specs.Frames.{differs, differsBefore, starts, runLength, frames, allBytes, lengthsOf, over}
-use Rattle.setup_frames.specs.Frames.{framesVerdict, answerBy, bytesBy, lengthsBy, Written, numberIn}
+use Rattle.setup_frames.specs.Frames.{framesVerdict, answerBy, bytesBy, lengthsBy, Written, numberFramed}
 use Rattle.setup_frames.specs.Sending.{cut, framesLeft}
 use Rattle.setup_frames.proofs.Outcome.{accepted-said}
 
@@ -55,13 +55,13 @@ counted : (fs : List (List ℕ)) → length (lengthsOf fs) ≡ length fs
 unfolding lengthsOf
 counted fs = length-map fs length
 
-module _ (m : Model) (bytes lengths b l : List ℕ) (r : Framed) (w : Written m bytes lengths r b l) (e : numberIn r ≡ []) where
+module _ (m : Model) (bytes lengths b l : List ℕ) (r : Framed) (w : Written m bytes lengths r b l) (e : numberFramed r ≡ []) where
   done : framesVerdict m (length bytes) (length lengths) ≡ accepted
-  done = accepted-said (framesVerdict m (length bytes) (length lengths)) (m .setup) (sym (ap numberIn (w .answer)) ∙ e)
+  done = accepted-said (framesVerdict m (length bytes) (length lengths)) (m .setup) (sym (w .answer .numbered) ∙ e)
 
   pub frames-counted : r ≡ Frames (length (allBytes (frames (m .setup)))) (length (frames (m .setup)))
   unfolding answerBy
-  frames-counted = w .answer ∙ rw done
+  frames-counted = w .answer .same ∙ rw done
 
   pub frames-left : framesLeft r b l ≡ frames (m .setup)
   unfolding framesLeft bytesBy lengthsBy over
@@ -84,8 +84,8 @@ pub equal-words :
     m .setup ≡ n .setup →
     Written m bytes lengths r b l →
     Written n bytes′ lengths′ r′ b′ l′ →
-    numberIn r ≡ [] →
-    numberIn r′ ≡ [] →
+    numberFramed r ≡ [] →
+    numberFramed r′ ≡ [] →
     (r ≡ r′) × (framesLeft r b l ≡ framesLeft r′ b′ l′)
 equal-words m n bytes bytes′ lengths lengths′ b b′ l l′ r r′ s p q e f =
     let counts : r ≡ Frames (length (allBytes (frames (n .setup)))) (length (frames (n .setup))) =

@@ -7,6 +7,7 @@ use mathlib.Core.List.{List, [], _∷_, _++_, map}
 use lib.ListN.{length, getD, drop}
 use lib.Dec.{ltb, eqb}
 use Rattle.unit.specs.Choice.{pick, either, negate}
+use Rattle.unit.specs.Says.{Says}
 use Rattle.setup.specs.Setup.{factory}
 use Rattle.device.specs.declared.Model.{Model}
 use Rattle.device.specs.Model.{isSound}
@@ -79,17 +80,17 @@ unfoldable pub lengthsBy : Verdict → List ℕ → List ℕ → List ℕ
 lengthsBy accepted s buffer = over buffer (lengthsOf (frames s))
 lengthsBy (refused n) s buffer = buffer
 
+-- What an answer says: the number of a refusal; the counts of bytes and of frames.
+unfoldable pub numberFramed : Framed → List ℕ
+numberFramed (Refused n) = n ∷ []
+numberFramed (Frames b f) = []
+
+unfoldable pub valuesFramed : Framed → List ℕ
+valuesFramed (Refused n) = []
+valuesFramed (Frames b f) = b ∷ f ∷ []
+
 -- The call, by the model and both buffers as they were: its answer, and both as it leaves them.
 pub record Written (m : Model) (bytes lengths : List ℕ) (r : Framed) (bytes′ lengths′ : List ℕ) : Type 0 where
-  pub answer : r ≡ answerBy (framesVerdict m (length bytes) (length lengths)) (m .setup)
+  pub answer : Says numberFramed valuesFramed r (answerBy (framesVerdict m (length bytes) (length lengths)) (m .setup))
   pub inBytes : bytes′ ≡ bytesBy (framesVerdict m (length bytes) (length lengths)) (m .setup) bytes
   pub inLengths : lengths′ ≡ lengthsBy (framesVerdict m (length bytes) (length lengths)) (m .setup) lengths
-
--- What an answer says: the number of a refusal; the counts of bytes and of frames.
-unfoldable pub numberIn : Framed → List ℕ
-numberIn (Refused n) = n ∷ []
-numberIn (Frames b f) = []
-
-unfoldable pub countsIn : Framed → List ℕ
-countsIn (Refused n) = []
-countsIn (Frames b f) = b ∷ f ∷ []

@@ -11,7 +11,7 @@ use Rattle.device.specs.Call.{Call, transaction, opcode}
 use Rattle.device.specs.History.{after}
 use Rattle.setup_frames.specs.declared.Framed.{Framed}
 use Rattle.setup_frames.specs.declared.Framed.the-variants.{Refused, Frames}
-use Rattle.setup_frames.specs.Frames.{allBytes, numberIn}
+use Rattle.setup_frames.specs.Frames.{allBytes, numberFramed}
 
 -- "Sending them": each frame is one transaction, with no output buffer and no memory
 abbrev pub sent : List (List ℕ) → List Call
@@ -45,4 +45,4 @@ pub record Brings (fs : List (List ℕ)) (s : List ℕ) : Type 0 where
 
 -- What an accepted call leaves, sent to a fresh model.
 abbrev pub Sent : List ℕ → Framed → List ℕ → List ℕ → Type 0
-Sent s r bytes lengths = numberIn r ≡ [] → Brings (framesLeft r bytes lengths) s
+Sent s r bytes lengths = numberFramed r ≡ [] → Brings (framesLeft r bytes lengths) s

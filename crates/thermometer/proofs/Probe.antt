@@ -9,7 +9,7 @@ use lib.ListN.{length}
 use Rattle.unit.proofs.Cases.{by-test, refuted}
 use Rattle.thermometer.specs.declared.InDegrees.the-variants.{Refused}
 use Rattle.thermometer.specs.Table.{entry, pt1000, isAccepted}
-use Rattle.thermometer.specs.Degrees.{resistance, thousandths, last, offTable, degreesOver, degreesBy, numberIn, thousandthsIn}
+use Rattle.thermometer.specs.Degrees.{resistance, thousandths, last, offTable, degreesOver, degreesBy, numberRead, valueRead}
 use Rattle.thermometer.proofs.Rise.{rises}
 use Rattle.thermometer.proofs.Pt1000.{pt1000-length, pt1000-at, pt1000-usable}
 use Rattle.thermometer.proofs.Meaning.{at-last}
@@ -17,8 +17,8 @@ use Rattle.thermometer.proofs.Refusal.{OffTable, number-13, answer-mean
 use Rattle.thermometer.proofs.Accepted.{Accepted, accepted-means, accepted-usable, bounded-by-last}
 
 -- no answer over a table has number 14
-not-14 : (table : List ℕ) (a b : ℕ) → ¬ (numberIn (degreesOver table a b) ≡ 14 ∷ [])
-unfolding degreesOver numberIn
+not-14 : (table : List ℕ) (a b : ℕ) → ¬ (numberRead (degreesOver table a b) ≡ 14 ∷ [])
+unfolding degreesOver numberRead
 not-14 table a b =
     by-test (offTable table a b)
     (λ t. rw t (λ e. let z : _≡_ {A = ℕ} 13 14 = cc in omega arith))
@@ -38,31 +38,31 @@ module _ (table : List ℕ) (a b : ℕ) where
   by-refused n = refused-then (refuted (isAccepted table) (λ t. n (accepted-means table .0 t)))
 
   -- "Turned away: number 14, bad table, .. for any table failing these", exactly then
-  pub number-14 : (numberIn (degreesBy table a b) ≡ 14 ∷ []) ↔ (¬ Accepted table)
-  unfolding numberIn
+  pub number-14 : (numberRead (degreesBy table a b) ≡ 14 ∷ []) ↔ (¬ Accepted table)
+  unfolding numberRead
   number-14 = (
-    λ n h. not-14 table a b (ap numberIn (sym (by-accepted h)) ∙ n),
-    λ n. ap numberIn (by-refused n),
+    λ n h. not-14 table a b (ap numberRead (sym (by-accepted h)) ∙ n),
+    λ n. ap numberRead (by-refused n),
   )
 
   -- number 13 exactly for an accepted table where it is off it: 14 is given "before number 13"
-  pub number-13-by : (numberIn (degreesBy table a b) ≡ 13 ∷ []) ↔ (Accepted table × OffTable table a b)
-  unfolding numberIn
+  pub number-13-by : (numberRead (degreesBy table a b) ≡ 13 ∷ []) ↔ (Accepted table × OffTable table a b)
+  unfolding numberRead
   number-13-by = (
     λ n. by-test (isAccepted table)
         (λ t. let h = accepted-means table .0 t in
-        (h, number-13 table a b .0 (ap numberIn (sym (by-accepted h)) ∙ n)))
-        (λ t. let e : 14 ∷ [] ≡ 13 ∷ [] = sym (ap numberIn (refused-then t)) ∙ n in
+        (h, number-13 table a b .0 (ap numberRead (sym (by-accepted h)) ∙ n)))
+        (λ t. let e : 14 ∷ [] ≡ 13 ∷ [] = sym (ap numberRead (refused-then t)) ∙ n in
         let z : _≡_ {A = ℕ} 14 13 = cc in
         absurd (omega arith)),
-    λ p. ap numberIn (by-accepted (p .0)) ∙ number-13 table a b .1 (p .1),
+    λ p. ap numberRead (by-accepted (p .0)) ∙ number-13 table a b .1 (p .1),
   )
 
   pub answer-by :
       Accepted table →
       ¬ OffTable table a b →
-      (numberIn (degreesBy table a b) ≡ []) ×
-      (thousandthsIn (degreesBy table a b) ≡ thousandths table (resistance a b) ∷ [])
+      (numberRead (degreesBy table a b) ≡ []) ×
+      (valueRead (degreesBy table a b) ≡ thousandths table (resistance a b) ∷ [])
   answer-by h n = rw (by-accepted h) (answer-means table a b n)
 
   -- "The last entry of an n-entry table answers 1,000 × (n − 1)."
@@ -70,7 +70,7 @@ module _ (table : List ℕ) (a b : ℕ) where
       Accepted table →
       ¬ OffTable table a b →
       resistance a b ≡ last table →
-      thousandthsIn (degreesBy table a b) ≡ 1000 * (length table - 1) ∷ []
+      valueRead (degreesBy table a b) ≡ 1000 * (length table - 1) ∷ []
   last-by h n e =
       answer-by h n .1 ∙
       ap (λ (t : ℕ). t ∷ [])

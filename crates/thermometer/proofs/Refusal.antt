@@ -8,7 +8,7 @@ use native.Mathlib.Omega.{arith}
 use Rattle.unit.specs.Choice.{pick}
 use Rattle.unit.proofs.Cases.{fails, refuted}
 use Rattle.thermometer.specs.declared.InDegrees.the-variants.{Thousandths, Refused}
-use Rattle.thermometer.specs.Degrees.{resistance, thousandths, first, last, offTable, degreesOver, numberIn, thousandthsIn}
+use Rattle.thermometer.specs.Degrees.{resistance, thousandths, first, last, offTable, degreesOver, numberRead, valueRead}
 use Rattle.thermometer.proofs.Tests.{eqb-means, ltb-means, either-means}
 
 -- "either word is FFFFFFFFh, b is 0, or the resistance is below the first or above the last entry"
@@ -40,8 +40,8 @@ unfolding degreesOver
 on-answered table a b n = rw (refuted (offTable table a b) (λ h. n (off-means table a b .0 h)))
 
 -- a refusal by a test has its number exactly where the test holds
-pub refused-by : (t : Bool) (n v : ℕ) → (numberIn (pick t (Refused n) (Thousandths v)) ≡ n ∷ []) ↔ (t ≡ true)
-unfolding numberIn
+pub refused-by : (t : Bool) (n v : ℕ) → (numberRead (pick t (Refused n) (Thousandths v)) ≡ n ∷ []) ↔ (t ≡ true)
+unfolding numberRead
 refused-by true n v = (λ e. refl, λ e. refl)
 refused-by false n v = (
   λ e. let z : _≡_ {A = ℕ} 0 1 = cc in absurd (omega arith),
@@ -49,7 +49,7 @@ refused-by false n v = (
 )
 
 -- "Turned away: number 13", exactly then
-pub number-13 : (table : List ℕ) (a b : ℕ) → (numberIn (degreesOver table a b) ≡ 13 ∷ []) ↔ OffTable table a b
+pub number-13 : (table : List ℕ) (a b : ℕ) → (numberRead (degreesOver table a b) ≡ 13 ∷ []) ↔ OffTable table a b
 unfolding degreesOver
 number-13 table a b =
     let by = refused-by (offTable table a b) 13 (thousandths table (resistance a b)) in
@@ -60,6 +60,6 @@ number-13 table a b =
 pub answer-means :
     (table : List ℕ) (a b : ℕ) →
     ¬ OffTable table a b →
-    (numberIn (degreesOver table a b) ≡ []) × (thousandthsIn (degreesOver table a b) ≡ thousandths table (resistance a b) ∷ [])
-unfolding numberIn thousandthsIn
-answer-means table a b n = let on = on-answered table a b n in (ap numberIn on, ap thousandthsIn on)
+    (numberRead (degreesOver table a b) ≡ []) × (valueRead (degreesOver table a b) ≡ thousandths table (resistance a b) ∷ [])
+unfolding numberRead valueRead
+answer-means table a b n = let on = on-answered table a b n in (ap numberRead on, ap valueRead on)

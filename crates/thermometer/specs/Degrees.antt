@@ -60,10 +60,10 @@ unfoldable pub degreesBy : List ℕ → ℕ → ℕ → InDegrees
 degreesBy table a b = pick (isAccepted table) (degreesOver table a b) (Refused 14)
 
 -- What an answer says: its number where it is a refusal, else its thousandths of a degree.
-unfoldable pub numberIn : InDegrees → List ℕ
-numberIn (Refused n) = n ∷ []
-numberIn (Thousandths t) = []
+unfoldable pub numberRead : InDegrees → List ℕ
+numberRead (Refused n) = n ∷ []
+numberRead (Thousandths t) = []
 
-unfoldable pub thousandthsIn : InDegrees → List ℕ
-thousandthsIn (Refused n) = []
-thousandthsIn (Thousandths t) = t ∷ []
+unfoldable pub valueRead : InDegrees → List ℕ
+valueRead (Refused n) = []
+valueRead (Thousandths t) = t ∷ []

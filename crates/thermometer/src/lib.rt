@@ -4,7 +4,8 @@ ghost use Prim.Native.Nat.{_<_, _≤_};
 ghost use lib.ListN.{length};
 ghost use Rattle.thermometer.specs.Table.{isRising, isAccepted};
 ghost use Rattle.thermometer.specs.Usable.{Usable};
-ghost use Rattle.thermometer.specs.Degrees.{resistance, interpolated, Between, thousandths, first, last, degreesOver, degrees, degreesBy};
+ghost use Rattle.unit.specs.Says.{Says};
+ghost use Rattle.thermometer.specs.Degrees.{resistance, interpolated, Between, thousandths, first, last, degreesOver, degrees, degreesBy, numberRead, valueRead};
 
 mod table;
 
@@ -116,7 +117,7 @@ fn degrees_over(table: &[u32], probe: u32, reference: u32) -> InDegrees
 // The temperature of a PT1000 probe, from its word and the word of its reference resistor of 1,000 ohms. Number 13: a word is
 // FFFFFFFFh, the reference is 0, or the resistance is off the table.
 pub fn degrees(probe: u32, reference: u32) -> InDegrees
-    ensures { λ r. ⌜ r ≡ degrees probe reference ⌝ }
+    ensures { λ r. ⌜ Says numberRead valueRead r (degrees probe reference) ⌝ }
 {
     degrees_over(&PT1000, probe, reference)
 }
@@ -156,7 +157,7 @@ fn is_accepted(table: &[u32]) -> bool
 // The temperature of a probe with a table of its own, milliohms at each whole degree from 0. Number 14 for a table of fewer than
 // 2 or more than 512 entries, one that does not rise, and one with an entry above 10,000,000; then number 13, as above.
 pub fn degrees_by(table: &[u32], probe: u32, reference: u32) -> InDegrees
-    ensures { λ r. ⌜ r ≡ degreesBy (now (table .entry)) probe reference ⌝ }
+    ensures { λ r. ⌜ Says numberRead valueRead r (degreesBy (now (table .entry)) probe reference) ⌝ }
 {
     if is_accepted(table) {
         degrees_over(table, probe, reference)

@@ -3,3 +3,4 @@ pub mod Cases
 pub mod Joined
 pub mod Rows
 pub mod Bits
+pub mod Says

@@ -24,23 +24,23 @@ use Rattle.ticking.proofs.Quiet.{step-moves}
 -- A stretch moved on towards its n ticks, in so many steps.
 unfoldable pub moves : ℕ → ℕ → Progress → Progress
 moves zero n p = p
-moves (suc steps) n p = pick (ltb (p .done) n) (moves steps n (moved (n - p .done) p)) p
+moves (suc steps) n p = pick (ltb (p .done .0) n) (moves steps n (moved (n - p .done .0) p)) p
 
 moves-on :
-    (m : Model) (steps n : ℕ) (p : Progress) → p ≡ progress m (p .done) → moves steps n p ≡ progress m (moves steps n p .done)
+    (m : Model) (steps n : ℕ) (p : Progress) → p ≡ progress m (p .done .0) → moves steps n p ≡ progress m (moves steps n p .done .0)
 unfolding moves progress
 moves-on m zero n p e = e
 moves-on m (suc steps) n p e =
-    let q = ap (moved (n - p .done)) e ∙ step-moves m (p .done) (n - p .done) in
-    by-test (ltb (p .done) n)
+    let q = ap (moved (n - p .done .0)) e ∙ step-moves m (p .done .0) (n - p .done .0) in
+    by-test (ltb (p .done .0) n)
     (λ l. rw l
-    (moves-on m steps n (moved (n - p .done) p) (q ∙ ap (progress m) (sym (ap (λ (r : Progress). r .done) q)))))
+    (moves-on m steps n (moved (n - p .done .0) p) (q ∙ ap (progress m) (sym (ap (λ (r : Progress). r .done .0) q)))))
     (λ l. rw l e)
 
 -- The reply to a call: to a stretch by the steps, where they reach its end.
 unfoldable pub replyTo : Progress → ℕ → Reply → Reply
 replyTo p n r =
-    pick (both (leb n 16384) (eqb (p .done) n)) (record { answer = Stretched (p .flight) (p .temperature); model = p .model }) r
+    pick (both (leb n 16384) (eqb (p .done .0) n)) (record { answer = Stretched (p .flight) (p .temperature); model = p .model }) r
 
 unfoldable pub quickReply : Model → Call → Reply
 quickReply m (transaction f o x) = reply m (transaction f o x)
@@ -57,10 +57,10 @@ same-reply m (flight u d) s = refl
 same-reply m (temperature w) s = refl
 same-reply m (stretch n) s =
     let p : Progress = moves 8 n (progress m 0) in
-    by-test (both (leb n 16384) (eqb (p .done) n))
+    by-test (both (leb n 16384) (eqb (p .done .0) n))
     (λ e.
     let (l, d) = both-true _ _ e in
-    let q : p ≡ progress m n = moves-on m 8 n (progress m 0) refl ∙ ap (progress m) (eqb-true (p .done) n d) in
+    let q : p ≡ progress m n = moves-on m 8 n (progress m 0) refl ∙ ap (progress m) (eqb-true (p .done .0) n d) in
     rw (e, q, reply-stretch m s n, le-ltb 16384 n (leb-true n 16384 l)))
     (λ e. rw e)
 

@@ -1,4 +1,5 @@
 -- `bus::transaction` meets its contract.
+use Rattle.device.proofs.Table.{replied}
 use Rattle.device.specs.Call.{transaction}
 use Rattle.device.specs.Reply.{bufferOf, memoryOf}
 use Rattle.device.specs.Model.{isSound}
@@ -23,7 +24,9 @@ same-length-2 : tie.Need-same-length-2
 same-length-2 c = search needs
 
 returns : tie.Need-returns
-returns c = search needs
+returns c =
+    let (r, o, x) = c .before .before .before .before .sound-transaction .ensures in
+    record { replied = replied _ _ r; output = o; memory = x }
 
 refuse-requires : tie.Need-refuse-requires
 refuse-requires c κs = search needs
@@ -34,7 +37,7 @@ returns-2 c =
     let start = c .before .before .before .before .before .before .args in
     let e : isSound (start .m) ≡ false = sym (c .before .before .is-sound .ensures) ∙ c .before .if1 .left in
     let r = reply-unsound (start .m) (transaction (now (start .frame)) (now (start .out)) (now (start .mem))) e in
-    (c .refuse .ensures ∙ r .0, r .1, r .2)
+    record { replied = replied _ _ (c .refuse .ensures ∙ r .0); output = r .1; memory = r .2 }
 
 pub transaction-spec : {M : Type 1} → statement M
 transaction-spec =

@@ -1,4 +1,5 @@
 -- `converter::stretch` meets its contract.
+use Rattle.device.proofs.Table.{replied}
 use Rattle.device.specs.Call.{stretch}
 use Rattle.reply_parts.proofs.Decode.{reply-unsound}
 use Rattle.device.specs.Model.{isSound}
@@ -15,7 +16,7 @@ sound-stretch-requires : tie.Need-sound-stretch-requires
 sound-stretch-requires c κs = sym (c .before .is-sound .ensures) ∙ c .if1 .taken
 
 returns : tie.Need-returns
-returns c = search needs
+returns c = replied _ _ (search needs)
 
 refuse-requires : tie.Need-refuse-requires
 refuse-requires c κs = search needs
@@ -24,7 +25,7 @@ returns-2 : tie.Need-returns-2
 returns-2 c =
     let m = c .before .before .before .args .m in
     let e : isSound m ≡ false = sym (c .before .before .is-sound .ensures) ∙ c .before .if1 .left in
-    c .refuse .ensures ∙ reply-unsound m (stretch (c .before .before .before .args .n .0)) e .0
+    replied _ _ (c .refuse .ensures ∙ reply-unsound m (stretch (c .before .before .before .args .n .0)) e .0)
 
 pub stretch-spec : {M : Type 1} → statement M
 stretch-spec =

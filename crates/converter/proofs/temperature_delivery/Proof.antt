@@ -1,5 +1,6 @@
 -- `converter::temperature_delivery` meets its contract.
 use denote.Ref.{now}
+use Rattle.device.proofs.Table.{replied}
 use Rattle.device.specs.Call.{temperature}
 use Rattle.reply_parts.proofs.Decode.{reply-unsound}
 use Rattle.device.specs.Model.{isSound}
@@ -16,7 +17,7 @@ sound-temperature-delivery-requires : tie.Need-sound-temperature-delivery-requir
 sound-temperature-delivery-requires c κs = sym (c .before .is-sound .ensures) ∙ c .if1 .taken
 
 returns : tie.Need-returns
-returns c = search needs
+returns c = replied _ _ (search needs)
 
 refuse-requires : tie.Need-refuse-requires
 refuse-requires c κs = search needs
@@ -25,7 +26,7 @@ returns-2 : tie.Need-returns-2
 returns-2 c =
     let m = c .before .before .before .before .args .m in
     let e : isSound m ≡ false = sym (c .before .before .is-sound .ensures) ∙ c .before .if1 .left in
-    c .refuse .ensures ∙ reply-unsound m (temperature (now (c .before .before .before .before .args .words))) e .0
+    replied _ _ (c .refuse .ensures ∙ reply-unsound m (temperature (now (c .before .before .before .before .args .words))) e .0)
 
 pub temperature-delivery-spec : {M : Type 1} → statement M
 temperature-delivery-spec =

@@ -1,4 +1,5 @@
 -- `converter::tick` meets its contract.
+use Rattle.device.proofs.Table.{replied}
 use Rattle.device.specs.Call.{tick}
 use Rattle.reply_parts.proofs.Decode.{reply-unsound}
 use Rattle.device.specs.Model.{isSound}
@@ -15,7 +16,7 @@ sound-tick-requires : tie.Need-sound-tick-requires
 sound-tick-requires c κs = sym (c .before .is-sound .ensures) ∙ c .if1 .taken
 
 returns : tie.Need-returns
-returns c = search needs
+returns c = replied _ _ (search needs)
 
 refuse-requires : tie.Need-refuse-requires
 refuse-requires c κs = search needs
@@ -24,7 +25,7 @@ returns-2 : tie.Need-returns-2
 returns-2 c =
     let m = c .before .before .before .args .m in
     let e : isSound m ≡ false = sym (c .before .before .is-sound .ensures) ∙ c .before .if1 .left in
-    c .refuse .ensures ∙ reply-unsound m tick e .0
+    replied _ _ (c .refuse .ensures ∙ reply-unsound m tick e .0)
 
 pub tick-spec : {M : Type 1} → statement M
 tick-spec =

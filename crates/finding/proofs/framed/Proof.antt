@@ -1,5 +1,5 @@
 -- `finding::framed` meets its contract.
-use Rattle.finding.specs.Finding.{framedCode, framedWords}
+use Rattle.setup_frames.specs.Frames.{numberFramed, valuesFramed}
 use Prim.Native.Nat.{ℕ}
 use mathlib.Core.List.{List}
 use mathlib.Core.Path.{ap, _∙_}
@@ -21,19 +21,16 @@ put-size-requires-2 : tie.Need-put-size-requires-2
 put-size-requires-2 c κs = search needs
 
 returns : tie.Need-returns
-unfolding framedCode framedWords
-returns c = let k = c .before .f .given in (rw (k .1), rw (k .1))
+unfolding numberFramed valuesFramed
+returns c = let k = c .before .f .given in record { coded = rw (k .1); worded = rw (k .1) }
 
 same-length : tie.Need-same-length
 same-length c = search needs
 
 returns-2 : tie.Need-returns-2
-unfolding framedCode framedWords
+unfolding numberFramed valuesFramed
 returns-2 c =
-    let k = c .before .before .before .before .before .before .before .before .before .f2 .given in (
-      rw (k .1),
-      rw (k .1) (c .before .before .put-size2 .ensures ∙ ap (λ (l : List ℕ). set l 1 (k .0 .1 .0)) (c .before .before .before .before .before .before .put-size .ensures)),
-    )
+    let k = c .before .before .before .before .before .before .before .before .before .f2 .given in record { coded = rw (k .1); worded = rw (k .1) (c .before .before .put-size2 .ensures ∙ ap (λ (l : List ℕ). set l 1 (k .0 .1 .0)) (c .before .before .before .before .before .before .put-size .ensures)) }
 
 pub framed-spec : {M : Type 1} → statement M
 framed-spec =

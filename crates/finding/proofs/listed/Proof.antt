@@ -1,5 +1,5 @@
 -- `finding::listed` meets its contract.
-use Rattle.finding.specs.Finding.{listedCode, listedWords}
+use Rattle.listing.specs.Listing.{numberListed, valueListed}
 use borrow.Author.Needs.{needs}
 use Rattle.finding.proofs.listed.Statement.{statement}
 use Rattle.finding.proofs.listed.Tie as tie
@@ -14,15 +14,15 @@ put-size-requires : tie.Need-put-size-requires
 put-size-requires c κs = search needs
 
 returns : tie.Need-returns
-unfolding listedCode listedWords
-returns c = let k = c .before .l .given in (rw (k .1), rw (k .1))
+unfolding numberListed valueListed
+returns c = let k = c .before .l .given in record { coded = rw (k .1); worded = rw (k .1) }
 
 same-length : tie.Need-same-length
 same-length c = search needs
 
 returns-2 : tie.Need-returns-2
-unfolding listedCode listedWords
-returns-2 c = let k = c .before .before .before .before .before .l2 .given in (rw (k .1), rw (k .1) (c .before .before .put-size .ensures))
+unfolding numberListed valueListed
+returns-2 c = let k = c .before .before .before .before .before .l2 .given in record { coded = rw (k .1); worded = rw (k .1) (c .before .before .put-size .ensures) }
 
 pub listed-spec : {M : Type 1} → statement M
 listed-spec =

@@ -1,5 +1,5 @@
 -- `finding::place` meets its contract.
-use Rattle.finding.specs.Finding.{placeCode, placeWords}
+use Rattle.quietest.specs.Quietest.{numberFound, valueFound}
 use borrow.Author.Needs.{needs}
 use Rattle.finding.proofs.place.Statement.{statement}
 use Rattle.finding.proofs.place.Tie as tie
@@ -14,15 +14,15 @@ put-size-requires : tie.Need-put-size-requires
 put-size-requires c κs = search needs
 
 returns : tie.Need-returns
-unfolding placeCode placeWords
-returns c = let k = c .before .p .given in (rw (k .1), rw (k .1))
+unfolding numberFound valueFound
+returns c = let k = c .before .p .given in record { coded = rw (k .1); worded = rw (k .1) }
 
 same-length : tie.Need-same-length
 same-length c = search needs
 
 returns-2 : tie.Need-returns-2
-unfolding placeCode placeWords
-returns-2 c = let k = c .before .before .before .before .before .p2 .given in (rw (k .1), rw (k .1) (c .before .before .put-size .ensures))
+unfolding numberFound valueFound
+returns-2 c = let k = c .before .before .before .before .before .p2 .given in record { coded = rw (k .1); worded = rw (k .1) (c .before .before .put-size .ensures) }
 
 pub place-spec : {M : Type 1} → statement M
 place-spec =

@@ -1,5 +1,5 @@
 -- `finding::reading` meets its contract.
-use Rattle.finding.specs.Finding.{readingCode, readingWords}
+use Rattle.thermometer.specs.Degrees.{numberRead, valueRead}
 use borrow.Author.Needs.{needs}
 use Rattle.finding.proofs.reading.Statement.{statement}
 use Rattle.finding.proofs.reading.Tie as tie
@@ -14,15 +14,15 @@ put-requires : tie.Need-put-requires
 put-requires c κs = search needs
 
 returns : tie.Need-returns
-unfolding readingCode readingWords
-returns c = let k = c .before .t .given in (rw (k .1), rw (k .1))
+unfolding numberRead valueRead
+returns c = let k = c .before .t .given in record { coded = rw (k .1); worded = rw (k .1) }
 
 same-length : tie.Need-same-length
 same-length c = search needs
 
 returns-2 : tie.Need-returns-2
-unfolding readingCode readingWords
-returns-2 c = let k = c .before .before .before .before .before .t2 .given in (rw (k .1), rw (k .1) (c .before .before .put .ensures))
+unfolding numberRead valueRead
+returns-2 c = let k = c .before .before .before .before .before .t2 .given in record { coded = rw (k .1); worded = rw (k .1) (c .before .before .put .ensures) }
 
 pub reading-spec : {M : Type 1} → statement M
 reading-spec =

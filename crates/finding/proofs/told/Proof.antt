@@ -1,5 +1,5 @@
 -- `finding::told` meets its contract.
-use Rattle.finding.specs.Finding.{toldCode, toldWords}
+use Rattle.device.specs.Question.{numberTold, valueTold}
 use borrow.Author.Needs.{needs}
 use Rattle.finding.proofs.told.Statement.{statement}
 use Rattle.finding.proofs.told.Tie as tie
@@ -14,15 +14,15 @@ put-requires : tie.Need-put-requires
 put-requires c κs = search needs
 
 returns : tie.Need-returns
-unfolding toldCode toldWords
-returns c = let k = c .before .t .given in (rw (k .1), rw (k .1))
+unfolding numberTold valueTold
+returns c = let k = c .before .t .given in record { coded = rw (k .1); worded = rw (k .1) }
 
 same-length : tie.Need-same-length
 same-length c = search needs
 
 returns-2 : tie.Need-returns-2
-unfolding toldCode toldWords
-returns-2 c = let k = c .before .before .before .before .before .t2 .given in (rw (k .1), rw (k .1) (c .before .before .put .ensures))
+unfolding numberTold valueTold
+returns-2 c = let k = c .before .before .before .before .before .t2 .given in record { coded = rw (k .1); worded = rw (k .1) (c .before .before .put .ensures) }
 
 pub told-spec : {M : Type 1} → statement M
 told-spec =

@@ -41,7 +41,7 @@ use denote.Exit.{yes}
 use Rattle.unit.specs.declared.Ticks.{Ticks}
 use Rattle.unit.proofs.Ticks as N
 use Rattle.unit.proofs.Ticks.Laws as N′
-use Rattle.device.specs.Reply.{reply}
+use Rattle.device.specs.Reply.{Replied}
 use Rattle.device.specs.Call.{stretch as stretch-call}
 use Rattle.device.specs.declared.Model.{Model}
 use Rattle.device.specs.declared.Reply.{Reply}
@@ -108,14 +108,14 @@ module _ {M : Type 1} (𝓤 : URA M) (H : Heap 𝓤) (A : Atoms 𝓤) (W : Given
       qed W [] ∵ nothing ! $ nothing ! $ nothing ! $ owned ! N.the-row (Is N.the-row) (LL.makes N.the-type N′.the-plain 𝓤 H A) n _ counted $ fjoin ! $ owned ! T.the-row (Is T.the-row) (LL.makes T.the-type T′.the-plain 𝓤 H A) h _ was $ fjoin ! $ move ! (1 ∷ 0 ∷ []) $ join ! $ frame ! $ done !
 
   -- of what `stretch` ensures, the clause alone: it has no `&mut`, so what is said of last values is dropped
-  said : (r : Reply) → ent 𝓤 (ensured 𝓤 H A stretch.ended (stretch.clauses 𝓤 H A at-mem run) tt (h, (n, tt)) tt r) (fact 𝓤 (r ≡ reply h (stretch-call (n .0))))
-  said r = exE 𝓤 _ (λ ws. snd∗ 𝓤 (sem 𝓤 H A (lasts stretch.ended tt (h, (n, tt)) ws)) (fact 𝓤 (r ≡ reply h (stretch-call (n .0)))))
+  said : (r : Reply) → ent 𝓤 (ensured 𝓤 H A stretch.ended (stretch.clauses 𝓤 H A at-mem run) tt (h, (n, tt)) tt r) (fact 𝓤 (Replied h (stretch-call (n .0)) r))
+  said r = exE 𝓤 _ (λ ws. snd∗ 𝓤 (sem 𝓤 H A (lasts stretch.ended tt (h, (n, tt)) ws)) (fact 𝓤 (Replied h (stretch-call (n .0)) r)))
 
-  exits : (r : Reply) → r ≡ reply h (stretch-call (n .0)) → Is E.the-row (r .answer) (answer-vals (r .answer)) → ent 𝓤 (⋆ 𝓤 H A (‵ (fobs γ (T.the-row .coded .code (r .model))) ∷ ‵ (fbor κ (Body (mem T.the-row) b o γ)) ∷ ‵ (flft κ q) ∷ [])) (Post (only (answer-vals (r .answer))))
+  exits : (r : Reply) → Replied h (stretch-call (n .0)) r → Is E.the-row (r .answer) (answer-vals (r .answer)) → ent 𝓤 (⋆ 𝓤 H A (‵ (fobs γ (T.the-row .coded .code (r .model))) ∷ ‵ (fbor κ (Body (mem T.the-row) b o γ)) ∷ ‵ (flft κ q) ∷ [])) (Post (only (answer-vals (r .answer))))
   exits r e is =
       qed W (‵ (fobs γ (T.the-row .coded .code (r .model))) ∷ ‵ (fbor κ (Body (mem T.the-row) b o γ)) ∷ ‵ (flft κ q) ∷ []) ∵
       suffices ! _ (ends-at 𝓤 H A f.ended stayed (f.clauses 𝓤 H A at-mem run) W (((κ, tt), (q, tt), tt, x, at), tt) (only (answer-vals (r .answer))) (r .answer) (r .model, (tt, tt)) (tt, (tt, tt))) $
-      says ! (ap (λ (s : Reply). s .answer) e, ap (λ (s : Reply). s .model) e) $ nothing ! $ move ! (3 ∷ 0 ∷ []) $ join ! $ frame ! $ feqI ! (List Val) (vptr b o ∷ []) (vptr b o ∷ []) refl $ fjoin3 ! $
+      says ! e $ nothing ! $ move ! (3 ∷ 0 ∷ []) $ join ! $ frame ! $ feqI ! (List Val) (vptr b o ∷ []) (vptr b o ∷ []) refl $ fjoin3 ! $
       nothing ! $ owned ! N.the-row (Is N.the-row) (LL.makes N.the-type N′.the-plain 𝓤 H A) n _ counted $ fjoin ! $ move ! (1 ∷ 0 ∷ []) $ fjoin ! $
       owned ! E.the-row (Is E.the-row) (EL.makes E.the-type E′.the-plain 𝓤 H A) (r .answer) _ is $ move ! (1 ∷ 0 ∷ []) $ done !
 
@@ -133,7 +133,7 @@ module _ {M : Type 1} (𝓤 : URA M) (H : Heap 𝓤) (A : Atoms 𝓤) (W : Given
         -- [what `stretch` asks; the model's cell; the open borrow; obs; auth; true; n's; _4; …; as before]
         calls-at ! fm (Stretch 𝓤 H A at-mem run) known to (and-then ! (load ! (from ! (stop !)) (look ! 7 refl)) (and-then ! (load ! (from ! (stop !)) (look ! 11 refl)) (no-more !))) (λ w.
         use1 W (later (some (λ (r : Reply). (‵ ftrue ⊛ ‵ (S.the-row .own r (w ∷ []))) ⊛ raw (ensured 𝓤 H A stretch.ended (stretch.clauses 𝓤 H A at-mem run) tt (h, (n, tt)) tt r)))) (id⊢ 𝓤 _) $ await ! tt $ pick ! (λ r.
-        split ! $ move ! (1 ∷ []) $ use1 W (raw (fact 𝓤 (r ≡ reply h (stretch-call (n .0))))) (said r) $ heard ! (r ≡ reply h (stretch-call (n .0))) (λ e. split ! $ drop ! $
+        split ! $ move ! (1 ∷ []) $ use1 W (raw (fact 𝓤 (Replied h (stretch-call (n .0)) r))) (said r) $ heard ! (Replied h (stretch-call (n .0)) r) (λ e. split ! $ drop ! $
         peeks ! S.the-row (Is S.the-row) (shows 𝓤 H A S.the-row) r (w ∷ []) (λ is.
         -- [what the reply owns; the model's cell; the open borrow; obs; auth; true; n's; _4; …; _3; …; _2; …; _1; …; room for _0; …]
         land ! (from ! (stop !)) (init ! 9 refl (LL.lawful S.the-type S′.the-laws 𝓤 H A W .typed r (w ∷ []) is .0)) $ rewrite ! 9 (λ (u : Val). ‵ (fat fullShare S′.mir l₃ 0 u)) (ap only (LL.tells S.the-type S′.the-laws r (w ∷ []) is)) refl $

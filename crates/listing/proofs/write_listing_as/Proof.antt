@@ -3,6 +3,7 @@
 use Prim.Native.Nat.{ℕ}
 use mathlib.Core.Path.{ap, _∙_}
 use borrow.Author.Needs.{needs}
+use Rattle.unit.proofs.Says.{says}
 use Rattle.listing.specs.Listing.{listing}
 use Rattle.listing.proofs.write_listing_as.Statement.{statement}
 use Rattle.listing.proofs.write_listing_as.Tie as tie
@@ -17,7 +18,7 @@ same-length : tie.Need-same-length
 same-length c = search needs
 
 returns : tie.Need-returns
-returns c = c .before .before .write-digits .ensures ∙ ap (λ (d : ℕ). listing d (c .before .before .before .before .before .before .args .differences .now) (c .before .before .before .before .before .before .args .first) (c .before .before .before .before .before .before .args .out .now)) (c .before .before .before .before .capture-digits .ensures .0)
+returns c = says (c .before .before .write-digits .ensures ∙ ap (λ (d : ℕ). listing d (c .before .before .before .before .before .before .args .differences .now) (c .before .before .before .before .before .before .args .first) (c .before .before .before .before .before .before .args .out .now)) (c .before .before .before .before .capture-digits .ensures .0))
 
 pub write-listing-as-spec : {M : Type 1} → statement M
 write-listing-as-spec =

@@ -13,10 +13,7 @@ same-length : tie.Need-same-length
 same-length c = search needs
 
 returns : tie.Need-returns
-returns c = (
-  rw (← c .before .before .before .before .degrees .ensures) (c .before .before .reading .ensures .0),
-  rw (← c .before .before .before .before .degrees .ensures) (c .before .before .reading .ensures .1),
-)
+returns c = rw (← c .before .before .before .before .degrees .ensures .same) (c .before .before .reading .ensures)
 
 pub max35101-degrees-spec : {M : Type 1} → statement M
 max35101-degrees-spec = tie.close (tie.spec degrees-requires reading-requires same-length returns)

@@ -13,10 +13,7 @@ same-length : tie.Need-same-length
 same-length c = search needs
 
 returns : tie.Need-returns
-returns c = (
-  rw (← c .before .before .before .before .degrees-by .ensures) (c .before .before .reading .ensures .0),
-  rw (← c .before .before .before .before .degrees-by .ensures) (c .before .before .reading .ensures .1),
-)
+returns c = rw (← c .before .before .before .before .degrees-by .ensures .same) (c .before .before .reading .ensures)
 
 pub max35101-degrees-by-spec : {M : Type 1} → statement M
 max35101-degrees-by-spec =

@@ -13,10 +13,7 @@ same-length : tie.Need-same-length
 same-length c = search needs
 
 returns : tie.Need-returns
-returns c = (
-  rw (← c .before .before .before .before .quietest-place .ensures) (c .before .before .place .ensures .0),
-  rw (← c .before .before .before .before .quietest-place .ensures) (c .before .before .place .ensures .1),
-)
+returns c = rw (← c .before .before .before .before .quietest-place .ensures .same) (c .before .before .place .ensures)
 
 pub max35101-quietest-place-spec : {M : Type 1} → statement M
 max35101-quietest-place-spec =

@@ -1,7 +1,6 @@
 -- `max35101_analysis::max35101_write_listing` meets its contract.
-use Rattle.listing.specs.Listing.{Outcome}
-use Rattle.outcome.specs.Code.{filled}
-use Rattle.finding.specs.Finding.{listedCode, listedWords}
+use Rattle.listing.specs.Listing.{Outcome, numberOut, valueOut}
+use Rattle.outcome.specs.Code.{codeIn, filled}
 use Rattle.max35101_analysis.specs.Listed.{listedNumber, listedOut, listedSizes}
 use denote.Ref.{now}
 use mathlib.Core.Path.{ap, _∙_}
@@ -24,9 +23,9 @@ same-length-2 c = search needs
 returns : tie.Need-returns
 unfolding listedNumber listedOut listedSizes
 returns c = (
-  c .before .before .listed .ensures .0 ∙ ap (λ (o : Outcome). listedCode (o .answer)) (c .before .before .before .before .before .before .write-listing .ensures),
-  ap (λ (o : Outcome). o .bytes) (c .before .before .before .before .before .before .write-listing .ensures),
-  c .before .before .listed .ensures .1 ∙ ap (λ (o : Outcome). filled (now (c .before .before .before .before .before .before .before .before .before .before .args .answer)) (listedWords (o .answer))) (c .before .before .before .before .before .before .write-listing .ensures),
+  c .before .before .listed .ensures .coded ∙ ap (λ (o : Outcome). codeIn (numberOut o)) (c .before .before .before .before .before .before .write-listing .ensures .same),
+  ap (λ (o : Outcome). o .bytes) (c .before .before .before .before .before .before .write-listing .ensures .same),
+  c .before .before .listed .ensures .worded ∙ ap (λ (o : Outcome). filled (now (c .before .before .before .before .before .before .before .before .before .before .args .answer)) (valueOut o)) (c .before .before .before .before .before .before .write-listing .ensures .same),
 )
 
 pub max35101-write-listing-spec : {M : Type 1} → statement M

@@ -1,7 +1,6 @@
 -- `max35101_analysis::max35101_write_listing_as` meets its contract.
-use Rattle.listing.specs.Listing.{Outcome}
-use Rattle.outcome.specs.Code.{filled}
-use Rattle.finding.specs.Finding.{listedCode, listedWords}
+use Rattle.listing.specs.Listing.{Outcome, numberOut, valueOut}
+use Rattle.outcome.specs.Code.{codeIn, filled}
 use Rattle.max35101_analysis.specs.Listed.{listedNumber, listedOut, listedSizes}
 use denote.Ref.{now}
 use mathlib.Core.Path.{refl, ap, _∙_}
@@ -26,9 +25,9 @@ returns : tie.Need-returns
 unfolding listedNumber listedOut listedSizes
 returns c =
     rw (eq-eqb _ _ (c .before .before .before .before .before .before .before .before .if1 .taken)) (
-      c .before .before .listed .ensures .0 ∙ ap (λ (o : Outcome). listedCode (o .answer)) (c .before .before .before .before .before .before .write-listing-as .ensures),
-      ap (λ (o : Outcome). o .bytes) (c .before .before .before .before .before .before .write-listing-as .ensures),
-      c .before .before .listed .ensures .1 ∙ ap (λ (o : Outcome). filled (now (c .before .before .before .before .before .before .before .before .before .before .before .args .answer)) (listedWords (o .answer))) (c .before .before .before .before .before .before .write-listing-as .ensures),
+      c .before .before .listed .ensures .coded ∙ ap (λ (o : Outcome). codeIn (numberOut o)) (c .before .before .before .before .before .before .write-listing-as .ensures .same),
+      ap (λ (o : Outcome). o .bytes) (c .before .before .before .before .before .before .write-listing-as .ensures .same),
+      c .before .before .listed .ensures .worded ∙ ap (λ (o : Outcome). filled (now (c .before .before .before .before .before .before .before .before .before .before .before .args .answer)) (valueOut o)) (c .before .before .before .before .before .before .write-listing-as .ensures .same),
     )
 
 write-listing-as-requires-2 : tie.Need-write-listing-as-requires-2
@@ -47,9 +46,9 @@ returns-2 : tie.Need-returns-2
 unfolding listedNumber listedOut listedSizes
 returns-2 c =
     rw (ne-eqb _ _ (c .before .before .before .before .before .before .before .before .before .if1 .left), eq-eqb _ _ (c .before .before .before .before .before .before .before .before .if2 .taken)) (
-      c .before .before .listed2 .ensures .0 ∙ ap (λ (o : Outcome). listedCode (o .answer)) (c .before .before .before .before .before .before .write-listing-as2 .ensures),
-      ap (λ (o : Outcome). o .bytes) (c .before .before .before .before .before .before .write-listing-as2 .ensures),
-      c .before .before .listed2 .ensures .1 ∙ ap (λ (o : Outcome). filled (now (c .before .before .before .before .before .before .before .before .before .before .before .before .args .answer)) (listedWords (o .answer))) (c .before .before .before .before .before .before .write-listing-as2 .ensures),
+      c .before .before .listed2 .ensures .coded ∙ ap (λ (o : Outcome). codeIn (numberOut o)) (c .before .before .before .before .before .before .write-listing-as2 .ensures .same),
+      ap (λ (o : Outcome). o .bytes) (c .before .before .before .before .before .before .write-listing-as2 .ensures .same),
+      c .before .before .listed2 .ensures .worded ∙ ap (λ (o : Outcome). filled (now (c .before .before .before .before .before .before .before .before .before .before .before .before .args .answer)) (valueOut o)) (c .before .before .before .before .before .before .write-listing-as2 .ensures .same),
     )
 
 returns-3 : tie.Need-returns-3

@@ -28,9 +28,9 @@ returns : tie.Need-returns
 returns c =
     let load = c .before .before .before .before .before .before .before .before .before .before .before .before .before .before .load in
     let call = c .before .before .before .before .before .before .before .before .before .before .before .transaction in (
-      rw (← load .ensures, ← call .ensures .0) (c .before .before .before .before .settle .ensures),
-      rw (← load .ensures) (call .ensures .1),
-      rw (← load .ensures) (call .ensures .2),
+      rw (← load .ensures, ← call .ensures .replied .reply) (c .before .before .before .before .settle .ensures),
+      rw (← load .ensures) (call .ensures .output),
+      rw (← load .ensures) (call .ensures .memory),
     )
 
 pub max35101-transaction-spec : {M : Type 1} → statement M

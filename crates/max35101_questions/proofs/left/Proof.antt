@@ -1,5 +1,5 @@
 -- `max35101_questions::left` meets its contract.
-use Rattle.max35101_questions.specs.Places.{leftCode, leftWords}
+use Rattle.run_state.specs.State.{numberLeft, valuesLeft}
 use borrow.Author.Needs.{needs}
 use Rattle.max35101_questions.proofs.left.Statement.{statement}
 use Rattle.max35101_questions.proofs.left.Tie as tie
@@ -14,15 +14,17 @@ put-requires : tie.Need-put-requires
 put-requires c κs = search needs
 
 returns : tie.Need-returns
-unfolding leftCode leftWords
-returns c = let k = c .before .l .given in (rw (k .1), rw (k .1))
+unfolding numberLeft valuesLeft
+returns c = let k = c .before .l .given in record { coded = rw (k .1); worded = rw (k .1) }
 
 same-length : tie.Need-same-length
 same-length c = search needs
 
 returns-2 : tie.Need-returns-2
-unfolding leftCode leftWords
-returns-2 c = let k = c .before .before .before .before .before .l2 .given in (rw (k .1), rw (k .1) (c .before .before .put .ensures))
+unfolding numberLeft valuesLeft
+returns-2 c =
+    let k = c .before .before .before .before .before .l2 .given in
+    record { coded = rw (k .1); worded = rw (k .1) (c .before .before .put .ensures) }
 
 pub left-spec : {M : Type 1} → statement M
 left-spec = tie.close (tie.spec enum-known-l enum-known-l-2 put-requires returns same-length returns-2)

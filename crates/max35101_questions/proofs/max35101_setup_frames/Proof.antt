@@ -26,8 +26,7 @@ returns c =
     let load = c .before .before .before .before .before .before .before .before .before .before .before .load in
     let frames = c .before .before .before .before .before .before .before .before .setup-frames in
     record {
-      number = rw (← load .ensures, ← frames .ensures .0 .answer) (c .before .before .framed .ensures .0);
-      answer = rw (← load .ensures, ← frames .ensures .0 .answer) (c .before .before .framed .ensures .1);
+      answer = rw (← load .ensures, ← frames .ensures .0 .answer .same) (c .before .before .framed .ensures);
       inBytes = rw (← load .ensures) (frames .ensures .0 .inBytes);
       inLengths = rw (← load .ensures) (frames .ensures .0 .inLengths);
     }

@@ -1,7 +1,6 @@
 -- `max35101_questions::max35101_temperature_left` meets its contract.
-use denote.Ref.{now}
 use borrow.Author.Needs.{needs}
-use Rattle.max35101_questions.proofs.Handed.{left-by}
+use Rattle.max35101_questions.proofs.Handed.{gives-by}
 use Rattle.max35101_questions.proofs.max35101_temperature_left.Statement.{statement}
 use Rattle.max35101_questions.proofs.max35101_temperature_left.Tie as tie
 
@@ -19,7 +18,7 @@ same-length c = search needs
 
 returns : tie.Need-returns
 returns c =
-    left-by (now (c .before .before .before .before .before .before .before .before .args .answer)) (rw (c .before .before .before .before .before .load .ensures) at (c .before .before .before .before .temperature-left .ensures)) (c .before .before .left .ensures)
+    gives-by (rw (c .before .before .before .before .before .load .ensures) at (c .before .before .before .before .temperature-left .ensures .same)) (c .before .before .left .ensures)
 
 pub max35101-temperature-left-spec : {M : Type 1} → statement M
 max35101-temperature-left-spec =

@@ -8,8 +8,8 @@ use denote.Enum.Declared.{tagOf}
 use Rattle.run_state.proofs.Placed.{the-type}
 use Rattle.run_state.specs.declared.Placed.{Placed}
 use Rattle.run_state.specs.declared.Placed.the-variants.{Refused, NoEvent, Event}
-use Rattle.outcome.specs.Code.{accepted, filled}
-use Rattle.max35101_questions.specs.Places.{placedCode, placedWords}
+use Rattle.outcome.specs.Code.{accepted, Gives}
+use Rattle.run_state.specs.Event.{numberPlaced, valuesPlaced}
 use borrow.Author.Needs.{needs}
 use Rattle.max35101_questions.proofs.placed.Statement.{statement}
 use Rattle.max35101_questions.proofs.placed.Tie as tie
@@ -18,10 +18,10 @@ none :
     (p : Placed) (l l′ : List ℕ) →
     OneOf (1 ∷ []) (tagOf the-type p) →
     l′ ≡ set l 0 0 →
-    (accepted ≡ placedCode p) × (l′ ≡ filled l (placedWords p))
-unfolding placedCode placedWords
+    Gives numberPlaced valuesPlaced p l accepted l′
+unfolding numberPlaced valuesPlaced
 none (Refused n) l l′ h e = absurd (miss (1 ∷ []) 0 tt h)
-none NoEvent l l′ h e = (refl, e)
+none NoEvent l l′ h e = record { coded = refl; worded = e }
 none (Event q) l l′ h e = absurd (miss (1 ∷ []) 2 tt h)
 
 enum-known-p : tie.Need-enum-known-p
@@ -40,8 +40,8 @@ put-place-requires : tie.Need-put-place-requires
 put-place-requires c κs = search needs
 
 returns : tie.Need-returns
-unfolding placedCode placedWords
-returns c = let k = c .before .p .given in (rw (k .1), rw (k .1))
+unfolding numberPlaced valuesPlaced
+returns c = let k = c .before .p .given in record { coded = rw (k .1); worded = rw (k .1) }
 
 same-length : tie.Need-same-length
 same-length c = search needs
@@ -53,8 +53,8 @@ same-length-2 : tie.Need-same-length-2
 same-length-2 c = search needs
 
 returns-3 : tie.Need-returns-3
-unfolding placedCode placedWords
-returns-3 c = let k = c .before .before .before .before .before .p2 .given in (rw (k .1), rw (k .1) (c .before .before .put-place .ensures))
+unfolding numberPlaced valuesPlaced
+returns-3 c = let k = c .before .before .before .before .before .p2 .given in record { coded = rw (k .1); worded = rw (k .1) (c .before .before .put-place .ensures) }
 
 pub placed-spec : {M : Type 1} → statement M
 placed-spec =

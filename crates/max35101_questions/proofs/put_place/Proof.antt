@@ -4,7 +4,7 @@ use mathlib.Core.List.{List}
 use mathlib.Core.Path.{ap, _∙_}
 use mir.Val.{boolByte}
 use lib.ListN.{set}
-use Rattle.max35101_questions.specs.Places.{placeWords}
+use Rattle.run_state.specs.Event.{valuesOf}
 use borrow.Author.Needs.{needs}
 use Rattle.max35101_questions.proofs.put_place.Statement.{statement}
 use Rattle.max35101_questions.proofs.put_place.Tie as tie
@@ -40,7 +40,7 @@ same-length : tie.Need-same-length
 same-length c = search needs
 
 returns : tie.Need-returns
-unfolding placeWords
+unfolding valuesOf
 returns c =
     let p = c .before .before .before .before .before .before .before .before .before .before .before .before .before .before .before .before .before .before .before .before .before .before .before .args .p in
     c .before .before .put3 .ensures

@@ -1,4 +1,5 @@
 -- `question::awaited_told` meets its contract.
+use Rattle.unit.proofs.Says.{says}
 use Rattle.device.specs.Question.{awaitedTold}
 use borrow.Author.Needs.{needs}
 use Rattle.question.proofs.awaited_told.Statement.{statement}
@@ -12,15 +13,15 @@ is-awaited-requires c κs = search needs
 
 returns : tie.Need-returns
 unfolding awaitedTold
-returns c = simp (c .if2 .taken, ← c .before .is-awaited .ensures, c .before .before .if1 .taken, ← c .before .before .before .is-sound .ensures)
+returns c = says (simp (c .if2 .taken, ← c .before .is-awaited .ensures, c .before .before .if1 .taken, ← c .before .before .before .is-sound .ensures))
 
 returns-2 : tie.Need-returns-2
 unfolding awaitedTold
-returns-2 c = simp (c .if2 .left, ← c .before .is-awaited .ensures, c .before .before .if1 .taken, ← c .before .before .before .is-sound .ensures)
+returns-2 c = says (simp (c .if2 .left, ← c .before .is-awaited .ensures, c .before .before .if1 .taken, ← c .before .before .before .is-sound .ensures))
 
 returns-3 : tie.Need-returns-3
 unfolding awaitedTold
-returns-3 c = simp (c .if1 .left, ← c .before .is-sound .ensures)
+returns-3 c = says (simp (c .if1 .left, ← c .before .is-sound .ensures))
 
 pub awaited-told-spec : {M : Type 1} → statement M
 awaited-told-spec =

@@ -1,4 +1,5 @@
 -- `question::interrupt_pending` meets its contract.
+use Rattle.unit.proofs.Says.{says}
 use borrow.Author.Tests.{eq-eqb, ne-eqb}
 use Rattle.device.specs.Question.{interruptPending}
 use borrow.Author.Needs.{needs}
@@ -16,19 +17,19 @@ status-word-requires c κs = search needs
 
 returns : tie.Need-returns
 unfolding interruptPending
-returns c = simp (eq-eqb _ _ (c .if3 .taken), ← c .before .status-word .ensures, c .before .before .if2 .taken, ← c .before .before .before .interrupt-enabled .ensures, c .before .before .before .before .before .before .if1 .taken, ← c .before .before .before .before .before .before .before .is-sound .ensures)
+returns c = says (simp (eq-eqb _ _ (c .if3 .taken), ← c .before .status-word .ensures, c .before .before .if2 .taken, ← c .before .before .before .interrupt-enabled .ensures, c .before .before .before .before .before .before .if1 .taken, ← c .before .before .before .before .before .before .before .is-sound .ensures))
 
 returns-2 : tie.Need-returns-2
 unfolding interruptPending
-returns-2 c = simp (ne-eqb _ _ (c .if3 .left), ← c .before .status-word .ensures, c .before .before .if2 .taken, ← c .before .before .before .interrupt-enabled .ensures, c .before .before .before .before .before .before .if1 .taken, ← c .before .before .before .before .before .before .before .is-sound .ensures)
+returns-2 c = says (simp (ne-eqb _ _ (c .if3 .left), ← c .before .status-word .ensures, c .before .before .if2 .taken, ← c .before .before .before .interrupt-enabled .ensures, c .before .before .before .before .before .before .if1 .taken, ← c .before .before .before .before .before .before .before .is-sound .ensures))
 
 returns-3 : tie.Need-returns-3
 unfolding interruptPending
-returns-3 c = simp (c .if2 .left, ← c .before .interrupt-enabled .ensures, c .before .before .before .before .if1 .taken, ← c .before .before .before .before .before .is-sound .ensures)
+returns-3 c = says (simp (c .if2 .left, ← c .before .interrupt-enabled .ensures, c .before .before .before .before .if1 .taken, ← c .before .before .before .before .before .is-sound .ensures))
 
 returns-4 : tie.Need-returns-4
 unfolding interruptPending
-returns-4 c = simp (c .if1 .left, ← c .before .is-sound .ensures)
+returns-4 c = says (simp (c .if1 .left, ← c .before .is-sound .ensures))
 
 pub interrupt-pending-spec : {M : Type 1} → statement M
 interrupt-pending-spec =

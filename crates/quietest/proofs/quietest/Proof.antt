@@ -5,7 +5,7 @@ use native.Mathlib.Omega.{arith}
 use mathlib.Core.Path.{_≡_, refl, sym, ap, _∙_}
 use lib.ListN.{length, take, drop}
 use borrow.Author.Needs.{needs}
-use Rattle.quietest.specs.Quietest.{quietestPlace, numberIn}
+use Rattle.quietest.specs.Quietest.{quietestPlace, numberFound}
 use Rattle.quietest.specs.declared.Place.the-variants.{At, Refused}
 use Rattle.quietest.proofs.Inside.{place-within}
 use Rattle.quietest.proofs.quietest.Statement.{statement}
@@ -22,7 +22,7 @@ at-start :
     (c : tie.After-known-told)
     → quietestPlace (c .before .before .before .before .args .values .now) (c .before .before .before .before .args .width)
     ≡ At (c .before .place .given .0 .0)
-at-start c = sym (c .before .before .before .quietest-place .ensures) ∙ c .before .place .given .1
+at-start c = sym (c .before .before .before .quietest-place .ensures .same) ∙ c .before .place .given .1
 
 within :
     (c : tie.After-known-told)
@@ -53,7 +53,7 @@ slice-aggregate-result : tie.Need-slice-aggregate-result
 slice-aggregate-result c = search needs
 
 returns : tie.Need-returns
-unfolding numberIn
+unfolding numberFound
 returns c =
     let args = c .before .before .before .before .before .args in
     let start = c .before .before .place .given .0 .0 in
@@ -64,11 +64,11 @@ returns c =
     )
 
 returns-2 : tie.Need-returns-2
-unfolding numberIn
+unfolding numberFound
 returns-2 c =
     let args = c .before .before .before .before .before .args in
     let refused : quietestPlace (args .values .now) (args .width) ≡ Refused (c .before .before .place2 .given .0 .0)
-    = sym (c .before .before .before .before .quietest-place .ensures) ∙ c .before .before .place2 .given .1 in
+    = sym (c .before .before .before .before .quietest-place .ensures .same) ∙ c .before .before .place2 .given .1 in
     rw refused (record { block = refl; offset = sym (add-zero (args .values .ptr .1)); elements = refl }, refl)
 
 pub quietest-spec : {M : Type 1} → statement M

@@ -32,7 +32,7 @@ same-length : tie.Need-same-length
 same-length c = search needs
 
 returns : tie.Need-returns
-returns c = page-rows (c .before .before .before .before .before .before .before .before .before .before .before .before .before .before .before .before .before .args .m) (put-then (c .before .before .before .before .before .before .before .before .before .before .put-registers .ensures (c .before .before .before .before .before .before .before .before .before .before .before .before .before .before .before .before .before .args .m) (c .before .before .before .before .before .before .before .before .before .before .before .before .before .before .before .page-words .ensures) (c .before .before .before .before .before .before .before .before .before .before .before .value .ensures ∙ rw (c .before .before .before .before .before .before .before .before .before .before .before .before .regulator-on .ensures))) (put-then (c .before .before .before .before .before .before .put-run .ensures) (c .before .before .put-commands .ensures)))
+returns c = page-rows (c .before .before .before .before .before .before .before .before .before .before .before .before .before .before .before .before .before .args .m) (put-then (c .before .before .before .before .before .before .before .before .before .before .put-registers .ensures (c .before .before .before .before .before .before .before .before .before .before .before .before .before .before .before .before .before .args .m) (c .before .before .before .before .before .before .before .before .before .before .before .before .before .before .before .page-words .ensures) (c .before .before .before .before .before .before .before .before .before .before .before .value .ensures ∙ rw (c .before .before .before .before .before .before .before .before .before .before .before .before .regulator-on .ensures .same))) (put-then (c .before .before .before .before .before .before .put-run .ensures) (c .before .before .put-commands .ensures)))
 
 pub put-page-spec : {M : Type 1} → statement M
 put-page-spec =

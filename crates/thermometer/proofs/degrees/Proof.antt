@@ -2,6 +2,7 @@
 use Prim.Native.Nat.{ℕ}
 use mathlib.Core.Path.{refl, ap, _∙_}
 use mathlib.Core.List.{List}
+use Rattle.unit.proofs.Says.{says}
 use Rattle.thermometer.specs.Degrees.{degreesOver}
 use Rattle.thermometer.proofs.Pt1000.{passes, passed-same, passed-usable}
 use borrow.Author.Needs.{needs}
@@ -19,7 +20,7 @@ returns : tie.Need-returns
 unfolding passes
 returns c =
     let at = c .before .before .args in
-    c .degrees-over .ensures ∙ ap (λ (t : List ℕ). degreesOver t (at .probe) (at .reference)) (passed-same _ refl)
+    says (c .degrees-over .ensures ∙ ap (λ (t : List ℕ). degreesOver t (at .probe) (at .reference)) (passed-same _ refl))
 
 pub degrees-spec : {M : Type 1} → statement M
 degrees-spec = tie.close (tie.spec slice-aggregate-degrees-over degrees-over-requires returns)

@@ -1,6 +1,7 @@
 -- `thermometer::degrees_by` meets its contract.
 use mathlib.Core.Path.{sym, _∙_}
 use denote.Ref.{now}
+use Rattle.unit.proofs.Says.{says}
 use Rattle.thermometer.specs.Degrees.{degreesBy}
 use Rattle.thermometer.proofs.Accepted.{accepted-usable}
 use borrow.Author.Needs.{needs}
@@ -16,11 +17,11 @@ degrees-over-requires c κs =
 
 returns : tie.Need-returns
 unfolding degreesBy
-returns c = rw (← c .before .before .is-accepted .ensures, c .before .if1 .taken) (c .degrees-over .ensures)
+returns c = says (rw (← c .before .before .is-accepted .ensures, c .before .if1 .taken) (c .degrees-over .ensures))
 
 returns-2 : tie.Need-returns-2
 unfolding degreesBy
-returns-2 c = rw (← c .before .is-accepted .ensures, c .if1 .left)
+returns-2 c = says (rw (← c .before .is-accepted .ensures, c .if1 .left))
 
 pub degrees-by-spec : {M : Type 1} → statement M
 degrees-by-spec = tie.close (tie.spec is-accepted-requires degrees-over-requires returns returns-2)

@@ -23,7 +23,7 @@ joined-requires c κs = search needs
 
 returns : tie.Need-returns
 unfolding tofDiff readWord
-returns c = rw (← c .before .before .before .before .peek .ensures, ← c .before .before .peek2 .ensures, ← c .before .before .before .value .ensures, ← c .before .value2 .ensures) (c .joined .ensures)
+returns c = rw (← c .before .before .before .before .peek .ensures .same, ← c .before .before .peek2 .ensures .same, ← c .before .before .before .value .ensures, ← c .before .value2 .ensures) (c .joined .ensures)
 
 pub tof-diff-spec : {M : Type 1} → statement M
 tof-diff-spec =

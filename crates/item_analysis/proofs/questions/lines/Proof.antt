@@ -38,7 +38,7 @@ same-length c = search needs
 
 returns : tie.Need-returns
 unfolding listedAt
-returns c = let wrote = rw (rest-whole (c .before .before .before .before .before .before .before .args .at) (c .before .before .before .before .before .before .before .args .answers .now)) at (c .before .before .write-listing-as .ensures) in rw (le-leb _ _ (c .before .before .before .before .before .if1 .taken), ← c .before .before .before .before .width-of .ensures, ← wrote) (ap (λ (b : List ℕ). record { answer = c .before .before .write-listing-as .result; bytes = b }) (rest-kept (c .before .before .before .before .before .before .before .args .at) (c .before .before .before .before .before .before .before .args .answers .now) _))
+returns c = let wrote = rw (rest-whole (c .before .before .before .before .before .before .before .args .at) (c .before .before .before .before .before .before .before .args .answers .now)) at (c .before .before .write-listing-as .ensures .same) in rw (le-leb _ _ (c .before .before .before .before .before .if1 .taken), ← c .before .before .before .before .width-of .ensures, ← wrote) (ap (λ (b : List ℕ). record { answer = c .before .before .write-listing-as .result; bytes = b }) (rest-kept (c .before .before .before .before .before .before .before .args .at) (c .before .before .before .before .before .before .before .args .answers .now) _))
 
 returns-2 : tie.Need-returns-2
 unfolding listedAt

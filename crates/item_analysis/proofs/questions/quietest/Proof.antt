@@ -22,7 +22,7 @@ same-length c = search needs
 
 returns : tie.Need-returns
 unfolding quietestLine
-returns c = rw (← c .before .before .before .before .before .before .first-of .ensures, ← c .before .before .before .before .before .quietest-place .ensures) (c .before .before .tell-quietest .ensures)
+returns c = rw (← c .before .before .before .before .before .before .first-of .ensures, ← c .before .before .before .before .before .quietest-place .ensures .same) (c .before .before .tell-quietest .ensures)
 
 pub quietest-spec : {M : Type 1} → statement M
 quietest-spec =

@@ -14,11 +14,11 @@ degrees-by-requires c κs = search needs
 
 returns : tie.Need-returns
 unfolding degreesOf
-returns c = rw (eq-eqb _ 0 (c .before .if1 .taken)) (c .degrees .ensures)
+returns c = rw (eq-eqb _ 0 (c .before .if1 .taken)) (c .degrees .ensures .same)
 
 returns-2 : tie.Need-returns-2
 unfolding degreesOf
-returns-2 c = rw (ne-eqb _ 0 (c .before .if1 .left)) (c .degrees-by .ensures)
+returns-2 c = rw (ne-eqb _ 0 (c .before .if1 .left)) (c .degrees-by .ensures .same)
 
 pub reading-spec : {M : Type 1} → statement M
 reading-spec = tie.close (tie.spec degrees-requires degrees-by-requires returns returns-2)

@@ -32,7 +32,7 @@ same-length c = search needs
 
 returns : tie.Need-returns
 unfolding flightLine told called
-returns c = rw (← c .before .before .before .before .before .before .before .before .before .before .words-from .ensures, ← c .before .before .before .before .before .before .before .before .before .before .before .first-words .ensures, ← c .before .before .before .before .before .before .before .before .before .first-words2 .ensures, ← c .before .before .before .before .before .before .before .before .flight-delivery .ensures, ← c .before .before .before .before .before .put-flight .ensures .next, ← c .before .before .before .before .before .put-flight .ensures .bytes, ← c .before .count-call .ensures)
+returns c = rw (← c .before .before .before .before .before .before .before .before .before .before .words-from .ensures, ← c .before .before .before .before .before .before .before .before .before .before .before .first-words .ensures, ← c .before .before .before .before .before .before .before .before .before .first-words2 .ensures, ← c .before .before .before .before .before .before .before .before .flight-delivery .ensures .reply, ← c .before .before .before .before .before .put-flight .ensures .next, ← c .before .before .before .before .before .put-flight .ensures .bytes, ← c .before .count-call .ensures)
 
 pub flight-spec : {M : Type 1} → statement M
 flight-spec =

@@ -26,7 +26,7 @@ same-length c = search needs
 
 returns : tie.Need-returns
 unfolding temperatureLine told called
-returns c = rw (← c .before .before .before .before .before .before .before .before .before .first-words .ensures, ← c .before .before .before .before .before .before .before .before .temperature-delivery .ensures, ← c .before .before .before .before .before .put-temperature .ensures .next, ← c .before .before .before .before .before .put-temperature .ensures .bytes, ← c .before .count-call .ensures)
+returns c = rw (← c .before .before .before .before .before .before .before .before .before .first-words .ensures, ← c .before .before .before .before .before .before .before .before .temperature-delivery .ensures .reply, ← c .before .before .before .before .before .put-temperature .ensures .next, ← c .before .before .before .before .before .put-temperature .ensures .bytes, ← c .before .count-call .ensures)
 
 pub temperature-spec : {M : Type 1} → statement M
 temperature-spec =

@@ -66,7 +66,7 @@ loop-less : tie.Need-loop-less Inv-loop μ-loop
 loop-less c = omega (arith, c .before .before .before .before .before .before .before .before .before .before .at-most3 .ensures, c .before .before .before .before .before .before .before .before .before .before .before .before .if1 .taken)
 
 loop-again : tie.Need-loop-again Inv-loop μ-loop
-loop-again c = (search needs, omega (arith, c .before .before .before .before .before .before .before .before .before .before .at-most3 .ensures, c .before .before .before .before .before .before .before .before .before .before .before .before .before .before .loop .inv .1), turn-model (c .before .before .before .before .before .before .before .before .before .before .before .before .before .before .loop .model) (c .before .before .before .before .before .before .before .before .before .before .before .before .before .before .loop .left .0) (c .before .before .before .before .before .before .before .before .before .before .before .before .before .before .loop .before .0) (c .before .before .before .before .before .before .before .before .before .before .before .before .if1 .taken) (c .before .before .before .before .before .before .before .before .before .before .at-most3 .ensures) (c .before .before .before .before .before .before .before .before .before .stretch .ensures) (c .before .before .before .before .before .before .before .before .before .before .before .before .before .before .loop .inv .2), turn-texts (c .before .before .before .before .before .before .before .before .before .before .before .before .before .before .loop .model) (c .before .before .before .before .before .before .before .before .before .before .before .before .before .before .loop .left .0) (c .before .before .before .before .before .before .before .before .before .before .before .before .before .before .loop .before .0) (c .before .before .before .before .before .before .before .before .before .before .before .before .if1 .taken) (c .before .before .before .before .before .before .before .before .before .before .at-most3 .ensures) (c .before .before .before .before .before .before .before .before .before .stretch .ensures) (c .before .before .before .before .before .before .add-reports .ensures) (c .before .before .before .before .before .before .before .before .before .before .before .before .before .before .loop .inv .3))
+loop-again c = (search needs, omega (arith, c .before .before .before .before .before .before .before .before .before .before .at-most3 .ensures, c .before .before .before .before .before .before .before .before .before .before .before .before .before .before .loop .inv .1), turn-model (c .before .before .before .before .before .before .before .before .before .before .before .before .before .before .loop .model) (c .before .before .before .before .before .before .before .before .before .before .before .before .before .before .loop .left .0) (c .before .before .before .before .before .before .before .before .before .before .before .before .before .before .loop .before .0) (c .before .before .before .before .before .before .before .before .before .before .before .before .if1 .taken) (c .before .before .before .before .before .before .before .before .before .before .at-most3 .ensures) (c .before .before .before .before .before .before .before .before .before .stretch .ensures .reply) (c .before .before .before .before .before .before .before .before .before .before .before .before .before .before .loop .inv .2), turn-texts (c .before .before .before .before .before .before .before .before .before .before .before .before .before .before .loop .model) (c .before .before .before .before .before .before .before .before .before .before .before .before .before .before .loop .left .0) (c .before .before .before .before .before .before .before .before .before .before .before .before .before .before .loop .before .0) (c .before .before .before .before .before .before .before .before .before .before .before .before .if1 .taken) (c .before .before .before .before .before .before .before .before .before .before .at-most3 .ensures) (c .before .before .before .before .before .before .before .before .before .stretch .ensures .reply) (c .before .before .before .before .before .before .add-reports .ensures) (c .before .before .before .before .before .before .before .before .before .before .before .before .before .before .loop .inv .3))
 
 element-write-counts : tie.Need-element-write-counts Inv-loop μ-loop
 element-write-counts c = search needs

@@ -32,7 +32,7 @@ same-length c = search needs
 
 returns : tie.Need-returns
 unfolding singleLine told moved called added
-returns c = rw (← c .before .before .before .before .before .before .before .before .before .before .tick .ensures, ← c .before .before .before .before .before .before .before .before .more .ensures, ← c .before .before .before .before .before .put-single .ensures .next, ← c .before .before .before .before .before .put-single .ensures .bytes, ← c .before .count-call .ensures)
+returns c = rw (← c .before .before .before .before .before .before .before .before .before .before .tick .ensures .reply, ← c .before .before .before .before .before .before .before .before .more .ensures, ← c .before .before .before .before .before .put-single .ensures .next, ← c .before .before .before .before .before .put-single .ensures .bytes, ← c .before .count-call .ensures)
 
 pub single-spec : {M : Type 1} → statement M
 single-spec =

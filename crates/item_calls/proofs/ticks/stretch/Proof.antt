@@ -26,7 +26,7 @@ same-length c = search needs
 
 returns : tie.Need-returns
 unfolding stretchLine told called
-returns c = rw (← c .before .before .before .before .before .before .before .before .before .before .stretch .ensures, ← c .before .before .before .before .before .before .before .before .move-by .ensures, ← c .before .before .before .before .before .put-stretch .ensures .next, ← c .before .before .before .before .before .put-stretch .ensures .bytes, ← c .before .count-call .ensures)
+returns c = rw (← c .before .before .before .before .before .before .before .before .before .before .stretch .ensures .reply, ← c .before .before .before .before .before .before .before .before .move-by .ensures, ← c .before .before .before .before .before .put-stretch .ensures .next, ← c .before .before .before .before .before .put-stretch .ensures .bytes, ← c .before .count-call .ensures)
 
 pub stretch-spec : {M : Type 1} → statement M
 stretch-spec =

@@ -54,7 +54,7 @@ same-length-2 c = search needs
 
 returns : tie.Need-returns
 unfolding busLine transacted called
-returns c = rw (← (c .before .before .before .before .before .before .before .before .before .before .before .before .before .before .before .before .before .before .before .first-bytes .ensures ∙ frame-of (rw (c .before .before .before .before .before .before .before .before .before .before .before .before .before .before .before .before .before .before .before .before .before .before .before .before .first-words .ensures) (bus-fits (c .before .before .before .before .before .before .before .before .before .before .before .before .before .before .before .before .before .before .before .before .before .before .before .before .before .before .before .before .before .args .bytes) (c .before .before .before .before .before .before .before .before .before .before .before .before .before .before .before .before .before .before .before .before .before .before .before .before .before .before .before .before .before .args .numbers .now) (c .before .before .before .before .before .before .before .before .before .before .before .before .before .before .before .before .before .before .before .before .before .before .before .before .before .before .before .before .before .pre .0))) (c .before .before .before .before .before .before .before .before .before .before .before .before .before .before .before .before .before .before .before .before .before .before .before .put-low-bytes .ensures) ∙ ap lowBytes (c .before .before .before .before .before .before .before .before .before .before .before .before .before .before .before .before .before .before .before .before .before .before .before .before .first-words .ensures)), ← take-replicate (c .before .before .before .before .before .before .before .before .before .before .before .before .before .before .before .before .before .before .before .before .before .before .before .before .before .before .before .before .before .args .size) 200 238 (c .before .before .before .before .before .before .before .before .before .before .before .before .before .before .before .before .before .before .before .before .before .before .before .before .before .before .before .before .before .pre .1), ← c .before .before .before .before .before .before .before .before .before .before .before .before .before .before .before .before .transaction .ensures .0, ← c .before .before .before .before .before .before .before .before .before .before .before .before .before .before .before .before .transaction .ensures .1, ← c .before .before .before .before .before .before .before .before .before .before .before .before .before .before .before .before .transaction .ensures .2, ← c .before .before .before .before .before .before .before .before .put-bus .ensures .next, ← c .before .before .before .before .before .before .before .before .put-bus .ensures .bytes, ← c .before .before .before .count-call .ensures, ← c .before .start-moment .ensures)
+returns c = rw (← (c .before .before .before .before .before .before .before .before .before .before .before .before .before .before .before .before .before .before .before .first-bytes .ensures ∙ frame-of (rw (c .before .before .before .before .before .before .before .before .before .before .before .before .before .before .before .before .before .before .before .before .before .before .before .before .first-words .ensures) (bus-fits (c .before .before .before .before .before .before .before .before .before .before .before .before .before .before .before .before .before .before .before .before .before .before .before .before .before .before .before .before .before .args .bytes) (c .before .before .before .before .before .before .before .before .before .before .before .before .before .before .before .before .before .before .before .before .before .before .before .before .before .before .before .before .before .args .numbers .now) (c .before .before .before .before .before .before .before .before .before .before .before .before .before .before .before .before .before .before .before .before .before .before .before .before .before .before .before .before .before .pre .0))) (c .before .before .before .before .before .before .before .before .before .before .before .before .before .before .before .before .before .before .before .before .before .before .before .put-low-bytes .ensures) ∙ ap lowBytes (c .before .before .before .before .before .before .before .before .before .before .before .before .before .before .before .before .before .before .before .before .before .before .before .before .first-words .ensures)), ← take-replicate (c .before .before .before .before .before .before .before .before .before .before .before .before .before .before .before .before .before .before .before .before .before .before .before .before .before .before .before .before .before .args .size) 200 238 (c .before .before .before .before .before .before .before .before .before .before .before .before .before .before .before .before .before .before .before .before .before .before .before .before .before .before .before .before .before .pre .1), ← c .before .before .before .before .before .before .before .before .before .before .before .before .before .before .before .before .transaction .ensures .replied .reply, ← c .before .before .before .before .before .before .before .before .before .before .before .before .before .before .before .before .transaction .ensures .output, ← c .before .before .before .before .before .before .before .before .before .before .before .before .before .before .before .before .transaction .ensures .memory, ← c .before .before .before .before .before .before .before .before .put-bus .ensures .next, ← c .before .before .before .before .before .before .before .before .put-bus .ensures .bytes, ← c .before .before .before .count-call .ensures, ← c .before .start-moment .ensures)
 
 pub bus-out-spec : {M : Type 1} → statement M
 bus-out-spec =

@@ -52,7 +52,7 @@ same-length-2 c = search needs
 
 returns : tie.Need-returns
 unfolding setLine transacted called
-returns c = rw (← (c .before .before .before .before .before .before .before .before .before .before .before .before .before .before .before .before .first-bytes .ensures ∙ frame-of-parts (rw (c .before .before .before .before .before .before .before .before .before .before .before .before .before .before .before .before .before .before .before .before .first-words .ensures) (set-fits (c .before .before .before .before .before .before .before .before .before .before .before .before .before .before .before .before .before .before .before .before .before .before .before .before .before .args .a) (c .before .before .before .before .before .before .before .before .before .before .before .before .before .before .before .before .before .before .before .before .before .before .before .before .before .args .words) (c .before .before .before .before .before .before .before .before .before .before .before .before .before .before .before .before .before .before .before .before .before .before .before .before .before .args .numbers .now) (c .before .before .before .before .before .before .before .before .before .before .before .before .before .before .before .before .before .before .before .before .before .before .before .before .before .pre))) (c .before .before .before .before .before .before .before .before .before .before .before .before .before .before .before .before .before .before .before .put-write .ensures) ∙ ap (λ (ws : List ℕ). joined (writeBytes (c .before .before .before .before .before .before .before .before .before .before .before .before .before .before .before .before .before .before .before .before .before .before .before .before .before .args .a) ws)) (c .before .before .before .before .before .before .before .before .before .before .before .before .before .before .before .before .before .before .before .before .first-words .ensures)), ← c .before .before .before .before .before .before .before .before .before .before .before .before .before .transaction .ensures .0, ← c .before .before .before .before .before .before .before .before .before .before .before .before .before .transaction .ensures .2, ← c .before .before .before .before .before .before .before .put-set .ensures .next, ← c .before .before .before .before .before .before .before .put-set .ensures .bytes, ← c .before .before .before .count-call .ensures, ← c .before .start-moment .ensures)
+returns c = rw (← (c .before .before .before .before .before .before .before .before .before .before .before .before .before .before .before .before .first-bytes .ensures ∙ frame-of-parts (rw (c .before .before .before .before .before .before .before .before .before .before .before .before .before .before .before .before .before .before .before .before .first-words .ensures) (set-fits (c .before .before .before .before .before .before .before .before .before .before .before .before .before .before .before .before .before .before .before .before .before .before .before .before .before .args .a) (c .before .before .before .before .before .before .before .before .before .before .before .before .before .before .before .before .before .before .before .before .before .before .before .before .before .args .words) (c .before .before .before .before .before .before .before .before .before .before .before .before .before .before .before .before .before .before .before .before .before .before .before .before .before .args .numbers .now) (c .before .before .before .before .before .before .before .before .before .before .before .before .before .before .before .before .before .before .before .before .before .before .before .before .before .pre))) (c .before .before .before .before .before .before .before .before .before .before .before .before .before .before .before .before .before .before .before .put-write .ensures) ∙ ap (λ (ws : List ℕ). joined (writeBytes (c .before .before .before .before .before .before .before .before .before .before .before .before .before .before .before .before .before .before .before .before .before .before .before .before .before .args .a) ws)) (c .before .before .before .before .before .before .before .before .before .before .before .before .before .before .before .before .before .before .before .before .first-words .ensures)), ← c .before .before .before .before .before .before .before .before .before .before .before .before .before .transaction .ensures .replied .reply, ← c .before .before .before .before .before .before .before .before .before .before .before .before .before .transaction .ensures .memory, ← c .before .before .before .before .before .before .before .put-set .ensures .next, ← c .before .before .before .before .before .before .before .put-set .ensures .bytes, ← c .before .before .before .count-call .ensures, ← c .before .start-moment .ensures)
 
 pub set-spec : {M : Type 1} → statement M
 set-spec =

@@ -25,7 +25,7 @@ same-length c = search needs
 
 returns : tie.Need-returns
 unfolding awaited
-returns c = rw (← c .before .before .before .before .before .before .before .flight-awaited .ensures, ← c .before .before .before .before .before .before .value .ensures, ← c .before .before .before .before .before .temperature-awaited .ensures, ← c .before .before .before .before .value2 .ensures) (c .before .before .put-awaited .ensures)
+returns c = rw (← c .before .before .before .before .before .before .before .flight-awaited .ensures .same, ← c .before .before .before .before .before .before .value .ensures, ← c .before .before .before .before .before .temperature-awaited .ensures .same, ← c .before .before .before .before .value2 .ensures) (c .before .before .put-awaited .ensures)
 
 pub put-awaited-spec : {M : Type 1} → statement M
 put-awaited-spec =

@@ -19,7 +19,7 @@ same-length c = search needs
 
 returns : tie.Need-returns
 unfolding interrupt
-returns c = rw (← c .before .before .before .before .before .interrupt-pending .ensures, ← c .before .before .before .before .value .ensures) (c .before .before .put-interrupt .ensures)
+returns c = rw (← c .before .before .before .before .before .interrupt-pending .ensures .same, ← c .before .before .before .before .value .ensures) (c .before .before .put-interrupt .ensures)
 
 pub put-interrupt-spec : {M : Type 1} → statement M
 put-interrupt-spec =

@@ -16,7 +16,7 @@ transaction-requires c κs = search needs
 
 returns : tie.Need-returns
 unfolding answerTo
-returns c = rw ((c .before .before .transaction .ensures .0))
+returns c = rw ((c .before .before .transaction .ensures .replied .reply))
 
 pub answer-to-spec : {M : Type 1} → statement M
 answer-to-spec =

@@ -13,7 +13,7 @@ value-requires c κs = search needs
 
 returns : tie.Need-returns
 unfolding readWord
-returns c = rw ((c .value .ensures), (c .before .peek .ensures))
+returns c = rw ((c .value .ensures), (c .before .peek .ensures .same))
 
 pub word-spec : {M : Type 1} → statement M
 word-spec = tie.close (tie.spec peek-requires value-requires returns)

@@ -314,6 +314,10 @@ reports-of-a-tick : reportsAt 70 (Ticked (report true true) (report true true)) 
 unfolding ascii digits glyph numeralDecimal decimalWidth widthFrom textWhere itemAnswerReport reports reportsAt
 reports-of-a-tick = refl
 
+reports-apart : map (reportsAt 1) (Ticked (report true false) (report false false) ∷ Ticked (report false true) (report false false) ∷ Ticked (report false false) (report true false) ∷ Ticked (report false false) (report false true) ∷ []) ≡ texts (" failed-flight@1" ∷ " started-flight@1" ∷ " failed-temperature@1" ∷ " started-temperature@1" ∷ [])
+unfolding ascii digits glyph numeralDecimal decimalWidth widthFrom textWhere itemAnswerReport reports reportsAt
+reports-apart = refl
+
 -- by tick, and within one tick in the order of the words
 reports-of-a-stretch : reportsTo 4 (Stretched (ticks 4 2) (ticks 2 3)) ≡ ascii " started-flight@2 failed-temperature@2 started-temperature@3 failed-flight@4"
 unfolding ascii digits glyph numeralDecimal decimalWidth widthFrom textWhere itemAnswerReport reports reportsAt reportsTo

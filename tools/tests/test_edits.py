@@ -13,12 +13,12 @@ loader = importlib.machinery.SourceFileLoader("edits", os.path.join(ROOT, "tools
 tool = importlib.util.module_from_spec(importlib.util.spec_from_loader("edits", loader))
 loader.exec_module(tool)
 
-# The crates whose public functions are open to the outside, beside `transaction` of bus.
+# The crates whose public functions are open to the outside.
 OUTWARD = "converter question run_state lent setup_frames thermometer quietest nanosecond listing difference max35101_*".split()
 
 
 def outward_calls() -> set[str]:
-    calls = {"transaction"}
+    calls: set[str] = set()
     for crate in OUTWARD:
         for path in glob.glob(os.path.join(ROOT, "crates", crate, "src", "lib.rt")):
             with open(path, encoding="utf-8") as file:

@@ -1,11 +1,11 @@
-// The bus transaction. It takes any model and any frame; a refusal changes nothing.
+// The bus transaction, on a model that is known to be sound. It takes any frame; a refusal changes nothing.
 ghost use mathlib.Core.Path.{_≡_};
 ghost use mathlib.Core.Bool.{true};
 ghost use Prim.Native.Nat.{_≤_, _+_, _*_};
 ghost use lib.ListN.{length};
 ghost use Rattle.device.specs.Model.{isSound};
 ghost use Rattle.device.specs.Call.{Call};
-ghost use Rattle.device.specs.Reply.{reply, output, memory, Transacted};
+ghost use Rattle.device.specs.Reply.{reply, output, memory};
 ghost use Rattle.device.specs.Parts.{commandReply, writeReply, readReply, readOutput, refusalNumber, readFits, frameFits, flashFrameReply, flashFrameOutput, flashFrameMemory, wordsReply};
 use command::before_initialize;
 use command::command_busy;
@@ -21,12 +21,10 @@ use model::refusal::BUSY;
 use model::refusal::CALENDAR;
 use model::refusal::NO_FRAME;
 use model::refusal::NOT_INITIALISED;
-use model::refusal::NOT_SOUND;
 use model::refusal::SET_UP;
 use model::reply::accept;
 use model::reply::refuse;
 use model::state::is_busy;
-use model::state::is_sound;
 use registers::read::fill_words;
 use registers::read::read_model;
 use registers::write::write_invalid;
@@ -104,16 +102,6 @@ fn words_reply(m: Model, d: Decoded, b: &[u8], out: &mut [u8], mem: &mut [u8]) -
 }
 
 // One bus transaction: the bytes of a chip-enable window, the output buffer, and the user flash.
-pub fn transaction(m: Model, frame: &[u8], out: &mut [u8], mem: &mut [u8]) -> Reply
-    ensures { λ r. ⌜ Transacted m (Call.transaction (now (frame .entry)) (now (out .entry)) (now (mem .entry))) r (now (out .exit)) (now (mem .exit)) ⌝ }
-{
-    if is_sound(m) {
-        return sound_transaction(m, frame, out, mem);
-    }
-    refuse(m, NOT_SOUND)
-}
-
-// The same where the model is known to be sound, as in a list of calls.
 pub fn sound_transaction(m: Model, frame: &[u8], out: &mut [u8], mem: &mut [u8]) -> Reply
     requires { ⌜ isSound m ≡ true ⌝ }
     ensures { λ r. ⌜ (r ≡ reply m (Call.transaction (now (frame .entry)) (now (out .entry)) (now (mem .entry)))) × (now (out .exit) ≡ output m (Call.transaction (now (frame .entry)) (now (out .entry)) (now (mem .entry)))) × (now (mem .exit) ≡ memory m (Call.transaction (now (frame .entry)) (now (out .entry)) (now (mem .entry)))) ⌝ }

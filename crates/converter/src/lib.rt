@@ -2,8 +2,8 @@
 ghost use mathlib.Core.Path.{_≡_};
 ghost use Rattle.device.specs.Model.{freshModel};
 ghost use Rattle.device.specs.Call.{Call};
-ghost use Rattle.device.specs.Reply.{Replied};
-pub use bus::transaction;
+ghost use Rattle.device.specs.Reply.{Replied, Transacted};
+use bus::sound_transaction;
 use device::Model;
 use device::Reply;
 use model::refusal::NOT_SOUND;
@@ -31,6 +31,16 @@ pub fn fresh() -> Model
     ensures { λ r. ⌜ r ≡ freshModel ⌝ }
 {
     fresh_with(por_bit())
+}
+
+// One bus transaction: the bytes of a chip-enable window, the output buffer, and the user flash.
+pub fn transaction(m: Model, frame: &[u8], out: &mut [u8], mem: &mut [u8]) -> Reply
+    ensures { λ r. ⌜ Transacted m (Call.transaction (now (frame .entry)) (now (out .entry)) (now (mem .entry))) r (now (out .exit)) (now (mem .exit)) ⌝ }
+{
+    if is_sound(m) {
+        return sound_transaction(m, frame, out, mem);
+    }
+    refuse(m, NOT_SOUND)
 }
 
 // One period of the 32,768 Hz clock.

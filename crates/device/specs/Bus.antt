@@ -1,14 +1,7 @@
 -- Accepted commands and reads, and what may stand in a command's way.
-use Prim.Native.Nat.{ℕ, _+_}
-use mathlib.Core.Bool.{Bool, true, false}
-use mathlib.Core.List.{List}
-use lib.Dec.{ltb, leb, eqb}
-use Rattle.unit.specs.Choice.{pick, either, both, negate}
-use Rattle.setup.specs.Setup.{flightUnset, temperatureUnset, clockStands, eventContinuous, differencePeriod, differenceCount, temperaturePeriod, temperatureCount}
-use Rattle.hit.specs.Words.{noQuanta, noSums}
-use Rattle.device.specs.declared.Flight.{Flight}
-use Rattle.device.specs.declared.Temperature.{Temperature}
-use Rattle.device.specs.declared.Model.{Model}
+use Rattle.device.specs.Base.{ℕ, _+_, Bool, true, false, List, ltb, leb, eqb, pick, either, both, negate, flightUnset}
+use Rattle.device.specs.Base.{temperatureUnset, clockStands, eventContinuous, differencePeriod, differenceCount}
+use Rattle.device.specs.Base.{temperaturePeriod, temperatureCount, noQuanta, noSums, Flight, Temperature, Model}
 use Rattle.device.specs.Event.{startSingle, startEvent, haltSchedule}
 use Rattle.device.specs.Status.{joined, initBit, haltBit, ldoBit, withoutLdo, noBits}
 use Rattle.device.specs.Model.{isBusy, resetModel, withFlight, withTemperature, withStatus, withRegulator, withInitialised, flightWith, temperatureWith}

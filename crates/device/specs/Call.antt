@@ -1,13 +1,6 @@
 -- Every call: its refusals in the order of 01's table, and what it leaves when none holds.
-use Prim.Native.Nat.{ℕ, _-_, _*_, _/_}
-use mathlib.Core.Bool.{Bool, false}
-use mathlib.Core.List.{List, [], _∷_}
-use lib.ListN.{length, getD, drop}
-use lib.Dec.{ltb, eqb}
-use Rattle.unit.specs.Choice.{pick, both, negate}
-use Rattle.setup.specs.Setup.{hitCount}
-use Rattle.frame.specs.Frame.{isCommand, isWrite, isRead, isFlash, flashFurther, notWhole, pastEnd}
-use Rattle.device.specs.declared.Model.{Model}
+use Rattle.device.specs.Base.{ℕ, _-_, _*_, _/_, Bool, false, List, [], _∷_, length, getD, drop, ltb, eqb, pick, both, negate}
+use Rattle.device.specs.Base.{hitCount, isCommand, isWrite, isRead, isFlash, flashFurther, notWhole, pastEnd, Model}
 use Rattle.device.specs.Event.{isAwaited}
 use Rattle.device.specs.Model.{isSound, isBusy}
 use Rattle.device.specs.Write.{writeInvalid}

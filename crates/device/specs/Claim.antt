@@ -1,21 +1,9 @@
 -- The third demand. Quotations are from 01, but for those beside the claims, which are the demand's own words. What differs for a
 -- continuous event: `plannedStarts` has "every j in place of j below N" (Note 5), and `unended` at the end is about it alone.
-use Prim.Native.Nat.{ℕ, zero, suc, _+_, _*_, _/_, _%_, _-_, _^_, _<_, _≤_, min}
-use mathlib.Core.Bool.{true, false}
-use mathlib.Core.List.{List, [], _∷_, _++_, map}
-use mathlib.Core.Logic.{_↔_}
-use mathlib.Core.Path.{_≡_}
-use lib.ListN.{length, getD}
-use lib.Dec.{leb, eqb}
-use Rattle.unit.specs.Choice.{pick}
-use Rattle.calendar.specs.Calendar.{clockValid}
-use Rattle.calendar.specs.Moment.{moment, century, midnights}
-use Rattle.calendar.specs.Words.{clockFrom}
-use Rattle.setup.specs.Setup.{wordOf, hitCount, eventContinuous}
-use Rattle.hit.specs.Mean.{All, sum, differenceBits, meanAverages, floorMeanWords}
-use Rattle.device.specs.declared.Model.{Model}
-use Rattle.device.specs.declared.Reply.{Reply}
-use Rattle.device.specs.declared.Answer.{Answer}
+use Rattle.device.specs.Base.{ℕ, zero, suc, _+_, _*_, _/_, _%_, _-_, _^_, _<_, _≤_, min, true, false, List, [], _∷_, _++_, map}
+use Rattle.device.specs.Base.{_↔_, _≡_, length, getD, leb, eqb, pick, clockValid, moment, century, midnights, clockFrom, wordOf}
+use Rattle.device.specs.Base.{hitCount, eventContinuous, All, sum, differenceBits, meanAverages, floorMeanWords, Model, Reply}
+use Rattle.device.specs.Base.{Answer}
 use Rattle.device.specs.Registers.{registerWord, upwards}
 use Rattle.device.specs.Model.{freshModel}
 use Rattle.device.specs.Call.{Call, transaction, tick, flight, temperature, stretch, onTime}

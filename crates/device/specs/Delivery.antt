@@ -1,15 +1,6 @@
 -- Deliveries of the right counts, good and failed.
-use Prim.Native.Nat.{ℕ}
-use mathlib.Core.Bool.{Bool, true, false}
-use mathlib.Core.List.{List}
-use lib.Dec.{eqb}
-use Rattle.unit.specs.Choice.{pick, both, negate}
-use Rattle.unit.specs.declared.Quanta.{Quanta}
-use Rattle.setup.specs.Setup.{eachInterrupt}
-use Rattle.hit.specs.Words.{portPairs}
-use Rattle.device.specs.declared.Status.{Status}
-use Rattle.device.specs.declared.Flight.{Flight}
-use Rattle.device.specs.declared.Model.{Model}
+use Rattle.device.specs.Base.{ℕ, Bool, true, false, List, eqb, pick, both, negate, Quanta, eachInterrupt, portPairs, Status}
+use Rattle.device.specs.Base.{Flight, Model}
 use Rattle.device.specs.Event.{settle}
 use Rattle.device.specs.Model.{withStatus, withFlight, withTemperature}
 use Rattle.device.specs.Results.{goodFlight, goodSums, failedFlight}

@@ -1,10 +1,5 @@
 -- The schedule of one kind of measurement: single ones, events, and continuous events in their groups.
-use Prim.Native.Nat.{ℕ, _+_, _-_}
-use mathlib.Core.Bool.{Bool, true, false}
-use lib.Dec.{ltb, leb, eqb}
-use Rattle.unit.specs.Choice.{pick, either, both, negate}
-use Rattle.unit.specs.declared.Ticks.{Ticks}
-use Rattle.device.specs.declared.Schedule.{Schedule}
+use Rattle.device.specs.Base.{ℕ, _+_, _-_, Bool, true, false, ltb, leb, eqb, pick, either, both, negate, Ticks, Schedule}
 
 abbrev pub ticks : ℕ → Ticks
 ticks n = record { 0 = n }

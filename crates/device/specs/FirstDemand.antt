@@ -1,18 +1,8 @@
 -- The first demand, as one statement about any machine: 01's table in plain bytes, words and fields, and what an accepted and a refused
 -- call leave. Quotations are from 01, but for those that name a note of the change requests and those beside the claims, which are the
 -- demand's own words.
-use Prim.Native.Nat.{ℕ, _+_, _-_, _*_, _/_, _%_, _≤_, _<_, min}
-use mathlib.Core.Bool.{true, false}
-use mathlib.Core.List.{List, [], _∷_}
-use mathlib.Core.Logic.{_↔_, _⊎_}
-use mathlib.Core.Path.{_≡_}
-use lib.ListN.{length, getD, drop}
-use Rattle.unit.specs.Choice.{pick}
-use Rattle.calendar.specs.Valid.{CalendarValid, AlarmValid}
-use Rattle.setup.specs.Setup.{wordOf}
-use Rattle.device.specs.declared.Schedule.{Schedule}
-use Rattle.device.specs.declared.Model.{Model}
-use Rattle.device.specs.declared.Reply.{Reply}
+use Rattle.device.specs.Base.{ℕ, _+_, _-_, _*_, _/_, _%_, _≤_, _<_, min, true, false, List, [], _∷_, _↔_, _⊎_, _≡_, length}
+use Rattle.device.specs.Base.{getD, drop, pick, CalendarValid, AlarmValid, wordOf, Schedule, Model, Reply}
 use Rattle.device.specs.Model.{isSound}
 use Rattle.device.specs.Registers.{registerWord}
 use Rattle.device.specs.Write.{written, setupAfter}

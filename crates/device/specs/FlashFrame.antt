@@ -1,13 +1,7 @@
 -- The frames of the user flash. Quotations are from Note 8 of the change requests. `b` is the frame from its second byte, `x` the
 -- memory that the call is lent.
-use Prim.Native.Nat.{ℕ}
-use mathlib.Core.Bool.{Bool}
-use mathlib.Core.List.{List}
-use lib.Dec.{eqb}
-use Rattle.unit.specs.Choice.{pick, both}
-use Rattle.frame.specs.Frame.{wordAt}
-use Rattle.flash.specs.Flash.{flashWord, flashWritten, flashErased, firstWord, addressRefused, eraseRefused, notErased}
-use Rattle.device.specs.declared.Model.{Model}
+use Rattle.device.specs.Base.{ℕ, Bool, List, eqb, pick, both, wordAt, flashWord, flashWritten, flashErased, firstWord}
+use Rattle.device.specs.Base.{addressRefused, eraseRefused, notErased, Model}
 use Rattle.device.specs.Status.{joined, flashBit}
 use Rattle.device.specs.Model.{withStatus}
 

@@ -1,14 +1,7 @@
 -- A run on one user flash: each transaction is lent the memory that the one before it left. Quotations are from Note 8 of the
 -- change requests.
-use Prim.Native.Nat.{ℕ, _%_}
-use mathlib.Core.List.{List, [], _∷_, _++_}
-use mathlib.Core.Path.{_≡_}
-use lib.ListN.{length, drop}
-use lib.Dec.{eqb}
-use Rattle.unit.specs.Choice.{pick}
-use Rattle.flash.specs.Flash.{flashWord}
-use Rattle.flash.specs.Operation.{Operation, write, erase, lastWord}
-use Rattle.device.specs.declared.Model.{Model}
+use Rattle.device.specs.Base.{ℕ, _%_, List, [], _∷_, _++_, _≡_, length, drop, eqb, pick, flashWord, Operation, write, erase}
+use Rattle.device.specs.Base.{lastWord, Model}
 use Rattle.device.specs.Model.{freshModel}
 use Rattle.device.specs.FlashFrame.{flashAddress, flashData}
 use Rattle.device.specs.Call.{Call, transaction, tick, flight, temperature, stretch, opcode, bySort}

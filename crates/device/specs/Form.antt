@@ -1,13 +1,5 @@
 -- The clock's form, told from the calls and their answers: "A clock keeps the form it was last written in." (Note 2)
-use Prim.Native.Nat.{_-_}
-use mathlib.Core.Bool.{Bool, false}
-use mathlib.Core.List.{List}
-use mathlib.Core.Path.{_≡_}
-use lib.ListN.{drop}
-use lib.Dec.{eqb}
-use Rattle.unit.specs.Choice.{pick}
-use Rattle.calendar.specs.Words.{twelveIn}
-use Rattle.frame.specs.Frame.{wordAt}
+use Rattle.device.specs.Base.{_-_, Bool, false, List, _≡_, drop, eqb, pick, twelveIn, wordAt}
 use Rattle.device.specs.Model.{freshModel}
 use Rattle.device.specs.Write.{covers}
 use Rattle.device.specs.Call.{Call, transaction, tick, flight, temperature, stretch, opcode, words, bySort}

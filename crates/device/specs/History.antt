@@ -1,17 +1,9 @@
 -- What the calls after an accepted event command tell of a kind of measurement: the calls, and of their answers 01's number and
 -- values. Quotations are from 01. One statement serves both sorts of event: where a continuous one begins a group, `opensGroup`, what
 -- is told of starts anew, "in place of since acceptance" (Note 5).
-use Prim.Native.Nat.{ℕ, zero, suc, _+_, _/_, _%_, _^_}
-use mathlib.Core.Bool.{Bool, true, false}
-use mathlib.Core.List.{List, [], _∷_, _++_}
-use lib.ListN.{length, getD}
-use lib.Dec.{ltb, leb, eqb}
-use Rattle.unit.specs.Choice.{pick, both, either, negate}
-use Rattle.setup.specs.Setup.{hitCount, differencePeriod, differenceCount, temperaturePeriod, temperatureCount, eventContinuous, eachInterrupt}
-use Rattle.frame.specs.Frame.{isRead}
-use Rattle.hit.specs.Mean.{sum, Averages}
-use Rattle.device.specs.declared.Model.{Model}
-use Rattle.device.specs.declared.Answer.{Answer}
+use Rattle.device.specs.Base.{ℕ, zero, suc, _+_, _/_, _%_, _^_, Bool, true, false, List, [], _∷_, _++_, length, getD, ltb, leb}
+use Rattle.device.specs.Base.{eqb, pick, both, either, negate, hitCount, differencePeriod, differenceCount, temperaturePeriod}
+use Rattle.device.specs.Base.{temperatureCount, eventContinuous, eachInterrupt, isRead, sum, Averages, Model, Answer}
 use Rattle.device.specs.Registers.{registerWord}
 use Rattle.device.specs.Call.{Call, transaction, tick, flight, temperature, stretch, opcode, words, onFrame, onDelivery}
 use Rattle.device.specs.Reply.{numberIn, valuesIn, reply}

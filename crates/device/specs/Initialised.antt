@@ -1,9 +1,5 @@
 -- Whether a model is initialised, told from the calls and their answers: "05h Initialize makes the model initialised, until a Reset"
-use mathlib.Core.Bool.{Bool, true, false}
-use mathlib.Core.List.{List}
-use mathlib.Core.Path.{_≡_}
-use lib.Dec.{eqb}
-use Rattle.unit.specs.Choice.{pick}
+use Rattle.device.specs.Base.{Bool, true, false, List, _≡_, eqb, pick}
 use Rattle.device.specs.Model.{freshModel}
 use Rattle.device.specs.Call.{Call, transaction, tick, flight, temperature, stretch, opcode}
 use Rattle.device.specs.History.{after, log, lastGiven}

@@ -1,3 +1,4 @@
+pub mod Base
 pub mod Event
 pub mod Status
 pub mod Model

@@ -1,21 +1,7 @@
 -- The model: fresh, sound, busy.
-use Prim.Native.Nat.{ℕ, _*_, _^_}
-use mathlib.Core.Bool.{Bool, false}
-use mathlib.Core.List.{List, [], _∷_}
-use lib.ListN.{getD}
-use lib.Dec.{leb}
-use Rattle.unit.specs.Choice.{either, both}
-use Rattle.unit.specs.declared.Quanta.{Quanta}
-use Rattle.calendar.specs.declared.Clock.{Clock}
-use Rattle.calendar.specs.Calendar.{clockValid, start}
-use Rattle.calendar.specs.Words.{alarmValid}
-use Rattle.setup.specs.Setup.{factory, alarmWord}
-use Rattle.hit.specs.Words.{noQuanta, noSums}
-use Rattle.device.specs.declared.Schedule.{Schedule}
-use Rattle.device.specs.declared.Status.{Status}
-use Rattle.device.specs.declared.Flight.{Flight}
-use Rattle.device.specs.declared.Temperature.{Temperature}
-use Rattle.device.specs.declared.Model.{Model}
+use Rattle.device.specs.Base.{ℕ, _*_, _^_, Bool, false, List, [], _∷_, getD, leb, either, both, Quanta, Clock, clockValid}
+use Rattle.device.specs.Base.{start, alarmValid, factory, alarmWord, noQuanta, noSums, Schedule, Status, Flight, Temperature}
+use Rattle.device.specs.Base.{Model}
 use Rattle.device.specs.Event.{noSchedule, scheduleSound, isAwaited, inEvent}
 use Rattle.device.specs.Status.{porBit, noBits}
 

@@ -1,22 +1,12 @@
 -- The code's own: the parts of a sound model's replies, as the code takes them apart. Nothing here is to be believed: the laws of
 -- `reply_parts` equate them with `reply`, `output` and `memory`.
-use Prim.Native.Nat.{ℕ, _+_, _*_}
-use mathlib.Core.Bool.{Bool, true, false}
-use mathlib.Core.List.{List}
-use lib.ListN.{length}
-use lib.Dec.{leb, eqb}
-use Rattle.unit.specs.Choice.{pick, both, negate}
-use Rattle.setup.specs.Setup.{hitCount}
-use Rattle.frame.specs.declared.Decoded.{Decoded}
-use Rattle.frame.specs.declared.Decoded.the-variants.{Command, Read, Write, Flash, Refusal}
-use Rattle.device.specs.declared.Model.{Model}
-use Rattle.device.specs.declared.Reply.{Reply}
-use Rattle.device.specs.declared.Answer.the-variants.{Accepted}
+use Rattle.device.specs.Base.{ℕ, _+_, _*_, Bool, true, false, List, length, leb, eqb, pick, both, negate, hitCount, Decoded}
+use Rattle.device.specs.Base.{Command, Read, Write, Flash, Refusal, Model, Reply, Accepted, flashWord, flashWritten}
+use Rattle.device.specs.Base.{flashErased, firstWord, addressRefused, eraseRefused, notErased}
 use Rattle.device.specs.Model.{isSound, isBusy}
 use Rattle.device.specs.Registers.{fillWords}
 use Rattle.device.specs.Write.{writeInvalid, writeModel}
 use Rattle.device.specs.Delivery.{flightMiscounted}
-use Rattle.flash.specs.Flash.{flashWord, flashWritten, flashErased, firstWord, addressRefused, eraseRefused, notErased}
 use Rattle.device.specs.FlashFrame.{flashAddress, flashData, flashModel}
 use Rattle.device.specs.Bus.{startsFlight, startsTemperature, commandBusy, beforeInitialize, commandUnset, runModel, readModel}
 use Rattle.device.specs.Call.{further, flight, temperature}

@@ -1,11 +1,5 @@
 -- A change of probes and the flow. Quotations are from Note 14 of the change requests where no other place is named.
-use Prim.Native.Nat.{ℕ}
-use mathlib.Core.List.{List, [], _∷_, _++_, map}
-use mathlib.Core.Path.{_≡_}
-use lib.ListN.{length}
-use Rattle.device.specs.declared.Model.{Model}
-use Rattle.device.specs.declared.Reply.{Reply}
-use Rattle.device.specs.declared.Answer.{Answer}
+use Rattle.device.specs.Base.{ℕ, List, [], _∷_, _++_, map, _≡_, length, Model, Reply, Answer}
 use Rattle.device.specs.Registers.{registerWord, upwards}
 use Rattle.device.specs.Call.{Call, transaction, temperature, onDelivery}
 use Rattle.device.specs.Reply.{reply}

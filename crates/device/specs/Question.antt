@@ -1,13 +1,6 @@
 -- The answers of questions, which change nothing.
-use Prim.Native.Nat.{ℕ}
-use mathlib.Core.List.{List, [], _∷_}
-use lib.Dec.{ltb, eqb}
-use Rattle.unit.specs.Choice.{pick}
-use Rattle.setup.specs.Setup.{interruptEnabled}
-use Rattle.device.specs.declared.Schedule.{Schedule}
-use Rattle.device.specs.declared.Model.{Model}
-use Rattle.device.specs.declared.Told.{Told}
-use Rattle.device.specs.declared.Told.the-variants.{Value, Refused}
+use Rattle.device.specs.Base.{ℕ, List, [], _∷_, ltb, eqb, pick, interruptEnabled, Schedule, Model, Told, Value}
+use Rattle.device.specs.declared.Told.the-variants.{Refused}
 use Rattle.device.specs.Event.{isAwaited}
 use Rattle.device.specs.Status.{statusWord}
 use Rattle.device.specs.Model.{isSound}

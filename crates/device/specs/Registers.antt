@@ -1,15 +1,6 @@
 -- What a read of each register gives, at the read addresses B0h to FFh.
-use Prim.Native.Nat.{ℕ, zero, suc, _+_, _-_, _*_, _/_, _%_}
-use mathlib.Core.List.{List, [], _∷_}
-use lib.ListN.{getD, set}
-use lib.Dec.{ltb, eqb}
-use Rattle.unit.specs.Choice.{pick}
-use Rattle.calendar.specs.Words.{word30, word31, word32, word33}
-use Rattle.hit.specs.Words.{noQuanta}
-use Rattle.hit.specs.Difference.{differenceMean, portMean}
-use Rattle.device.specs.declared.Flight.{Flight}
-use Rattle.device.specs.declared.Temperature.{Temperature}
-use Rattle.device.specs.declared.Model.{Model}
+use Rattle.device.specs.Base.{ℕ, zero, suc, _+_, _-_, _*_, _/_, _%_, List, [], _∷_, getD, set, ltb, eqb, pick, word30, word31}
+use Rattle.device.specs.Base.{word32, word33, noQuanta, differenceMean, portMean, Flight, Temperature, Model}
 use Rattle.device.specs.Status.{statusWord}
 
 -- "A result pair is an Int register (word ÷ 65,536) and a Frac register (the remainder)"; "Int before Frac as in every

@@ -1,18 +1,9 @@
 -- What each call answers and leaves: of an accepted one the answer, the next model, the output and the memory; of a refused one its
 -- number and nothing else.
-use Prim.Native.Nat.{ℕ}
-use mathlib.Core.Bool.{Bool, false}
-use mathlib.Core.List.{List, [], _∷_}
-use mathlib.Core.Path.{_≡_}
-use lib.ListN.{drop}
-use Rattle.unit.specs.Choice.{pick, either}
-use Rattle.setup.specs.Setup.{hitCount, timeout, portCycle}
-use Rattle.hit.specs.Limit.{lateFrom, openFrom, anyFrom, anyFault}
-use Rattle.hit.specs.Words.{sixWords, fourWords}
-use Rattle.device.specs.declared.Model.{Model}
-use Rattle.device.specs.declared.Reply.{Reply}
-use Rattle.device.specs.declared.Answer.{Answer}
-use Rattle.device.specs.declared.Answer.the-variants.{Refused, Accepted, Ticked, Stretched, Good, Failed}
+use Rattle.device.specs.Base.{ℕ, Bool, false, List, [], _∷_, _≡_, drop, pick, either, hitCount, timeout, portCycle, lateFrom}
+use Rattle.device.specs.Base.{openFrom, anyFrom, anyFault, sixWords, fourWords, Model, Reply, Answer, Accepted, Ticked}
+use Rattle.device.specs.Base.{Stretched, Good, Failed}
+use Rattle.device.specs.declared.Answer.the-variants.{Refused}
 use Rattle.device.specs.Registers.{fillWords}
 use Rattle.device.specs.Write.{writeModel}
 use Rattle.device.specs.Tick.{tickModel, reportOf}

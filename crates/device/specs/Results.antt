@@ -1,14 +1,6 @@
 -- What a good and a failed measurement leave in the results of its kind.
-use Prim.Native.Nat.{ℕ}
-use mathlib.Core.Bool.{true}
-use mathlib.Core.List.{List}
-use Rattle.unit.specs.Choice.{pick}
-use Rattle.unit.specs.declared.Quanta.{Quanta}
-use Rattle.hit.specs.Words.{average, filled, failedPairs, plus, plusEach}
-use Rattle.hit.specs.Difference.{differenceWord, biased}
-use Rattle.device.specs.declared.Schedule.{Schedule}
-use Rattle.device.specs.declared.Flight.{Flight}
-use Rattle.device.specs.declared.Temperature.{Temperature}
+use Rattle.device.specs.Base.{ℕ, true, List, pick, Quanta, average, filled, failedPairs, plus, plusEach, differenceWord, biased}
+use Rattle.device.specs.Base.{Schedule, Flight, Temperature}
 use Rattle.device.specs.Event.{toSettle, settle}
 
 -- "for a difference TOF_DIFF = AVGUP − AVGDN"

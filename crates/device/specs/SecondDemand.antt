@@ -2,25 +2,10 @@
 -- interrupt bits are those of the MAX35101 data sheet as 01 condenses it, for words going in over the bus and for words coming out."
 -- Quotations are from 01. `registerWord m a` is what a read of address a gives; `wordOf (m .setup) a` the word of 34h to 43h. An answer is
 -- told by its values (`valuesIn`): a delivery's is 1 for good, 0 for failed.
-use Prim.Native.Nat.{ℕ, _+_, _-_, _*_, _/_, _%_, _^_, _≤_, _<_}
-use mathlib.Core.Bool.{true, false}
-use mathlib.Core.List.{List, [], _∷_, map}
-use mathlib.Core.Logic.{_↔_, _⊎_}
-use mathlib.Core.Path.{_≡_}
-use lib.IntN.{ℤ, pos, negsuc, _+ℤ_, _*ℤ_}
-use lib.Signed.{_≤ℤ_, _<ℤ_}
-use lib.ListN.{length, getD, drop}
-use mir.Syntax.{w32}
-use mir.Val.{toZ}
-use Rattle.unit.specs.Choice.{pick, either}
-use Rattle.calendar.specs.Calendar.{clockValid, monthLength}
-use Rattle.calendar.specs.Moment.{moment, midnights}
-use Rattle.calendar.specs.Valid.{CalendarValid, AlarmValid}
-use Rattle.setup.specs.Setup.{wordOf}
-use Rattle.frame.specs.Frame.{wordAt}
-use Rattle.hit.specs.Mean.{sum, Averages, difference, total, floorMean, differenceBits, floorMeanWords}
-use Rattle.device.specs.declared.Model.{Model}
-use Rattle.device.specs.declared.Reply.{Reply}
+use Rattle.device.specs.Base.{ℕ, _+_, _-_, _*_, _/_, _%_, _^_, _≤_, _<_, true, false, List, [], _∷_, map, _↔_, _⊎_, _≡_, ℤ, pos}
+use Rattle.device.specs.Base.{negsuc, _+ℤ_, _*ℤ_, _≤ℤ_, _<ℤ_, length, getD, drop, w32, toZ, pick, either, clockValid}
+use Rattle.device.specs.Base.{monthLength, moment, midnights, CalendarValid, AlarmValid, wordOf, wordAt, sum, Averages}
+use Rattle.device.specs.Base.{difference, total, floorMean, differenceBits, floorMeanWords, Model, Reply}
 use Rattle.device.specs.Status.{Bit, TO, AF, TOF, TE, LDO, TOF-EVTMG, TEMP-EVTMG, FLASH, HALT, INIT, POR, place}
 use Rattle.device.specs.Model.{isSound, freshModel, withSetup, withStatus}
 use Rattle.device.specs.Registers.{registerWord, upwards}

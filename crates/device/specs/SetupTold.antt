@@ -1,12 +1,5 @@
 -- The set-up, told from the calls and their answers: each register of 34h to 43h has the word last written to it since Reset.
-use Prim.Native.Nat.{ℕ, _-_}
-use mathlib.Core.List.{List, map}
-use mathlib.Core.Path.{_≡_}
-use lib.ListN.{drop}
-use lib.Dec.{eqb}
-use Rattle.unit.specs.Choice.{pick}
-use Rattle.setup.specs.Setup.{factory, wordOf}
-use Rattle.frame.specs.Frame.{wordAt}
+use Rattle.device.specs.Base.{ℕ, _-_, List, map, _≡_, drop, eqb, pick, factory, wordOf, wordAt}
 use Rattle.device.specs.Model.{freshModel}
 use Rattle.device.specs.Registers.{upwards}
 use Rattle.device.specs.Write.{covers}

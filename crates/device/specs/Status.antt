@@ -1,11 +1,6 @@
 -- "Status bits: TO 15, AF 14, TOF 12, TE 11, TOF_EVTMG 9, TEMP_EVTMG 8, HALT 5, INIT 3, POR 2." "LDO_ON sets status bit 10; a write
 -- or erase sets bit 7." (Note 8): LDO and FLASH, as 000 names them.
-use Prim.Native.Nat.{ℕ, _+_, _^_}
-use mathlib.Core.Bool.{Bool, true, false}
-use lib.Dec.{eqb}
-use Rattle.unit.specs.Choice.{pick, either, both, negate}
-use Rattle.device.specs.declared.Schedule.{Schedule}
-use Rattle.device.specs.declared.Status.{Status}
+use Rattle.device.specs.Base.{ℕ, _+_, _^_, Bool, true, false, eqb, pick, either, both, negate, Schedule, Status}
 use Rattle.device.specs.Event.{inEvent, isLast}
 
 -- The bits, by their names in 000.

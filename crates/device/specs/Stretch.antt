@@ -1,10 +1,5 @@
 -- A stretch of ticks. Quotations are from Note 1 of the change requests.
-use Prim.Native.Nat.{ℕ, zero, suc, _+_}
-use mathlib.Core.Bool.{Bool}
-use Rattle.unit.specs.Choice.{pick}
-use Rattle.device.specs.declared.Schedule.{Schedule}
-use Rattle.device.specs.declared.Model.{Model}
-use Rattle.device.specs.declared.StretchReport.{StretchReport}
+use Rattle.device.specs.Base.{ℕ, zero, suc, _+_, Bool, pick, Schedule, Model, StretchReport}
 use Rattle.device.specs.Event.{ticks, begins, fails, tickSchedule}
 use Rattle.device.specs.Tick.{tickModel}
 

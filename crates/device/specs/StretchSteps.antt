@@ -1,17 +1,7 @@
 -- The code's own: how a stretch moves on, by as many ticks at once as pass with nothing to report and no second's end, else by a
 -- single one. Nothing here is to be believed: Quiet.antt of ticking's proofs equates it with single ticks.
-use Prim.Native.Nat.{ℕ, _+_, _-_}
-use lib.Dec.{ltb, leb, eqb}
-use Rattle.unit.specs.Choice.{pick}
-use Rattle.calendar.specs.declared.Clock.{Clock}
-use Rattle.calendar.specs.Calendar.{withTime}
-use Rattle.setup.specs.Setup.{clockStands}
-use Rattle.device.specs.declared.Schedule.{Schedule}
-use Rattle.device.specs.declared.Model.{Model}
-use Rattle.device.specs.declared.Flight.{Flight}
-use Rattle.device.specs.declared.Temperature.{Temperature}
-use Rattle.device.specs.declared.StretchReport.{StretchReport}
-use Rattle.device.specs.declared.Progress.{Progress}
+use Rattle.device.specs.Base.{ℕ, _+_, _-_, ltb, leb, eqb, pick, Clock, withTime, clockStands, Schedule, Model, Flight}
+use Rattle.device.specs.Base.{Temperature, StretchReport, Progress}
 use Rattle.device.specs.Event.{ticks, begins, fails}
 use Rattle.device.specs.Tick.{tickModel}
 use Rattle.device.specs.Stretch.{modelTicked, stretchReport}

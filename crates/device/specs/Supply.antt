@@ -1,10 +1,6 @@
 -- The regulator of the user flash, told from the calls and their answers: on from an accepted LDO_ON until LDO_OFF or Reset
 -- (Note 8).
-use mathlib.Core.Bool.{Bool, true, false}
-use mathlib.Core.List.{List}
-use mathlib.Core.Path.{_≡_}
-use lib.Dec.{eqb}
-use Rattle.unit.specs.Choice.{pick}
+use Rattle.device.specs.Base.{Bool, true, false, List, _≡_, eqb, pick}
 use Rattle.device.specs.Model.{freshModel}
 use Rattle.device.specs.Call.{Call, transaction, tick, flight, temperature, stretch, opcode, bySort}
 use Rattle.device.specs.History.{after, log, lastGiven}

@@ -1,17 +1,7 @@
 -- The terms in which the second demand and the facts beneath it speak: register words, bits and frames in plain numbers. Quotations
 -- are from 01.
-use Prim.Native.Nat.{ℕ, zero, suc, _+_, _-_, _*_, _/_, _%_, _^_, _≤_, _<_, min}
-use mathlib.Core.Bool.{Bool, true}
-use mathlib.Core.List.{List, [], _∷_, _++_, map}
-use mathlib.Core.Logic.{_⊎_}
-use mathlib.Core.Path.{_≡_}
-use lib.ListN.{length, getD}
-use lib.Dec.{leb, eqb}
-use Rattle.unit.specs.Choice.{both, either, negate}
-use Rattle.calendar.specs.Valid.{AlarmTime}
-use Rattle.setup.specs.Setup.{wordOf}
-use Rattle.frame.specs.Frame.{wordAt}
-use Rattle.device.specs.declared.Model.{Model}
+use Rattle.device.specs.Base.{ℕ, zero, suc, _+_, _-_, _*_, _/_, _%_, _^_, _≤_, _<_, min, Bool, true, List, [], _∷_, _++_, map}
+use Rattle.device.specs.Base.{_⊎_, _≡_, length, getD, leb, eqb, both, either, negate, AlarmTime, wordOf, wordAt, Model}
 use Rattle.device.specs.Status.{Bit, TO, AF, TOF, TE, LDO, TOF-EVTMG, TEMP-EVTMG, FLASH, HALT, INIT, POR, place}
 use Rattle.device.specs.Registers.{registerWord, upwards}
 use Rattle.device.specs.Tick.{tickModel}

@@ -1,19 +1,7 @@
 -- One tick.
-use mathlib.Core.Bool.{Bool}
-use mathlib.Core.List.{List}
-use Rattle.unit.specs.Choice.{pick}
-use Rattle.unit.specs.declared.Quanta.{Quanta}
-use Rattle.calendar.specs.declared.Clock.{Clock}
-use Rattle.calendar.specs.Calendar.{tickClock}
-use Rattle.calendar.specs.Alarm.{alarmRings}
-use Rattle.setup.specs.Setup.{clockStands, alarmWord, alarmMode, eachInterrupt}
-use Rattle.hit.specs.Words.{failedPorts, noQuanta, noSums}
-use Rattle.device.specs.declared.Schedule.{Schedule}
-use Rattle.device.specs.declared.Status.{Status}
-use Rattle.device.specs.declared.Flight.{Flight}
-use Rattle.device.specs.declared.Temperature.{Temperature}
-use Rattle.device.specs.declared.Model.{Model}
-use Rattle.device.specs.declared.Report.{Report}
+use Rattle.device.specs.Base.{Bool, List, pick, Quanta, Clock, tickClock, alarmRings, clockStands, alarmWord, alarmMode}
+use Rattle.device.specs.Base.{eachInterrupt, failedPorts, noQuanta, noSums, Schedule, Status, Flight, Temperature, Model}
+use Rattle.device.specs.Base.{Report}
 use Rattle.device.specs.Event.{begins, beginsGroup, fails, tickSchedule}
 use Rattle.device.specs.Model.{withClock, withStatus, withFlight, withTemperature}
 use Rattle.device.specs.Results.{failedFlight}

@@ -1,12 +1,6 @@
 -- Machines that would be worthless, of which the first demand says so: 01, "Models that would be worthless". The second demand shuts out
 -- "every read zero" and "a tick that moves nothing" too; here the first does, since what it asks of an accepted call leaves one machine.
-use Prim.Native.Nat.{ℕ}
-use mathlib.Core.Bool.{Bool, true, false}
-use mathlib.Core.List.{map}
-use mathlib.Core.Path.{_≡_}
-use Rattle.unit.specs.Choice.{pick}
-use Rattle.frame.specs.Frame.{isCommand, isWrite, isRead}
-use Rattle.device.specs.declared.Model.{Model}
+use Rattle.device.specs.Base.{ℕ, Bool, true, false, map, _≡_, pick, isCommand, isWrite, isRead, Model}
 use Rattle.device.specs.Call.{Call, opcode, onFrame, onDelivery, onTime}
 use Rattle.device.specs.Reply.{refuse, reply, numberIn, valuesIn, bufferOf, output, memoryOf, memory}
 use Rattle.device.specs.FirstDemand.{Machine, FirstDemand}

@@ -1,16 +1,6 @@
 -- A write of n words from register op on: bytes are the frame from its second byte.
-use Prim.Native.Nat.{ℕ, zero, suc, _+_, _-_}
-use mathlib.Core.Bool.{Bool}
-use mathlib.Core.List.{List}
-use lib.ListN.{set}
-use lib.Dec.{ltb, leb}
-use Rattle.unit.specs.Choice.{pick, both, negate}
-use Rattle.unit.specs.declared.Ticks.{Ticks}
-use Rattle.calendar.specs.declared.Clock.{Clock}
-use Rattle.calendar.specs.Words.{ticksIn, clockFrom, wordsValid, alarmValid}
-use Rattle.setup.specs.Setup.{alarmWord}
-use Rattle.frame.specs.Frame.{wordAt}
-use Rattle.device.specs.declared.Model.{Model}
+use Rattle.device.specs.Base.{ℕ, zero, suc, _+_, _-_, Bool, List, set, ltb, leb, pick, both, negate, Ticks, Clock, ticksIn}
+use Rattle.device.specs.Base.{clockFrom, wordsValid, alarmValid, alarmWord, wordAt, Model}
 use Rattle.device.specs.Model.{withClock, withSetup}
 use Rattle.device.specs.Registers.{calendarWord}
 

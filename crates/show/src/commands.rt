@@ -79,7 +79,7 @@ fn answer_to(m: Model, frame: &[u8]) -> Answer
 {
     let mut out = [0u8; 2];
     let mut mem = [0u8; 8192];
-    let reply = bus::transaction(m, frame, &mut out, &mut mem);
+    let reply = converter::transaction(m, frame, &mut out, &mut mem);
     reply.answer
 }
 

@@ -1,4 +1,4 @@
--- `bus::transaction` meets its contract.
+-- `converter::transaction` meets its contract.
 use Rattle.device.proofs.Table.{replied}
 use Rattle.device.specs.Call.{transaction}
 use Rattle.device.specs.Reply.{bufferOf, memoryOf}
@@ -8,8 +8,8 @@ use denote.Ref.{now}
 use mathlib.Core.Bool.{false}
 use mathlib.Core.Path.{_≡_, sym, _∙_}
 use borrow.Author.Needs.{needs}
-use Rattle.bus.proofs.transaction.Statement.{statement}
-use Rattle.bus.proofs.transaction.Tie as tie
+use Rattle.converter.proofs.transaction.Statement.{statement}
+use Rattle.converter.proofs.transaction.Tie as tie
 
 is-sound-requires : tie.Need-is-sound-requires
 is-sound-requires c κs = search needs

@@ -1,4 +1,4 @@
--- The clock's moment, and the clock many ticks later.
+-- The clock's moment.
 use Prim.Native.Nat.{ℕ, zero, suc, _+_, _-_, _*_, _/_}
 use Rattle.calendar.specs.declared.Clock.{Clock}
 use Rattle.calendar.specs.Calendar.{monthLength}

@@ -27,9 +27,9 @@ use Rattle.device.specs.Bus.{startsFlight, startsTemperature, beforeInit
 use Rattle.device.specs.Call.{Call, transaction, tick, flight, temperature, stretch, opcode, further, words, bySort, onFrame, onDelivery, onTime, Row, row, table}
 use Rattle.device.specs.Call.{noFrame, notCarried, wrongLength, pastRegisters, shortOutput, whileBusy, supplyOff, unreachable, unerased, badCalendar}
 use Rattle.device.specs.Call.{notInitialised, badSetup, notAwaited, miscounted, tooLong}
-use Rattle.device.specs.Terms.{Command, Write, Read}
-use Rattle.device.specs.FirstDemand.{Flash, NotCarried, WholeWords, WrongLength, lastRegister, PastRegisters, ShortOutput, Busy, SupplyOff, address, BadAddress}
-use Rattle.device.specs.FirstDemand.{NotErased, wordAfter, alarmAfter, BadCalendar, NotInitialised, NoPulses, BadSetup, hits, Miscounted, OnFrame, OnDelivery, OnStretch, Refusal, rows}
+use Rattle.device.specs.Terms.{Command, Write, Read, Flash, hitsOf}
+use Rattle.device.specs.FirstDemand.{NotCarried, WholeWords, WrongLength, lastRegister, PastRegisters, ShortOutput, Busy, SupplyOff, address, BadAddress}
+use Rattle.device.specs.FirstDemand.{NotErased, wordAfter, alarmAfter, BadCalendar, NotInitialised, NoPulses, BadSetup, Miscounted, OnFrame, OnDelivery, OnStretch, Refusal, rows}
 use Rattle.device.proofs.Table.{negated}
 use Rattle.device.proofs.RefusalMeaning.{busy-means, command-busy-means, event-means}
 use Rattle.device.proofs.CallMeaning.{count-means}
@@ -408,7 +408,7 @@ miscounted-means :
     (m : Model) (u d : List ℕ) →
     (flightMiscounted (m .flight) (hitCount (m .setup)) (length u) (length d) ≡ true) ↔ Miscounted m u d
 unfolding hitCount
-miscounted-means m u d = unless-means _ (count-means (m .flight) (hits m) (length u) (length d))
+miscounted-means m u d = unless-means _ (count-means (m .flight) (hitsOf m) (length u) (length d))
 
 -- The rows of the definitions against those in plain terms, in the table's order: the numbers are the same, and so are the conditions
 -- where those before them do not hold.

@@ -32,7 +32,8 @@ use Rattle.device.specs.Event.{fails}
 use Rattle.device.specs.Registers.{registerWord, calendarWord, flightWord}
 use Rattle.device.specs.Bus.{runModel}
 use Rattle.device.specs.Write.{writeModel}
-use Rattle.device.specs.Tick.{tickModel}
+use Rattle.device.specs.Results.{failedDifference, failedFlight}
+use Rattle.device.specs.Tick.{flightTicked, flightAfter, tickModel}
 use Rattle.device.specs.Delivery.{goodFlightModel, failedFlightModel}
 use Rattle.device.specs.Call.{Call, transaction, flight, temperature, accepted, verdict, miscounted}
 use Rattle.device.specs.Reply.{anyLate, portFault, acceptedAnswer, acceptedModel, reply, replyBy, valuesIn}
@@ -60,6 +61,7 @@ use Rattle.device.proofs.CommandMeaning.{run-temperature, answers-start
 use Rattle.device.proofs.BusMeaning.{carried-sorts, read-bytes, read-rest, read-keeps, write-leaves, write-output, command-leaves, command-output}
 use Rattle.device.proofs.ExpiryMeaning.{expired-ups, expired-downs, expired-difference, expired-ports}
 use Rattle.device.proofs.SingleMeaning.{single-claim}
+use Rattle.device.proofs.SoundMeaning.{halt-left-idle, reset-left-idle}
 use Rattle.device.proofs.Form.{form-kept}
 use Rattle.device.proofs.Stores.{only-store}
 use Rattle.device.proofs.Initialised.{initialised-until-reset}
@@ -170,6 +172,18 @@ module _ (m : Model) (u d : List ℕ) where
   difference-stays s k =
       by-test (anyLate m u d) (λ e. rw e (failed-difference-kept m (unmeasured s k)))
       (λ e. rw e (good-difference-kept (m .flight) (hitCount (m .setup)) u d (unmeasured s k)))
+
+-- so in a tick
+tick-results : (m : Model) (s : Direction) → measured s m ≡ false → resultsOf s (tickModel m) ≡ resultsOf s m
+unfolding tickModel flightAfter flightTicked failedFlight resultsOf
+tick-results m upstream k = by-test (fails (m .flight .schedule)) (λ e. rw (e, k)) (λ e. rw e)
+tick-results m downstream k = by-test (fails (m .flight .schedule)) (λ e. rw (e, k)) (λ e. rw e)
+
+tick-difference : (m : Model) (s : Direction) → measured s m ≡ false → tickModel m .flight .difference ≡ m .flight .difference
+unfolding tickModel flightAfter flightTicked failedFlight failedDifference
+tick-difference m upstream k = by-test (fails (m .flight .schedule)) (λ e. rw (e, k)) (λ e. rw e)
+tick-difference m downstream k =
+    by-test (fails (m .flight .schedule)) (λ e. by-test (m .flight .up) (λ u. rw (e, u, k)) (λ u. rw (e, u))) (λ e. rw e)
 
 one-not-zero : _≡_ {A = List ℕ} (0 ∷ []) (1 ∷ []) → ⊥
 one-not-zero e = let z : _≡_ {A = ℕ} 0 1 = ap (λ l. getD l 0 0) e in omega arith
@@ -364,6 +378,8 @@ expiries m =
           let x = fails-told differences m (told-sound differences m e) .0 e in
           record { results = λ s. results x s; difference = expired-difference m x };
       temperature-fails = λ e. expired-ports m (fails-told temperatures m (told-sound temperatures m e) .0 e);
+      kept = λ s k. results-read s m (tickModel m) (tick-results m s k);
+      difference-kept = λ s k. difference-read m (tickModel m) (tick-difference m s k);
     }
   where
     results : fails (m .flight .schedule) ≡ true → (s : Direction) → measured s m ≡ true → wordsAt (tickModel m) (resultsAt s) 14 ≡ repeated 14 0xFFFF
@@ -384,6 +400,8 @@ commands m =
       not-run = not-run m;
       halts = halts-told m;
       drops = halts-drop m;
+      halt-idle = halt-left-idle m;
+      reset-idle = reset-left-idle m;
       reset = reset-reads;
       reset-drops = reset-drops m;
       others-keep = others-keep m;

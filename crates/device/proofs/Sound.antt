@@ -667,7 +667,7 @@ factory-alarm : alarmValid (alarmWord factory) ≡ true
 unfolding factory alarmWord alarmValid timeDigits minuteIn hourFits hourNamed hourIn twelveIn
 factory-alarm = refl
 
-fresh-bounds : (s : Status) → Bounds (freshWith s)
+pub fresh-bounds : (s : Status) → Bounds (freshWith s)
 unfolding freshWith
 fresh-bounds s = record { clock = start-valid; alarm = factory-alarm; flight = no-flight-bounds; temperature = no-temperature-bounds }
 

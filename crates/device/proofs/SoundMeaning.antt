@@ -4,7 +4,7 @@ use native.Mathlib.Omega.{arith}
 use mathlib.Core.Bool.{true, false}
 use mathlib.Core.List.{List, [], _∷_, map}
 use mathlib.Core.Logic.{_⊎_, inl, inr, ⊎-elim}
-use mathlib.Core.Path.{_≡_, ap}
+use mathlib.Core.Path.{_≡_, refl, sym, ap, subst}
 use lib.Dec.{eqb}
 use Rattle.unit.specs.Choice.{negate}
 use Rattle.unit.proofs.Cases.{by-test}
@@ -15,7 +15,9 @@ use Rattle.frame.specs.Frame.{isCommand}
 use Rattle.hit.specs.Mean.{All}
 use Rattle.device.specs.declared.Model.{Model}
 use Rattle.device.specs.declared.Answer.the-variants.{Ticked}
-use Rattle.device.specs.Model.{isSound, freshModel}
+use Rattle.device.specs.Event.{noSchedule, isAwaited, inEvent}
+use Rattle.device.specs.Status.{noBits}
+use Rattle.device.specs.Model.{isSound, kindBusy, isBusy, freshWith, freshModel, resetModel, noFlight, noTemperature}
 use Rattle.device.specs.Tick.{reportOf}
 use Rattle.device.specs.Stretch.{modelTicked, stretchReport}
 use Rattle.device.specs.Bus.{mustBeIdle, startsFlight, startsTemperature, isEvent, commandBusy, beforeInitialize}
@@ -27,7 +29,7 @@ use Rattle.device.specs.Reply.{acceptedAnswer, acceptedModel, flag, valu
 use Rattle.device.specs.History.{differences, temperatures, after}
 use Rattle.device.specs.Claim.{command, NotBusy}
 use Rattle.device.proofs.Table.{FirstRow, refused-means}
-use Rattle.device.proofs.Sound.{bounds-of, sound-of, ticked-bounds, fresh-sound, keeps-sound}
+use Rattle.device.proofs.Sound.{bounds-of, sound-of, fresh-bounds, ticked-bounds, fresh-sound, keeps-sound}
 use Rattle.device.proofs.Awaited.{halt-idle}
 use Rattle.device.proofs.CommandMeaning.{run-others}
 use Rattle.device.proofs.StartMeaning.{halt-ticks}
@@ -152,3 +154,16 @@ halt-ends m o x s = (
       let t = tick-accepted (modelTicked n h) (sound-of (modelTicked n h) (ticked-bounds n h (bounds-of h (keeps-sound m (command 10 o x) s)))) in
       rw t (rw (halt-left m o x s) (halt-ticks m n)),
 )
+
+pub halt-left-idle : (m : Model) → isSound m ≡ true → NotBusy (runModel m 10)
+halt-left-idle m s = subst NotBusy (halt-left m [] [] s) (halt-ends m [] [] s .1)
+
+reset-not-busy : isBusy resetModel ≡ false
+unfolding isBusy kindBusy isAwaited inEvent resetModel freshWith noFlight noTemperature noSchedule
+reset-not-busy = refl
+
+pub reset-left-idle : (m : Model) → NotBusy (runModel m 4)
+reset-left-idle m = subst NotBusy (sym (run-others m .0)) (write-idle resetModel reset-sound reset-not-busy)
+  where
+    reset-sound : isSound resetModel ≡ true
+    reset-sound = unfold resetModel in sound-of (freshWith noBits) (fresh-bounds noBits)

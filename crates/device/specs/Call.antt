@@ -1,4 +1,4 @@
--- Every call: its refusals in the order of 01's table, and what it leaves when none holds.
+-- Every call, and its refusals in the order of 01's table.
 use Rattle.device.specs.Base.{ℕ, _-_, _*_, _/_, Bool, false, List, [], _∷_, length, getD, drop, ltb, eqb, pick, both, negate}
 use Rattle.device.specs.Base.{hitCount, isCommand, isWrite, isRead, isFlash, flashFurther, notWhole, pastEnd, Model}
 use Rattle.device.specs.Event.{isAwaited}

@@ -68,7 +68,7 @@ Judged s (stretch n) a = ⊥
 pub record KindClaim (k : Kind) (s : List ℕ) (h : History) (m : Model) : Type 0 where
   -- "Its starts were exactly at those elapsed ticks j × P, j below N, with its own P and N, that the list reaches."
   pub starts : h .starts ≡ plannedStarts (planOf k s) (h .ticks)
-  -- The starts reported so far, cut by N: all of them where the event is not continuous.
+  -- The starts of the current group: all that were reported where the event is not continuous.
   pub group : h .started ≡ (length (h .starts) - 1) % planOf k s .count + 1
   -- "Since acceptance, started = good + failed + awaited, counted from the answers", or "the current group in place of since
   -- acceptance" (Note 5)
@@ -97,9 +97,7 @@ pub record OtherClaim (k : Kind) (h : History) (m end : Model) : Type 0 where
   pub awaited : awaitedNow k end ≡ 0
   pub kept : map (registerWord end) (registersOf k) ≡ map (registerWord m) (registersOf k)
 
--- "And the clock shows the moment that lies as many ticks after acceptance as the list holds, 2000 following 2099." "Its
--- weekday has stepped once for each midnight passed." "The clock claim is about the moment, in either form." (Note 2): the
--- form stays, and what B0h to B3h read in it is this clock.
+-- The ticks that a list holds.
 unfoldable pub ticksMoved : Entry → ℕ
 ticksMoved e = pick (isRefusal (e .answer)) 0 (onTime (e .call) 0 1 (λ n. n))
 
@@ -107,6 +105,9 @@ unfoldable pub tickCount : List Entry → ℕ
 tickCount [] = 0
 tickCount (e ∷ es) = ticksMoved e + tickCount es
 
+-- "And the clock shows the moment that lies as many ticks after acceptance as the list holds, 2000 following 2099." "Its
+-- weekday has stepped once for each midnight passed." "The clock claim is about the moment, in either form." (Note 2): the
+-- form stays, and what B0h to B3h read in it is this clock.
 pub record ClockClaim (m : Model) (n : ℕ) (end : Model) : Type 0 where
   pub shown : moment (end .clock) ≡ (moment (m .clock) + n) % century
   pub valid : clockValid (end .clock) ≡ true

@@ -8,7 +8,7 @@ use Rattle.device.specs.Registers.{registerWord}
 use Rattle.device.specs.Write.{written, setupAfter}
 use Rattle.device.specs.Call.{Call, transaction, tick, flight, temperature, stretch, opcode, further, words}
 use Rattle.device.specs.Reply.{acceptedAnswer, acceptedModel, acceptedOutput, acceptedMemory, reply, numberIn, valuesIn, bufferOf, output, memoryOf, memory}
-use Rattle.device.specs.Terms.{Command, Write, Read}
+use Rattle.device.specs.Terms.{Command, Write, Read, Flash, hitsOf}
 
 -- A machine: what it replies to every call on every model, and the output buffer and user flash that it leaves.
 pub record Machine : Type 0 where
@@ -19,10 +19,6 @@ pub record Machine : Type 0 where
 -- the one that the contracts of the calls name
 abbrev pub ours : Machine
 ours = record { reply = reply; output = output; memory = memory }
-
--- "read (90h), write (10h) and block erase (13h)" (Note 8)
-abbrev pub Flash : List ℕ → Type 0
-Flash f = (opcode f ≡ 0x90) ⊎ (opcode f ≡ 0x10) ⊎ (opcode f ≡ 0x13)
 
 -- The conditions of the table for frames: `f` is the frame, `o` the output buffer, `x` the user flash.
 
@@ -53,7 +49,7 @@ abbrev pub ShortOutput : List ℕ → List ℕ → Type 0
 ShortOutput f o = (Read f × (length o < 2 * words f)) ⊎ ((opcode f ≡ 0x90) × (length o < 2))
 
 -- 6 "a write, or a command but HALT and Reset, while a measurement is awaited or an event runs"; "6 to all five, the flash read
--- too" (Note 8). Ticks are left to the awaited one; fewer are settled than planned, or it is a continuous event.
+-- too" (Note 8). One is awaited while ticks are left to it; an event runs if it is continuous, or until all its measurements are settled.
 abbrev pub Running : Schedule → Type 0
 Running k = (0 < k .left .0) ⊎ (k .continuous ≡ true) ⊎ (k .settled < k .planned)
 
@@ -79,7 +75,7 @@ abbrev pub NotErased : List ℕ → List ℕ → Type 0
 NotErased f x = (opcode f ≡ 0x10) × (¬ (getD x (address f) 0 * 256 + getD x (address f + 1) 0 ≡ 0xFFFF))
 
 -- 7 "the clock after the write, or the alarm, would be invalid": a register's word after the write is the frame's, or where the write
--- leaves it out the one that it reads
+-- leaves it out the one that it reads; of the alarm the word that the whole write leaves in 35h
 abbrev pub wordAfter : Model → List ℕ → ℕ → ℕ
 wordAfter m f a = written (drop 1 f) (opcode f) (words f) a (registerWord m (a + 0x80))
 
@@ -112,12 +108,9 @@ BadSetup m f =
 
 -- Those for deliveries. 11 "a delivery with another number of words": "an up list and a down list, each of H words, H = STOP + 1 and
 -- at most 6 (STOP is 15:13 of 39h); the unmeasured direction's list is empty"
-abbrev pub hits : Model → ℕ
-hits m = min (wordOf (m .setup) 0x39 / 8192 % 8 + 1) 6
-
 abbrev pub Miscounted : Model → List ℕ → List ℕ → Type 0
 Miscounted m u d =
-    ¬ ((length u ≡ pick (m .flight .up) (hits m) 0) × (length d ≡ pick (m .flight .down) (hits m) 0))
+    ¬ ((length u ≡ pick (m .flight .up) (hitsOf m) 0) × (length d ≡ pick (m .flight .down) (hitsOf m) 0))
 
 -- A number of the table, and when it is given.
 pub record Refusal : Type 1 where

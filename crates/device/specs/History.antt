@@ -1,6 +1,6 @@
--- What the calls after an accepted event command tell of a kind of measurement: the calls, and of their answers 01's number and
--- values. Quotations are from 01. One statement serves both sorts of event: where a continuous one begins a group, `opensGroup`, what
--- is told of starts anew, "in place of since acceptance" (Note 5).
+-- What the calls after an accepted event command tell of a kind of measurement, by 01's number and values of their answers. Quotations
+-- are from 01. One statement serves both sorts of event: where a continuous one begins a group (`opensGroup`), counting begins anew,
+-- "in place of since acceptance" (Note 5).
 use Rattle.device.specs.Base.{ℕ, zero, suc, _+_, _/_, _%_, _^_, Bool, true, false, List, [], _∷_, _++_, length, getD, ltb, leb}
 use Rattle.device.specs.Base.{eqb, pick, both, either, negate, hitCount, differencePeriod, differenceCount, temperaturePeriod}
 use Rattle.device.specs.Base.{temperatureCount, eventContinuous, eachInterrupt, isRead, sum, Averages, Model, Answer}

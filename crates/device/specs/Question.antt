@@ -15,8 +15,7 @@ unfoldable pub valueTold : Told → List ℕ
 valueTold (Refused n) = []
 valueTold (Value v) = v ∷ []
 
--- The answers of questions, which change nothing. "The INT answer is yes exactly when INT_EN .. is 1 and the status is not
--- 0": 1 for yes, 0 for no.
+-- "The INT answer is yes exactly when INT_EN .. is 1 and the status is not 0": 1 for yes, 0 for no.
 unfoldable pub interruptPending : Model → Told
 interruptPending m =
     pick (isSound m)

@@ -17,7 +17,7 @@ use Rattle.device.specs.Call.{Call, transaction, tick, flight, temperatu
 use Rattle.device.specs.Reply.{acceptedAnswer, reply, output, numberIn, valuesIn, flag}
 use Rattle.device.specs.Question.{interruptPending, valueTold}
 use Rattle.device.specs.History.{after, Entry, log, onlyReads, Kind, differences, temperatures, byKind, runs, isDelivery}
-use Rattle.device.specs.Claim.{Holds, Whole, tickCount, command}
+use Rattle.device.specs.Claim.{Holds, Whole, tickCount, command, NotBusy}
 use Rattle.device.specs.Form.{FormClaim}
 use Rattle.device.specs.Initialised.{InitialisedClaim}
 use Rattle.device.specs.Terms.{Accepts, wordsAt, repeated, freshWords, OtherStored, LeftOut, After, CalendarAfter, eoscOf, hitsOf, leastLate, leastOpen, Some}
@@ -213,6 +213,9 @@ pub record TemperatureClaim (m : Model) (w : List ℕ) (r : Reply) : Type 0 wher
 pub record ExpiryClaim (m : Model) : Type 0 where
   pub flight-fails : failedIn differences m tick ≡ 1 → FailedClaim m (tickModel m)
   pub temperature-fails : failedIn temperatures m tick ≡ 1 → wordsAt (tickModel m) 0xE7 8 ≡ repeated 8 0xFFFF
+  -- "of the measured directions": the results of the other direction stay, and TOF_DIFF where it is no difference
+  pub kept : (s : Direction) → measured s m ≡ false → wordsAt (tickModel m) (resultsAt s) 14 ≡ wordsAt m (resultsAt s) 14
+  pub difference-kept : (s : Direction) → measured s m ≡ false → wordsAt (tickModel m) 0xE2 2 ≡ wordsAt m 0xE2 2
 
 -- The means of an event, in whole numbers; the third demand says of which deliveries they are taken.
 pub record MeansClaim : Type 0 where
@@ -234,7 +237,7 @@ pub record MeansClaim : Type 0 where
       0 < length ws →
       (floorMeanWords ws * length ws ≤ sum ws) × (sum ws < (floorMeanWords ws + 1) * length ws)
 
--- "interrupt bits": what an accepted call that is no stretch sets and clears, each bit; `n` is the model after it. A refused one changes
+-- "interrupt bits": which bits an accepted call that is no stretch sets and clears; `n` is the model after it. A refused one changes
 -- nothing, and a stretch leaves what its ticks leave. Which settlings set TOF or TE and the EVTMG bits: of a single measurement
 -- `settled` of `SingleClaim`, of an event the third demand.
 pub record BitsClaim (m : Model) (c : Call) (n : Model) : Type 0 where
@@ -243,8 +246,8 @@ pub record BitsClaim (m : Model) (c : Call) (n : Model) : Type 0 where
   pub raised : (b : Bit) → Set b n → Set b m ⊎ Sets m c b
   pub sets : (b : Bit) → ((k : Kind) → (¬ (b ≡ ownBit k)) × (¬ (b ≡ eventBit k))) → Sets m c b → Set b n
 
--- A single measurement of the kind, started by command `op` (00h to 03h): `es` are the calls made since on the model that `m` became, with
--- their answers, `n` the model at their end.
+-- A single measurement of the kind, started by a command (00h to 03h) that `m` accepted: `es` are the calls made since, with their
+-- answers, and `n` is the model at their end.
 pub record SingleClaim (k : Kind) (m : Model) (es : List Entry) (n : Model) : Type 0 where
   -- "A kind is awaited from its start until an accepted delivery, the tick that fails it, ..": number 10, whatever words are delivered
   pub awaited :
@@ -300,6 +303,9 @@ pub record CommandsClaim (m : Model) : Type 0 where
   -- "0Ah HALT drops awaited measurements, ends the event": no tick after it reports a start or a failure, and a delivery is number 10
   pub halts : (n : ℕ) → valuesIn (acceptedAnswer (modelTicked n (runModel m 10)) tick) ≡ 0 ∷ 0 ∷ 0 ∷ 0 ∷ []
   pub drops : (k : Kind) (n : ℕ) (c : Call) → isDelivery k c ≡ true → notAwaited (modelTicked n (runModel m 10)) c ≡ true
+  -- and no write is number 6, busy; nor after Reset
+  pub halt-idle : isSound m ≡ true → NotBusy (runModel m 10)
+  pub reset-idle : NotBusy (runModel m 4)
   -- "04h Reset gives the same with status 0000h."; "A kind is awaited from its start until .. HALT or Reset."
   pub reset : wordsAt (runModel m 4) 0xB0 80 ≡ freshWords 0
   pub reset-drops : (k : Kind) (c : Call) → isDelivery k c ≡ true → notAwaited (runModel m 4) c ≡ true

@@ -98,6 +98,7 @@ Write f = (0x30 ≤ getD f 0 0) × (getD f 0 0 ≤ 0x43)
 abbrev pub Read : List ℕ → Type 0
 Read f = (0xB0 ≤ getD f 0 0) × (getD f 0 0 ≤ 0xFF)
 
+-- "read (90h), write (10h) and block erase (13h)" (Note 8)
 abbrev pub Flash : List ℕ → Type 0
 Flash f = (getD f 0 0 ≡ 0x90) ⊎ (getD f 0 0 ≡ 0x10) ⊎ (getD f 0 0 ≡ 0x13)
 
@@ -172,8 +173,8 @@ Rings m n minute hour =
 abbrev pub TickRings : Model → Type 0
 TickRings m = (minute hour : ℕ) × AlarmTime (wordOf (m .setup) 0x35) minute hour × Rings m (tickModel m) minute hour
 
--- What sets each bit; of TOF, TE and the EVTMG bits what alone may set them: the claims on single measurements and events say when it
--- does. "05h Initialize .. sets INIT."; "0Ah HALT .. sets HALT, also when idle."; "LDO_ON sets status bit 10; a write or erase sets bit
+-- What sets each bit; of TOF, TE and the EVTMG bits what alone may set them: when it does, the claims on single measurements and on events
+-- say. "05h Initialize .. sets INIT."; "0Ah HALT .. sets HALT, also when idle."; "LDO_ON sets status bit 10; a write or erase sets bit
 -- 7." (Note 8); POR is a fresh model's alone.
 abbrev pub Sets : Model → Call → Bit → Type 0
 Sets m c TO = TimesOut m c

@@ -1,4 +1,4 @@
--- Machines that would be worthless, of which the first demand says so: 01, "Models that would be worthless". The second demand shuts out
+-- Worthless machines that the first demand shuts out: 01, "Models that would be worthless". The second demand shuts out
 -- "every read zero" and "a tick that moves nothing" too; here the first does, since what it asks of an accepted call leaves one machine.
 use Rattle.device.specs.Base.{ℕ, Bool, true, false, map, _≡_, pick, isCommand, isWrite, isRead, Model}
 use Rattle.device.specs.Call.{Call, opcode, onFrame, onDelivery, onTime}

@@ -1,5 +1,5 @@
--- What the lines of an item answer and leave, in the order of the description of items, whose words stand in quotation marks. Assumes
--- nothing.
+-- What the lines of an item answer and leave: calls, questions, and what is kept. The words of the description of items stand in
+-- quotation marks. Assumes nothing.
 use Prim.Native.Nat.{ℕ, zero, suc, _+_, _-_, _*_, _/_, _%_}
 use Prim.Native.String.{String}
 use mathlib.Core.Bool.{Bool, true, false}
@@ -52,7 +52,8 @@ freshItem = record { model = freshModel; flash = replicate 8192 0xFF; recorded =
 abbrev pub withModel : Item → Model → ℕ → Item
 withModel i m moment = record { model = m; flash = i .flash; recorded = i .recorded; probes = i .probes; moment = moment }
 
--- What a line answers: its first line, what stands behind it, whether it is a refusal, and the item that it leaves.
+-- What a line answers: its first line without the line feed, the further lines with theirs, whether it is a refusal, and the item that
+-- it leaves.
 pub record Told : Type 0 where
   pub line : Text
   pub further : Text
@@ -89,7 +90,7 @@ starts (Stretched flight temperature) = false
 starts Good = false
 starts Failed = false
 
--- The item after a transaction: the moment "is 0 there".
+-- The item after a transaction: where a measurement was started the moment is 0.
 unfoldable pub transacted : Item → ChipCall → Item
 transacted i c = record {
   model = reply (i .model) c .model;
@@ -99,7 +100,7 @@ transacted i c = record {
   moment = pick (starts (reply (i .model) c .answer)) 0 (i .moment);
 }
 
--- What a transaction answers behind a line's first word, and before `behind`.
+-- The line's first word, the transaction's answer, then `behind`.
 unfoldable pub transactionTold : String → ChipCall → Text → Item → Told
 transactionTold keyword c behind i = record {
   line = ascii keyword ++ ascii " " ++ answerText (reply (i .model) c .answer) ++ behind;
@@ -154,7 +155,7 @@ ticked zero i m = record { model = m; reports = [] }
 ticked (suc n) i m =
     let r = reply m ChipCall.tick in reportedBefore (reportsAt i (r .answer)) (ticked n (i + 1) (r .model))
 
--- "`tick N`, then ` WHAT@I`": n ticks, the first of them tick i, for a line of this number; the moment "goes on with every tick"
+-- "`tick N`, then ` WHAT@I`": n ticks, the first of them tick i, after N or T as printed; the moment "goes on with every tick"
 unfoldable pub ticksTold : String → ℕ → ℕ → ℕ → Item → Told
 ticksTold keyword number n i item =
     let run = ticked n i (item .model) in

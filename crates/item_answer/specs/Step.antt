@@ -72,13 +72,13 @@ comparedStep keyword calls a has wanted i =
 
 -- ---- `=>`
 
--- Whether a line has a `=>` with whose words its answer agrees: "the words of the answer's first line, without its own first word, must begin
+-- Whether the answer agrees with the words behind the line's `=>`; no where it has none: "the words of the answer's first line, without its own first word, must begin
 -- with them"
 unfoldable pub agrees : Expected → Text → Bool
 agrees unmarked line = false
 agrees (marked xs) line = beginWith xs (drop 1 (words line))
 
--- whether it has one with whose words its answer does not agree
+-- whether it does not agree with them; no where the line has no `=>`
 unfoldable pub disagrees : Expected → Text → Bool
 disagrees unmarked line = false
 disagrees (marked xs) line = negate (beginWith xs (drop 1 (words line)))
@@ -93,7 +93,7 @@ unfoldable pub expects : Expected → Bool
 expects unmarked = false
 expects (marked xs) = ltb 0 (length xs)
 
--- An answer held against what its line expects; `calls` is 1 of a call. "A refusal whose line ends with a `=>` that agrees is announced."
+-- An answer held against what its line expects; `calls` is 1 for a call. "A refusal whose line ends with a `=>` that agrees is announced."
 unfoldable pub toldStep : ℕ → Expected → Told → Step
 toldStep calls x a = record {
   text = ended (a .line ++ textWhere (disagrees x (a .line)) (expectedText x)) ++ a .further;
@@ -114,7 +114,7 @@ resultStep number calls x (fault f) i = badStep number f i
 
 -- ---- every line
 
--- The line of this number, by what it says: "`item`, a fresh model", answered by "the line's words, parted by one blank".
+-- The line of this number, by what it says: of `item` "a fresh model", answered by "the line's words, parted by one blank".
 unfoldable pub lineStep : ℕ → Line → Item → Step
 lineStep number Line.silent i = uncounted [] i
 lineStep number (Line.bad f) i = badStep number f i
@@ -133,7 +133,7 @@ step number bytes i = lineStep number (lineOf bytes) i
 
 -- ---- the outcome of a line
 
--- What a program that goes through the lines wants to know of each.
+-- What a program that goes through the lines wants to know of each. `announced` is of a refusal alone.
 pub record Outcome : Type 0 where
   pub answered : Bool
   pub refused : Bool

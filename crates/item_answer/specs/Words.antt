@@ -55,7 +55,7 @@ reports failedFlight startedFlight failedTemperature startedTemperature i =
     ++ report failedTemperature "failed-temperature" i
     ++ report startedTemperature "started-temperature" i
 
--- What an answer reports of tick i: of a single tick, which is tick i of its line, or of a stretch, which names its ticks.
+-- What an answer reports of tick i: of a single tick, whose number is i, or of a stretch, which names its ticks.
 unfoldable pub reportsAt : ℕ → Answer → Text
 reportsAt i (Refused number) = []
 reportsAt i (Accepted flight temperature) = []

@@ -19,7 +19,7 @@ pub data Output : Type 0 where
   byFrame : Output
   outOf : ℕ → Output
 
--- The lines that count as calls, but `read`: `bus` with its bytes; `set` with its address and words; `tick`, `at` and `stretch` with their
+-- The lines that count as calls, except `read`: `bus` with its bytes; `set` with its address and words; `tick`, `at` and `stretch` with their
 -- ticks; `flight` with the up words and the down words; `temperature` with its words; `frames`; `degrees` with the probe's word and its
 -- reference's; `listing` with the width of its numbers and the first of them; `quietest` with its width.
 pub data Call : Type 0 where
@@ -41,7 +41,8 @@ pub data Ask : Type 0 where
   awaited : Ask
   regs : Ask
 
--- The lines that add to what an item keeps beside its model: entries of `probe`, differences of `record`.
+-- The lines that add to what an item keeps beside its model: entries of `probe`, differences of `record`; of none
+-- TOF_DIFF as it stands.
 pub data Keep : Type 0 where
   probe : List ℕ → Keep
   differences : List ℤ → Keep

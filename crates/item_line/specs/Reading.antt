@@ -1,4 +1,5 @@
--- What a line says, in the order of the description of items, whose words stand in quotation marks. Assumes nothing.
+-- What a line says: its numbers, how many words it has, each sort of line, then a whole line. The words of the description of items stand
+-- in quotation marks. Assumes nothing.
 use Prim.Native.Nat.{ℕ, _-_}
 use Prim.Native.String.{String}
 use mathlib.Core.Bool.{Bool, true}
@@ -100,7 +101,7 @@ unfoldable pub each : {A B : Type 0} → (B → Got A) → List B → Got (List 
 each form [] = got []
 each form (w ∷ ws) = before (form w) (each form ws)
 
--- The line that a number, or several, is for; or the fault that names the wrong word.
+-- The line that takes what was read; or the fault that names the wrong word.
 abbrev pub with : {A : Type 0} → Got A → (A → Line) → Line
 with (got a) line = line a
 with (wrong w) line = Line.bad (Fault.badNumber w)

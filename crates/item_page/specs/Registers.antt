@@ -31,7 +31,7 @@ high w = digits 16 2 (w / 256)
 unfoldable pub seconds : ℕ → Text
 seconds w = low w ++ ascii "." ++ high w
 
--- "Hours stand as their word has them": bit 5 is one of their digits in the 24-hour form alone.
+-- "Hours stand as their word has them": bit 5 belongs to the hours in the 24-hour form alone.
 unfoldable pub hours : ℕ → ℕ
 hours w = pick (twelveIn w) (bits 4 0 w) (bits 5 0 w)
 

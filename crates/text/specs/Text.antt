@@ -83,14 +83,15 @@ same (c ∷ cs) (d ∷ ds) = both (eqb c d) (same cs ds)
 abbrev pub is : String → Text → Bool
 is word w = same w (ascii word)
 
--- "each word by a whole word of the same length, in which a small `x` stands for any one byte": whether a word is as wanted.
+-- "each word by a whole word of the same length, in which a small `x` stands for any one byte": whether the second word is as the
+-- first wants it.
 unfoldable pub fits : Text → Text → Bool
 fits [] [] = true
 fits [] (d ∷ ds) = false
 fits (c ∷ cs) [] = false
 fits (c ∷ cs) (d ∷ ds) = both (either (eqb c 0x78) (eqb c d)) (fits cs ds)
 
--- Whether words begin with those that are wanted.
+-- Whether the second words begin with the first, which are wanted.
 unfoldable pub beginWith : List Text → List Text → Bool
 beginWith [] [] = true
 beginWith [] (w ∷ ws) = true

@@ -238,8 +238,9 @@ momentOfAStartRows =
     ∷ ("bus 05", "bus ok -")
     ∷ ("tick 3", "tick 3")
     ∷ ("bus 00 00", "bus no 3 frame length")
+    ∷ ("at 2", "line 5: past")
     ∷ ("bus FE 00 00", "bus ok - out 000C")
-    ∷ ("at 3", "at 3")
+    ∷ ("at 2", "line 7: past")
     ∷ ("bus 02", "bus ok flight")
     ∷ ("at 1", "at 1")
     ∷ []

@@ -1,3 +1,4 @@
 pub mod Words
 pub mod Answer
 pub mod Step
+pub mod OwnView

@@ -1,2 +1,4 @@
 pub mod Line
 pub mod Reading
+pub mod OwnRead
+pub mod OwnBounds

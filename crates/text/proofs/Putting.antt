@@ -9,7 +9,7 @@ use borrow.Author.Tests.{le-leb}
 use Rattle.numeral.specs.Place.{overwrite, nextPlace, written, Put}
 use Rattle.numeral.proofs.PlaceLaws.{overwrite-nil, overwrite-append, length-overwrite}
 use Rattle.text.specs.Text.{Text}
-use Rattle.text.specs.Put.{Puts}
+use Rattle.text.specs.OwnPut.{Puts}
 
 -- What `numeral` puts.
 pub puts : {l l′ : List ℕ} {at r : ℕ} {t : Text} → Put l at t r l′ → Puts l at t r l′
@@ -29,7 +29,7 @@ puts-then {l} {k} {l′} {at} {q} {r} {a} {b} p s =
     let room : at + length (a ++ b) ≤ length l → at + length a + length b ≤ length l = λ h. let g : at + (length a + length b) ≤ length l = rw length-append at h in omega arith in
     let first : at + length (a ++ b) ≤ length l → at + length a ≤ length l = λ h. let g = room h in omega arith in
     let left : at + length (a ++ b) ≤ length l → q + length b ≤ length k =
-        λ h. let g = room h in rw (p .next (first h), p .bytes (first h), length-overwrite l at a (first h)) g in
+    λ h. let g = room h in rw (p .next (first h), p .bytes (first h), length-overwrite l at a (first h)) g in
     record {
       next = λ h. s .next (left h) ∙ rw (p .next (first h), length-append, add-assoc);
       bytes = λ h. s .bytes (left h) ∙ rw (p .next (first h), p .bytes (first h)) (overwrite-append l at a b (room h));

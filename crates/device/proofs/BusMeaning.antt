@@ -19,7 +19,7 @@ use Rattle.device.specs.Write.{writeModel}
 use Rattle.device.specs.Bus.{runModel, readModel}
 use Rattle.device.specs.Call.{transaction, opcode, further, words, accepted, verdict, notCarried, wrongLength, pastRegisters, shortOutput}
 use Rattle.device.specs.Reply.{acceptedModel, acceptedOutput, reply, replyBy, output, outputBy}
-use Rattle.device.specs.Terms.{Command, Write, Read, Flash}
+use Rattle.device.specs.Plain.{Command, Write, Read, Flash}
 use Rattle.device.proofs.Table.{none-holds}
 use Rattle.device.proofs.RegisterMeaning.{fill-bytes, fill-rest}
 

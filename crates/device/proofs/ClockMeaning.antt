@@ -14,7 +14,7 @@ use Rattle.device.specs.declared.Model.{Model}
 use Rattle.device.specs.Registers.{calendarWord, registerWord}
 use Rattle.device.specs.Tick.{clockTicked, tickRings, tickModel}
 use Rattle.device.specs.Stretch.{modelTicked}
-use Rattle.device.specs.Terms.{eoscOf}
+use Rattle.device.specs.Plain.{eoscOf}
 use Rattle.device.proofs.StatusMeaning.{kept, alarm-set}
 use Rattle.device.proofs.Stretch.{setup-ticked, clock-ticked}
 

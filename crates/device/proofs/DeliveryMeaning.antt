@@ -29,7 +29,7 @@ use Rattle.device.specs.Results.{goodDifference, goodFlight}
 use Rattle.device.specs.Delivery.{failedFlightModel, temperatureStatus, goodTemperatureModel, failedTemperatureModel}
 use Rattle.device.specs.Call.{temperature, miscounted}
 use Rattle.device.specs.Reply.{anyOpen, portFault, acceptedAnswer, acceptedModel}
-use Rattle.device.specs.Claim.{Holds, Whole}
+use Rattle.device.specs.Plain.{Holds, Whole}
 use Rattle.device.proofs.Sound.{ports-good}
 use Rattle.device.proofs.RegisterMeaning.{reads-ports}
 

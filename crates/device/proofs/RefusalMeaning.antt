@@ -17,7 +17,7 @@ use Rattle.device.specs.Model.{kindBusy, isBusy}
 use Rattle.device.specs.Registers.{upwards}
 use Rattle.device.specs.Bus.{mustBeIdle, startsFlight, startsTemperature, isEvent, commandBusy, beforeInitialize}
 use Rattle.device.specs.Bus.{flightSideUnset, temperatureSideUnset, eventSideUnset, commandUnset}
-use Rattle.device.specs.FirstDemand.{Running}
+use Rattle.device.specs.Plain.{Running}
 
 -- "while a measurement is awaited or an event runs"
 pub kind-busy-means : (k : Schedule) → (kindBusy k ≡ true) ↔ Running k

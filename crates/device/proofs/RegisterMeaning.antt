@@ -21,8 +21,8 @@ use Rattle.device.specs.Status.{porBit, noBits, statusWord}
 use Rattle.device.specs.Model.{freshWith, freshModel, resetModel, noFlight, noTemperature}
 use Rattle.device.specs.Registers.{half, calendarWord, flightWord, temperatureWord, registerWord, fillWords}
 use Rattle.device.specs.Write.{covers, written, withWord, setupAfter}
-use Rattle.device.specs.Claim.{Holds}
-use Rattle.device.specs.Terms.{wordsAt, freshWords}
+use Rattle.device.specs.Plain.{Holds}
+use Rattle.device.specs.Plain.{wordsAt, freshWords}
 
 -- "Fresh: .. configuration at the factory values in 000's tables (38h is 0010h, 43h is 0000h; 0000h where none is printed);
 -- results 0; alarm 0; clock 2000-01-01 00:00:00.00, weekday 1; status 0004h (POR)": all that B0h to FFh read

@@ -19,7 +19,7 @@ use Rattle.device.specs.Results.{failedFlight}
 use Rattle.device.specs.Tick.{flightTicked, flightAfter, temperatureAfter, clockTicked, tickModel}
 use Rattle.device.specs.Stretch.{modelTicked, scheduleTicked, lastTick}
 use Rattle.device.specs.Model.{isSound}
-use Rattle.device.specs.History.{Kind, differences, temperatures, Plan, History, noteTick, noteTicks}
+use Rattle.device.specs.History.{Kind, differences, temperatures}
 use Rattle.device.proofs.Table.{picked}
 use Rattle.device.proofs.TickCases.{by-begins, left-before}
 use Rattle.device.proofs.Sound.{ScheduleBounds, Bounds, bounds-of, ticked-bounds}
@@ -261,20 +261,3 @@ module _ (m : Model) (s : isSound m ≡ true) (k : Kind) (n j : ℕ) (l : j < n)
   failure-named =
       let c : Schedule = scheduleOf k m in
       rw (schedule-ticked k j m) (named-once fails c n j l (λ i a d e. fails-once c j i apart-then a (omega arith) e))
-
--- What each tick keeps of what was told, a stretch keeps: up to tick j of its n.
-pub over-ticks :
-    (k : Kind) (p : Plan) (P : History → Model → Type 0) →
-    ((h : History) (m : Model) → P h m → isSound m ≡ true) →
-    ((h : History) (m : Model) → P h m → P (noteTick p (begins (scheduleOf k m)) (fails (scheduleOf k m)) h) (tickModel m)) →
-    (m : Model) (h : History) (n j : ℕ) →
-    n ≤ 16384 →
-    j ≤ n →
-    P h m →
-    P (noteTicks p j (lastTick begins (scheduleOf k m) n) (lastTick fails (scheduleOf k m) n) h) (modelTicked j m)
-unfolding noteTicks modelTicked
-over-ticks k p P sound each m h n zero l u i = i
-over-ticks k p P sound each m h n (suc j) l u i =
-    let s = sound h m i in
-    rw (start-named m s k n j (omega arith) l, failure-named m s k n j (omega arith) l)
-    (each _ (modelTicked j m) (over-ticks k p P sound each m h n j l (omega arith) i))

@@ -15,7 +15,7 @@ use Rattle.device.specs.StretchSteps.{progress}
 use Rattle.device.specs.Call.{tick, stretch}
 use Rattle.device.specs.Reply.{refuse, reply}
 use Rattle.device.specs.History.{after}
-use Rattle.device.specs.Terms.{singleTicks}
+use Rattle.device.specs.Plain.{singleTicks}
 use Rattle.device.proofs.Sound.{keeps-sound}
 use Rattle.device.proofs.Replies.{reply-tick, reply-stretch}
 use Rattle.device.proofs.Stretch.{ticked-later}

@@ -22,7 +22,7 @@ use Rattle.device.specs.declared.Model.{Model}
 use Rattle.device.specs.Model.{isSound}
 use Rattle.device.specs.Registers.{calendarWord, registerWord}
 use Rattle.device.specs.Write.{covers, written, setupAfter, ticksAfter, clockAfter, writeInvalid, writeModel}
-use Rattle.device.specs.Terms.{LeftOut, After, CalendarAfter}
+use Rattle.device.specs.Plain.{LeftOut, After, CalendarAfter}
 use Rattle.device.proofs.Sound.{bounds-of}
 use Rattle.device.proofs.RegisterMeaning.{setup-kept, setup-means}
 

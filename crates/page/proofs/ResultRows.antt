@@ -23,7 +23,7 @@ use Rattle.listing.specs.Listing.{rightJustified}
 use Rattle.device.specs.declared.Model.{Model}
 use Rattle.device.specs.Model.{isSound}
 use Rattle.device.specs.Registers.{flightWord, registerWord}
-use Rattle.device.specs.Claim.{Holds}
+use Rattle.device.specs.Plain.{Holds}
 use Rattle.device.proofs.Sound.{bounds-of}
 use Rattle.device.proofs.RegisterMeaning.{reads-counts, reads-ups, reads-downs, reads-difference, reads-mean, reads-ports, reads-means}
 use Rattle.numeral.specs.Ascii.{ascii}

@@ -12,7 +12,7 @@ use Rattle.setup.specs.Setup.{wordOf, flightUnset, temperatureUnset, clockStand
 use Rattle.device.specs.declared.Model.{Model}
 use Rattle.device.specs.Model.{isSound}
 use Rattle.device.specs.Bus.{startsFlight, startsTemperature, isEvent, flightSideUnset, temperatureSideUnset, eventSideUnset, commandUnset}
-use Rattle.device.specs.Claim.{Holds}
+use Rattle.device.specs.Plain.{Holds}
 use Rattle.device.specs.Reply.{flag as bit}
 use Rattle.device.proofs.RegisterMeaning.{reads-setup}
 use Rattle.numeral.specs.Ascii.{ascii}

@@ -31,12 +31,13 @@ use Rattle.device.specs.Reply.{anyLate, anyOpen, portFault, numberIn, valuesIn,
 use Rattle.device.specs.Call.{noFrame, notCarried, wrongLength, pastRegisters, shortOutput, whileBusy, supplyOff, unreachable, unerased, badCalendar}
 use Rattle.device.specs.Call.{notInitialised, badSetup, notAwaited, miscounted, tooLong}
 use Rattle.device.specs.Reply.{acceptedAnswer, acceptedModel}
-use Rattle.device.specs.History.{after, log, isRefusal, lastGiven, mayFollow, onlyReads}
-use Rattle.device.specs.History.{atAcceptance, opensGroup, noteTick, noteTicks, noteDelivery, noteRead, noteAccepted, note, history}
-use Rattle.device.specs.Claim.{ticksMoved, tickCount}
-use Rattle.device.specs.SetupTold.{wordGiven, setupTold}
-use Rattle.device.specs.FlashRun.{lent, memoryLeft}
-use Rattle.device.specs.Probes.{startOf, flowOf, flowThrough}
+use Rattle.device.specs.History.{after, log}
+use Rattle.demands.specs.EventHistory.{isRefusal, lastGiven, mayFollow, onlyReads}
+use Rattle.demands.specs.EventHistory.{atAcceptance, opensGroup, noteTick, noteTicks, noteDelivery, noteRead, noteAccepted, note, history}
+use Rattle.demands.specs.Claim.{ticksMoved, tickCount}
+use Rattle.demands.specs.SetupTold.{wordGiven, setupTold}
+use Rattle.demands.specs.FlashRun.{lent, memoryLeft}
+use Rattle.demands.specs.Probes.{startOf, flowOf, flowThrough}
 use Rattle.device.specs.StretchSteps.{progress, moved, movedQuietly, movedByOne, noted, least, quietFor, quietClock, quietSchedule, quietLeft, quietWait, laterModel, laterClock, laterSchedule}
 
 unfoldable pub computed : Bool

@@ -7,9 +7,10 @@ use Rattle.device.specs.declared.Reply.{Reply}
 use Rattle.device.specs.Model.{freshModel}
 use Rattle.device.specs.Call.{Call, flight}
 use Rattle.device.specs.Reply.{reply}
-use Rattle.device.specs.History.{after, log, differences, planOf, settledOf}
-use Rattle.device.specs.Claim.{writeNumber, command, toldOf}
-use Rattle.device.specs.SetupTold.{setupTold}
+use Rattle.device.specs.History.{after, log, differences}
+use Rattle.demands.specs.EventHistory.{planOf, settledOf}
+use Rattle.demands.specs.Claim.{writeNumber, command, toldOf}
+use Rattle.demands.specs.SetupTold.{setupTold}
 use Rattle.worked_examples.proofs.Computed.{computed}
 use Rattle.worked_examples.proofs.Witness.{before}
 

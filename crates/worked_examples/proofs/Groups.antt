@@ -10,12 +10,13 @@ use Rattle.device.specs.Model.{isSound, freshModel}
 use Rattle.device.specs.Registers.{registerWord}
 use Rattle.device.specs.Call.{Call, transaction, flight, temperature, stretch}
 use Rattle.device.specs.Reply.{numberIn, reply}
-use Rattle.device.specs.History.{after, log, onlyReads, Kind, differences, temperatures, Plan, planOf, runs, History}
-use Rattle.device.specs.Claim.{reached, plannedStarts, tickCount, command, toldOf, EventClaim}
-use Rattle.device.specs.SetupTold.{setupTold}
+use Rattle.device.specs.History.{after, log, Kind, differences, temperatures}
+use Rattle.demands.specs.EventHistory.{onlyReads, Plan, planOf, runs, History}
+use Rattle.demands.specs.Claim.{reached, plannedStarts, tickCount, command, toldOf, EventClaim}
+use Rattle.demands.specs.SetupTold.{setupTold}
 use Rattle.device.proofs.Sound.{keeps-sound}
-use Rattle.device.proofs.SoundMeaning.{made-sound}
-use Rattle.device.proofs.ThirdDemand.{third-demand}
+use Rattle.demands.proofs.SoundMeaning.{made-sound}
+use Rattle.demands.proofs.ThirdDemand.{third-demand}
 use Rattle.worked_examples.proofs.Computed.{computed}
 use Rattle.worked_examples.proofs.Quickly.{moves, replyTo, quickReply, Run, quickRun, outputs, same-run}
 use Rattle.worked_examples.proofs.Witness.{before, whole}

@@ -8,9 +8,10 @@ use Rattle.device.specs.Model.{freshModel}
 use Rattle.device.specs.Registers.{registerWord}
 use Rattle.device.specs.Call.{Call, transaction, tick, flight, temperature, stretch}
 use Rattle.device.specs.Reply.{numberIn, reply}
-use Rattle.device.specs.History.{Entry, after, log, isRefusal, onlyReads}
-use Rattle.device.specs.Claim.{command}
-use Rattle.device.specs.Probes.{OtherProbesIn, same, values, none, next, Flow, flowThrough}
+use Rattle.device.specs.History.{Entry, after, log}
+use Rattle.demands.specs.EventHistory.{isRefusal, onlyReads}
+use Rattle.demands.specs.Claim.{command}
+use Rattle.demands.specs.Probes.{OtherProbesIn, same, values, none, next, Flow, flowThrough}
 use Rattle.worked_examples.proofs.Computed.{computed}
 
 -- PL and DPL, TP, Initialize

@@ -6,10 +6,11 @@ use mathlib.Core.List.{List, [], _∷_, map}
 use mathlib.Core.Logic.{_↔_, _⊎_, ⊎-elim}
 use mathlib.Core.Path.{_≡_, refl, sym}
 use lib.ListN.{length, getD, List·getD-eq-default}
+use borrow.Author.Tests.{le-ltb}
 use Rattle.unit.specs.Choice.{either}
 use Rattle.unit.proofs.Cases.{by-test, by-ltb}
 use Rattle.unit.specs.declared.Quanta.{Quanta}
-use Rattle.setup.specs.Setup.{portCycle}
+use Rattle.setup.specs.Setup.{hitCount, portCycle}
 use Rattle.hit.specs.Limit.{openFrom, shortBelow, anyBelow, anyFault}
 use Rattle.hit.specs.Difference.{differenceWord}
 use Rattle.hit.specs.Mean.{sum}
@@ -25,10 +26,10 @@ use Rattle.device.specs.Results.{failedDifference, failedFlight}
 use Rattle.device.specs.declared.Answer.the-variants.{Good}
 use Rattle.device.specs.Event.{settle}
 use Rattle.device.specs.Status.{joined, temperatureBits}
-use Rattle.device.specs.Results.{goodDifference, goodFlight}
-use Rattle.device.specs.Delivery.{failedFlightModel, temperatureStatus, goodTemperatureModel, failedTemperatureModel}
-use Rattle.device.specs.Call.{temperature, miscounted}
-use Rattle.device.specs.Reply.{anyOpen, portFault, acceptedAnswer, acceptedModel}
+use Rattle.device.specs.Results.{goodDifference, goodSum, goodFlight}
+use Rattle.device.specs.Delivery.{goodFlightModel, failedFlightModel, temperatureStatus, goodTemperatureModel, failedTemperatureModel}
+use Rattle.device.specs.Call.{flight, temperature, miscounted}
+use Rattle.device.specs.Reply.{anyLate, anyOpen, portFault, acceptedAnswer, acceptedModel}
 use Rattle.device.specs.Plain.{Holds, Whole}
 use Rattle.device.proofs.Sound.{ports-good}
 use Rattle.device.proofs.RegisterMeaning.{reads-ports}
@@ -114,6 +115,20 @@ module _ (f : Flight) (n : ℕ) (u d : List ℕ) where
       (f .up ≡ false) ⊎ (f .down ≡ false) → goodFlight f n (sixWords u) (sixWords d) .difference ≡ f .difference
   unfolding goodFlight goodDifference
   good-difference-kept = ⊎-elim (λ e. rw e) (λ e. by-test (f .up) (λ g. rw (g, e)) (λ g. rw g))
+
+  -- "A good measurement of an event adds one to its count, a single one none": and nothing to the event's sum
+  pub single-keeps-sum : f .schedule .planned ≤ f .schedule .settled → goodFlight f n u d .sum ≡ f .sum
+  unfolding goodFlight goodSum
+  single-keeps-sum h = rw (le-ltb (f .schedule .settled) (f .schedule .planned) h)
+
+-- "No word late" and it is good, whatever the difference of its averages is; by the set-up's H
+pub good-leaves :
+    (m : Model) (u d : List ℕ) →
+    anyLate m u d ≡ false →
+    (acceptedAnswer m (flight u d) ≡ Good) ×
+    (acceptedModel m (flight u d) .flight ≡ goodFlight (m .flight) (hitCount (m .setup)) (sixWords u) (sixWords d))
+unfolding acceptedAnswer acceptedModel goodFlightModel
+good-leaves m u d e = rw e (refl, refl)
 
 -- "A word late: the measurement fails, every HIT and AVG of the measured directions and, for a difference, TOF_DIFF become
 -- FFFFh": what the registers read

@@ -13,7 +13,7 @@ use Rattle.device.specs.declared.Status.{Status}
 use Rattle.device.specs.declared.Model.{Model}
 use Rattle.device.specs.declared.Told.the-variants.{Value}
 use Rattle.device.specs.Event.{fails as expires, inEvent, isLast, haltSchedule}
-use Rattle.device.specs.Status.{noBits, joined, statusWord, flightBits, temperatureBits, alarmBit, initBit, haltBit}
+use Rattle.device.specs.Status.{noBits, joined, statusWord, setsOwnBit, flightBits, temperatureBits, alarmBit, initBit, haltBit}
 use Rattle.device.specs.Model.{isSound}
 use Rattle.device.specs.Tick.{tickRings, tickStatus, tickModel}
 use Rattle.device.specs.Bus.{initialisedModel, haltedModel}
@@ -119,6 +119,14 @@ single-not-last k =
     by-test (ltb (k .settled) (k .planned))
     (λ e. rw e (by-test (k .continuous) (λ c. rw c (λ f. cc)) (λ c. rw c (λ f. cc))))
     (λ e. rw e (λ f. refl))
+
+-- "A single one sets TOF or TE when delivered or failed."; of an event "With CONT_INT .. each settled one sets TOF or TE.", and without it
+-- none does
+pub own-bit :
+    (k : Schedule) (each : Bool) →
+    (inEvent k ≡ false → setsOwnBit k each ≡ true) × (inEvent k ≡ true → setsOwnBit k each ≡ each)
+unfolding setsOwnBit
+own-bit k each = (λ e. rw e, λ e. rw e)
 
 pub kept : (b : Bool) → either b false ≡ b
 kept true = refl

@@ -172,6 +172,18 @@ module _
       let b = words-back w30 w31 w32 w33 (ticksAfter bytes op n m) v hundredths-after in
       (b .seconds, b .time, b .date, b .year))
 
+-- A write changes the clock and the set-up alone.
+pub write-keeps :
+    (bytes : List ℕ) (op n : ℕ) (m : Model) →
+    let left : Model = writeModel bytes op n m in
+    (left .status ≡ m .status) ×
+    (left .initialised ≡ m .initialised) ×
+    (left .regulator ≡ m .regulator) ×
+    (left .flight ≡ m .flight) ×
+    (left .temperature ≡ m .temperature)
+unfolding writeModel
+write-keeps bytes op n m = (refl, refl, refl, refl, refl)
+
 -- A write past 35h leaves a sound model's alarm valid.
 pub alarm-kept :
     (m : Model) (bytes : List ℕ) (op n : ℕ) →

@@ -7,7 +7,7 @@ use Rattle.device.specs.declared.Model.{Model}
 use Rattle.device.specs.declared.Answer.{Answer}
 use Rattle.device.specs.Call.{Call, transaction, tick, flight, temperature, stretch}
 use Rattle.device.specs.Reply.{reply, output, memory}
-use Rattle.outcome.specs.Code.{codeOf, wordsOf}
+use Rattle.layout.specs.Code.{codeOf, wordsOf}
 use Rattle.call_list.specs.declared.Entry.{Entry}
 use Rattle.call_list.specs.declared.Place.{Place}
 use Rattle.call_list.specs.CallList.{entryAt, entryFits, callFits, callOf, outputAfter, flashAfter, placeAfter, answersAfter, Run, beginning, stepBy, step, fits, runs}

@@ -9,7 +9,7 @@ use Rattle.device.specs.declared.Model.{Model}
 use Rattle.device.specs.declared.Answer.{Answer}
 use Rattle.device.specs.Call.{Call, transaction, tick, flight, temperature, stretch}
 use Rattle.device.specs.Reply.{reply, output, memory}
-use Rattle.outcome.specs.Code.{codeOf, wordsOf, filled}
+use Rattle.layout.specs.Code.{codeOf, wordsOf, filled}
 use Rattle.call_list.specs.declared.Entry.{Entry}
 use Rattle.call_list.specs.declared.Place.{Place}
 use Rattle.call_list.specs.declared.Progress.{Progress}

@@ -13,7 +13,7 @@ use Rattle.listing.specs.declared.Listed.{Listed}
 use Rattle.listing.specs.Listing.{numberListed, valueListed}
 use Rattle.setup_frames.specs.declared.Framed.{Framed}
 use Rattle.setup_frames.specs.Frames.{numberFramed, valuesFramed}
-use Rattle.outcome.specs.Code.{codeIn}
+use Rattle.layout.specs.Code.{codeIn}
 use Rattle.finding.specs.Finding.{placeRun}
 
 question-told : (codeIn (numberTold (Told.Value 7)) ≡ 0xFFFFFFFF) × (valueTold (Told.Value 7) ≡ 7 ∷ []) × (codeIn (numberTold (Told.Refused 4)) ≡ 4) × (valueTold (Told.Refused 4) ≡ [])

@@ -2,7 +2,7 @@
 ghost use mathlib.Core.Path.{_≡_};
 ghost use Prim.Native.Nat.{_+_, _≤_};
 ghost use lib.ListN.{drop, length, set, take};
-ghost use Rattle.outcome.specs.Code.{Gives, filled};
+ghost use Rattle.layout.specs.Code.{Gives, filled};
 ghost use Rattle.device.specs.Question.{numberTold, valueTold};
 ghost use Rattle.thermometer.specs.Degrees.{numberRead, valueRead};
 ghost use Rattle.quietest.specs.Quietest.{numberFound, valueFound};

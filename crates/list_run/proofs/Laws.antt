@@ -25,7 +25,7 @@ use Rattle.device.proofs.Replies.{reply-tick}
 use Rattle.ticking.proofs.Quiet.{next-flight, next-temperature}
 use Rattle.reply_parts.proofs.Decode.{reply-unsound}
 use Rattle.device.proofs.Sound.{keeps-sound}
-use Rattle.outcome.specs.Code.{codeOf, wordsOf, filled}
+use Rattle.layout.specs.Code.{codeOf, wordsOf, filled}
 use Rattle.call_list.specs.declared.Entry.{Entry}
 use Rattle.call_list.specs.declared.Place.{Place}
 use Rattle.call_list.specs.declared.Progress.{Progress}

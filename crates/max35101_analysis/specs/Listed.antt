@@ -4,7 +4,7 @@ use mathlib.Core.List.{List}
 use lib.Dec.{eqb}
 use lib.IntN.{ℤ}
 use Rattle.unit.specs.Choice.{pick}
-use Rattle.outcome.specs.Code.{codeIn, filled}
+use Rattle.layout.specs.Code.{codeIn, filled}
 use Rattle.listing.specs.declared.Width.the-variants.{Two, Eight}
 use Rattle.listing.specs.Listing.{captureDigits, listing, numberOut, valueOut}
 

@@ -5,7 +5,7 @@ ghost use Rattle.thermometer.specs.Degrees.{degreesOver, degreesBy, numberRead,
 ghost use Rattle.quietest.specs.Quietest.{quietestPlace, numberFound, valueFound};
 ghost use Rattle.nanosecond.specs.Nanosecond.{Nanoseconds};
 ghost use Rattle.listing.specs.Listing.{captureDigits, usual};
-ghost use Rattle.outcome.specs.Code.{Gives, codeIn, filled};
+ghost use Rattle.layout.specs.Code.{Gives, codeIn, filled};
 ghost use Rattle.finding.specs.Finding.{placeRun};
 ghost use Rattle.max35101_analysis.specs.Listed.{listedNumber, listedOut, listedSizes};
 use finding::copy_run;

@@ -3,7 +3,7 @@ use Prim.Native.Nat.{ℕ}
 use mathlib.Core.List.{List}
 use mathlib.Core.Path.{_≡_, subst}
 use Rattle.device.specs.declared.Reply.{Reply}
-use Rattle.outcome.specs.Code.{Settled}
+use Rattle.layout.specs.Code.{Settled}
 
 pub settled-by :
     {r s : Reply} {bytes words bytes′ words′ : List ℕ} {code : ℕ} → r ≡ s → Settled r bytes words code bytes′ words′ → Settled s bytes words code bytes′ words′

@@ -6,7 +6,7 @@ use lib.Dec.{eqb}
 use Rattle.unit.specs.Choice.{pick}
 use Rattle.device.specs.Model.{freshModel}
 use Rattle.layout.specs.Layout.{stored}
-use Rattle.outcome.specs.Code.{accepted}
+use Rattle.layout.specs.Code.{accepted}
 
 -- A fresh model, in a buffer of 233 bytes and in no other.
 unfoldable pub freshCode : List ℕ → ℕ

@@ -6,7 +6,7 @@ ghost use mathlib.Core.Path.{_≡_};
 ghost use Rattle.device.specs.Call.{Call};
 ghost use Rattle.device.specs.Reply.{reply, output, memory};
 ghost use Rattle.layout.specs.Layout.{loaded};
-ghost use Rattle.outcome.specs.Code.{Settled};
+ghost use Rattle.layout.specs.Code.{Settled};
 ghost use Rattle.max35101_calls.specs.Fresh.{freshBytes, freshCode};
 use converter::flight_delivery;
 use converter::fresh;

@@ -9,7 +9,7 @@ use Rattle.device.specs.Model.{isSound}
 use Rattle.layout.specs.Layout.{loaded}
 use Rattle.call_list.specs.declared.Progress.{Progress}
 use Rattle.call_list.specs.CallList.{Run, beginning, runs}
-use Rattle.outcome.specs.Code.{kept}
+use Rattle.layout.specs.Code.{kept}
 use Rattle.max35101_list.specs.ListRun.{Ran, listRun, listBytes}
 
 -- The bytes after a list, on a sound model and on another.

@@ -7,7 +7,7 @@ use Rattle.unit.specs.Choice.{pick}
 use Rattle.device.specs.Model.{isSound}
 use Rattle.layout.specs.Layout.{loaded}
 use Rattle.call_list.specs.CallList.{Run, beginning, runs}
-use Rattle.outcome.specs.Code.{kept}
+use Rattle.layout.specs.Code.{kept}
 
 -- A model that is not sound refuses each of them, and its bytes stay.
 unfoldable pub listRun : List ℕ → List ℕ → List ℕ → List ℕ → List ℕ → List ℕ → List ℕ → Run

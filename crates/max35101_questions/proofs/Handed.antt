@@ -2,7 +2,7 @@
 use Prim.Native.Nat.{ℕ}
 use mathlib.Core.List.{List}
 use mathlib.Core.Path.{_≡_, subst}
-use Rattle.outcome.specs.Code.{Gives}
+use Rattle.layout.specs.Code.{Gives}
 
 pub gives-by :
     {A : Type 0} {number values : A → List ℕ} {t u : A} {words words′ : List ℕ} {code : ℕ} →

@@ -14,7 +14,7 @@ use Rattle.run_state.specs.declared.Left.{Left}
 use Rattle.run_state.specs.State.{initialisedTold, leftTold, numberLeft, valuesLeft}
 use Rattle.run_state.specs.Event.{placeTold, numberPlaced, valuesPlaced}
 use Rattle.setup_frames.specs.Frames.{framesVerdict, answerBy, bytesBy, lengthsBy, numberFramed, valuesFramed}
-use Rattle.outcome.specs.Code.{codeIn}
+use Rattle.layout.specs.Code.{codeIn}
 use Rattle.max35101_questions.specs.Frames.{SetUp}
 
 abbrev pub NotTold : Told → Type 0

@@ -5,7 +5,7 @@ use mathlib.Core.List.{List}
 use lib.ListN.{length}
 use Rattle.device.specs.declared.Model.{Model}
 use Rattle.setup_frames.specs.Frames.{framesVerdict, answerBy, bytesBy, lengthsBy, numberFramed, valuesFramed}
-use Rattle.outcome.specs.Code.{Gives}
+use Rattle.layout.specs.Code.{Gives}
 
 -- Set-up frames: the answer's number and sizes, and both buffers.
 pub record SetUp (m : Model) (bytes lengths sizes : List ℕ) (code : ℕ) (bytes′ lengths′ sizes′ : List ℕ) : Type 0 where

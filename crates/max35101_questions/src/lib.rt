@@ -5,7 +5,7 @@ ghost use Rattle.run_state.specs.State.{initialisedTold, leftTold, numberLeft, 
 ghost use Rattle.run_state.specs.Event.{placeTold, numberPlaced, valuesOf, valuesPlaced};
 ghost use Rattle.max35101_questions.specs.Frames.{SetUp};
 ghost use Rattle.layout.specs.Layout.{loaded};
-ghost use Rattle.outcome.specs.Code.{Gives, filled};
+ghost use Rattle.layout.specs.Code.{Gives, filled};
 use converter::flight_awaited;
 use converter::flight_left;
 use converter::flight_place;

@@ -1,7 +1,7 @@
 // What a call of the library returns: a number for its answer, the answer's words in a lent buffer, the model in its bytes.
 ghost use mathlib.Core.Path.{_≡_};
 ghost use lib.ListN.{set};
-ghost use Rattle.outcome.specs.Code.{Settled, codeOf, filled, kept, modelAfter, wordsOf};
+ghost use Rattle.layout.specs.Code.{Settled, codeOf, filled, kept, modelAfter, wordsOf};
 use device::Answer;
 use device::Model;
 use device::Reply;

@@ -8,7 +8,7 @@ use denote.Enum.Declared.{tagOf}
 use Rattle.run_state.proofs.Placed.{the-type}
 use Rattle.run_state.specs.declared.Placed.{Placed}
 use Rattle.run_state.specs.declared.Placed.the-variants.{Refused, NoEvent, Event}
-use Rattle.outcome.specs.Code.{accepted, Gives}
+use Rattle.layout.specs.Code.{accepted, Gives}
 use Rattle.run_state.specs.Event.{numberPlaced, valuesPlaced}
 use borrow.Author.Needs.{needs}
 use Rattle.max35101_questions.proofs.placed.Statement.{statement}

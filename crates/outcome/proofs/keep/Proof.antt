@@ -1,5 +1,5 @@
 -- `outcome::keep` meets its contract.
-use Rattle.outcome.specs.Code.{kept}
+use Rattle.layout.specs.Code.{kept}
 use borrow.Author.Tests.{eq-eqb, ne-eqb}
 use borrow.Author.Needs.{needs}
 use Rattle.outcome.proofs.keep.Statement.{statement}

@@ -5,7 +5,7 @@ use Rattle.device.specs.declared.Answer.the-variants.{Refused, Accepted, Ticked
 use types.Run.{OneOf, miss}
 use denote.Enum.Declared.{tagOf}
 use Rattle.device.specs.declared.Model.{Model}
-use Rattle.outcome.specs.Code.{kept, modelAfter}
+use Rattle.layout.specs.Code.{kept, modelAfter}
 use Prim.Native.Nat.{ℕ}
 use mathlib.Core.List.{List, [], _∷_}
 use mathlib.Core.Path.{_≡_, refl, _∙_}

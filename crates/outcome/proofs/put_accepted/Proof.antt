@@ -4,7 +4,7 @@ use mathlib.Core.List.{List}
 use mathlib.Core.Path.{ap, _∙_}
 use lib.ListN.{set}
 use mir.Val.{boolByte}
-use Rattle.outcome.specs.Code.{wordsOf}
+use Rattle.layout.specs.Code.{wordsOf}
 use borrow.Author.Needs.{needs}
 use Rattle.outcome.proofs.put_accepted.Statement.{statement}
 use Rattle.outcome.proofs.put_accepted.Tie as tie

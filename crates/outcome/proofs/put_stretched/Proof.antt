@@ -1,5 +1,5 @@
 -- `outcome::put_stretched` meets its contract.
-use Rattle.outcome.specs.Code.{wordsOf}
+use Rattle.layout.specs.Code.{wordsOf}
 use borrow.Author.Needs.{needs}
 use Rattle.outcome.proofs.put_stretched.Statement.{statement}
 use Rattle.outcome.proofs.put_stretched.Tie as tie

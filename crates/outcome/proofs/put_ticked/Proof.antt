@@ -1,5 +1,5 @@
 -- `outcome::put_ticked` meets its contract.
-use Rattle.outcome.specs.Code.{wordsOf}
+use Rattle.layout.specs.Code.{wordsOf}
 use borrow.Author.Needs.{needs}
 use Rattle.outcome.proofs.put_ticked.Statement.{statement}
 use Rattle.outcome.proofs.put_ticked.Tie as tie

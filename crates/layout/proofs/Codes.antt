@@ -7,8 +7,8 @@ use lib.ListN.{length, replicate}
 use Rattle.unit.specs.Choice.{pick}
 use Rattle.device.specs.declared.Model.{Model}
 use Rattle.device.specs.declared.Answer.{Answer}
 use Rattle.layout.specs.Layout.{stored}
-use Rattle.outcome.specs.Code.{codeOf, wordsOf, filled, kept, modelAfter}
+use Rattle.layout.specs.Code.{codeOf, wordsOf, filled, Gives, kept, modelAfter}
 
 codes : (codeOf (Answer.Refused 6) ≡ 6) × (codeOf (Answer.Accepted true false) ≡ 0xFFFFFFFF) × (codeOf Answer.Good ≡ 0xFFFFFFFF)
     × (codeOf Answer.Failed ≡ 0xFFFFFFFE)
@@ -39,3 +39,10 @@ bytes-after : (m : Model) → (modelAfter Answer.Failed m (replicate 233 0) ≡ 
     × (modelAfter (Answer.Refused 6) m (replicate 233 0) ≡ replicate 233 0)
 unfolding modelAfter kept
 bytes-after m = (refl, refl, refl)
+
+-- A question's or an analysis's answer of 7, and its refusal with number 4, in a buffer of one place.
+answer-given : {code : ℕ} {words : List ℕ} → Gives {A = ℕ} (λ n. []) (λ n. n ∷ []) 7 (9 ∷ []) code words → (code ≡ 0xFFFFFFFF) × (words ≡ 7 ∷ [])
+answer-given g = (g .coded, g .worded)
+
+refusal-given : {code : ℕ} {words : List ℕ} → Gives {A = ℕ} (λ n. n ∷ []) (λ n. []) 4 (9 ∷ []) code words → (code ≡ 4) × (words ≡ 9 ∷ [])
+refusal-given g = (g .coded, g .worded)

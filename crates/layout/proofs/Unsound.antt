@@ -6,8 +6,8 @@ use mathlib.Core.Path.{_≡_, refl, _∙_}
 use Rattle.device.specs.Model.{isSound}
 use Rattle.device.specs.Call.{Call, transaction, verdict, table, firstOf}
 use Rattle.device.specs.Reply.{reply, replyBy, output, outputBy, bufferOf, memory, memoryBy, memoryOf}
 use Rattle.layout.specs.Layout.{loaded}
-use Rattle.outcome.specs.Code.{Settled, codeOf, wordsOf, modelAfter}
+use Rattle.layout.specs.Code.{Settled, codeOf, wordsOf, modelAfter}
 
 module _ (bytes : List ℕ) (unsound : isSound (loaded bytes) ≡ false) where
   -- the code, the model's bytes and the words of the answer

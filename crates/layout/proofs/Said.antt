@@ -10,7 +10,7 @@ use mir.Val.{boolByte}
 use Rattle.device.specs.declared.Answer.{Answer}
 use Rattle.device.specs.declared.Answer.the-variants.{Refused, Accepted, Ticked, Stretched, Good, Failed}
 use Rattle.device.specs.Reply.{flag, numberIn, valuesIn}
-use Rattle.outcome.specs.Code.{accepted, codeOf, wordsOf}
+use Rattle.layout.specs.Code.{accepted, codeOf, wordsOf}
 
 same-bit : (b : Bool) → boolByte b ≡ flag b
 same-bit true = refl

@@ -51,7 +51,7 @@ class Edits(unittest.TestCase):
             self.assertEqual(numbers, set(range(1, len(rows) + 1)))
 
     def test_every_part_of_the_second_demand_has_an_edit(self) -> None:
-        with open(os.path.join(ROOT, "crates", "device", "specs", "SecondDemand.antt"), encoding="utf-8") as file:
+        with open(os.path.join(ROOT, "crates", "demands", "specs", "SecondDemand.antt"), encoding="utf-8") as file:
             record = file.read().split("pub record SecondDemand")[1]
         shown = {part for _, _, head in self.edits for part in re.findall(r"second demand, (\w+)", head["shows"])}
         self.assertEqual(set(re.findall(r"^  pub (\w+) :", record, re.M)), shown)

@@ -299,15 +299,33 @@ temperature-leaves-hits m w = flight-reads m (acceptedModel m (temperature w)) k
     kept : acceptedModel m (temperature w) .flight ≡ m .flight
     kept = unfold acceptedModel failedTemperatureModel goodTemperatureModel in by-test (portFault m w) (λ e. rw e) (λ e. rw e)
 
+-- Models with the same calendar, configuration and results read the same from B0h to F7h.
+pub record SameResults (m n : Model) : Type 0 where
+  pub calendar : calendarWord n ≡ calendarWord m
+  pub setup : n .setup ≡ m .setup
+  pub flight : flightWord (n .flight) ≡ flightWord (m .flight)
+  pub temperature : temperatureWord (n .temperature) ≡ temperatureWord (m .temperature)
+
+same-reads : (m n : Model) → SameResults m n → wordsAt n 0xB0 72 ≡ wordsAt m 0xB0 72
+unfolding registerWord
+same-reads m n s = rw (s .calendar, s .setup, s .flight, s .temperature)
+
 module _ (m : Model) where
   -- "05h Initialize", "0Ah HALT", "LDO_ON (0Ch), LDO_OFF (0Dh)" (Note 8) keep the calendar, the configuration and every result:
   -- B0h to F7h read the same
+  same-results : (op : ℕ) → (op ≡ 0x05) ⊎ (op ≡ 0x0A) ⊎ (op ≡ 0x0C) ⊎ (op ≡ 0x0D) → SameResults m (runModel m op)
+  unfolding runModel initialisedModel haltedModel haltSchedule supplied unsupplied calendarWord flightWord temperatureWord
+  same-results op =
+      ⊎-elim (λ e. rw e (record { calendar = refl; setup = refl; flight = refl; temperature = refl }))
+      (⊎-elim (λ e. rw e (record { calendar = refl; setup = refl; flight = refl; temperature = refl }))
+      (⊎-elim (λ e. rw e (record { calendar = refl; setup = refl; flight = refl; temperature = refl }))
+      (λ e. rw e (record { calendar = refl; setup = refl; flight = refl; temperature = refl }))))
+
   pub others-keep :
       (op : ℕ) →
       (op ≡ 0x05) ⊎ (op ≡ 0x0A) ⊎ (op ≡ 0x0C) ⊎ (op ≡ 0x0D) →
       wordsAt (runModel m op) 0xB0 72 ≡ wordsAt m 0xB0 72
-  unfolding runModel initialisedModel haltedModel haltSchedule supplied unsupplied registerWord calendarWord flightWord temperatureWord
-  others-keep op = ⊎-elim (λ e. rw e) (⊎-elim (λ e. rw e) (⊎-elim (λ e. rw e) (λ e. rw e)))
+  others-keep op h = same-reads m (runModel m op) (same-results op h)
 
   -- and the set-up
   pub commands-keep-setup :

@@ -1,11 +1,15 @@
 //! Items as text: one call a line.
 
+mod fault;
+mod pattern;
 mod text;
 
 use crate::{opcode, registers};
 
 use text::{decimal, hexadecimal, signed_decimal};
 
+pub use fault::Fault;
+pub use pattern::Pattern;
 pub use text::{lines, Words, DECIMAL_DIGITS};
 
 /// Bytes of a line, its line feed and carriage return not counted.
@@ -17,16 +21,22 @@ pub const LONGEST_SET: usize = 99;
 /// Words of one delivered list.
 pub const LONGEST_LIST: usize = 16;
 
+/// The form of items and of their answers.
+#[derive(Clone, Copy, PartialEq, Eq)]
+pub enum Format {
+    Old,
+    /// With `read`, digits `x`, comments behind a line and the words that bad lines name.
+    New,
+}
+
 pub enum Line<'a> {
     /// No word, or a comment.
     Nothing,
     Item(Words<'a>),
     /// Its answer is laid out by each program's makers; this one gives none.
     Show,
-    Expect {
-        first: u8,
-        wanted: Vec<u16>,
-    },
+    Expect(Wanted),
+    Read(Wanted),
     Call {
         call: Call,
         /// The words after `=>`.
@@ -69,31 +79,13 @@ pub enum Call {
     Quietest(u32),
 }
 
-/// Why a line is no call.
-#[derive(Clone, Copy, Debug, PartialEq, Eq)]
-pub enum Fault {
-    TooLong,
-    UnknownWord,
-    BadNumber,
-    WrongCount,
-    Past,
-    NoRoom,
+/// What is expected of the registers from `first` on.
+pub struct Wanted {
+    pub first: u8,
+    pub words: Vec<Pattern>,
 }
 
-impl Fault {
-    pub fn text(self) -> &'static str {
-        match self {
-            Fault::TooLong => "too long",
-            Fault::UnknownWord => "unknown word",
-            Fault::BadNumber => "bad number",
-            Fault::WrongCount => "wrong count",
-            Fault::Past => "past",
-            Fault::NoRoom => "no room",
-        }
-    }
-}
-
-pub fn parse(line: &[u8]) -> Result<Line<'_>, Fault> {
+pub fn parse(line: &[u8], format: Format) -> Result<Line<'_>, Fault<'_>> {
     if line.len() > LONGEST_LINE {
         return Err(Fault::TooLong);
     }
@@ -102,10 +94,17 @@ pub fn parse(line: &[u8]) -> Result<Line<'_>, Fault> {
         return Ok(Line::Nothing);
     };
     match first {
-        [b'#', ..] => Ok(Line::Nothing),
-        b"item" => named(words),
+        [b'#', ..] => return Ok(Line::Nothing),
+        b"item" => return named(words),
+        _ => {}
+    }
+    if format == Format::New {
+        words = words.without_comment();
+    }
+    match first {
         b"show" => end(words).map(|()| Line::Show),
-        b"expect" => expect(words),
+        b"expect" => wanted(words, format).map(Line::Expect),
+        b"read" if format == Format::New => wanted(words, format).map(Line::Read),
         name => {
             let (words, expected) = words.split_at_arrow();
             let call = call(name, words)?;
@@ -114,7 +113,7 @@ pub fn parse(line: &[u8]) -> Result<Line<'_>, Fault> {
     }
 }
 
-fn call(name: &[u8], words: Words) -> Result<Call, Fault> {
+fn call<'a>(name: &'a [u8], words: Words<'a>) -> Result<Call, Fault<'a>> {
     match name {
         b"bus" => bus(words),
         b"set" => set(words),
@@ -132,11 +131,11 @@ fn call(name: &[u8], words: Words) -> Result<Call, Fault> {
         b"record" => record(words),
         b"listing" => listing(words),
         b"quietest" => Ok(Call::Quietest(number(words)?)),
-        _ => Err(Fault::UnknownWord),
+        _ => Err(Fault::UnknownWord(name)),
     }
 }
 
-fn named(words: Words) -> Result<Line, Fault> {
+fn named(words: Words<'_>) -> Result<Line<'_>, Fault<'_>> {
     if words.clone().next().is_none() {
         return Err(Fault::WrongCount);
     }
@@ -144,7 +143,7 @@ fn named(words: Words) -> Result<Line, Fault> {
 }
 
 /// No further word may follow.
-fn end(mut words: Words) -> Result<(), Fault> {
+fn end(mut words: Words<'_>) -> Result<(), Fault<'_>> {
     match words.next() {
         None => Ok(()),
         Some(_) => Err(Fault::WrongCount),
@@ -152,19 +151,19 @@ fn end(mut words: Words) -> Result<(), Fault> {
 }
 
 /// The decimal that a line has alone.
-fn number(mut words: Words) -> Result<u32, Fault> {
+fn number(mut words: Words<'_>) -> Result<u32, Fault<'_>> {
     let value = words.next().ok_or(Fault::WrongCount)?;
     let value = decimal(value, u32::MAX)?;
     end(words)?;
     Ok(value)
 }
 
-fn bus(words: Words) -> Result<Call, Fault> {
+fn bus(words: Words<'_>) -> Result<Call, Fault<'_>> {
     let mut words = words.peekable();
     let mut output_size = None;
-    if let Some(digits) = words.peek().and_then(|word| word.strip_prefix(b"out=")) {
-        output_size = Some(decimal(digits, LONGEST_FRAME as u32)? as usize);
-        words.next();
+    if let Some(word) = words.next_if(|word| word.starts_with(b"out=")) {
+        let size = decimal(&word[b"out=".len()..], LONGEST_FRAME as u32);
+        output_size = Some(size.map_err(|_| Fault::BadNumber(word))? as usize);
     }
     let mut frame = Vec::with_capacity(LONGEST_FRAME);
     for word in words {
@@ -176,11 +175,11 @@ fn bus(words: Words) -> Result<Call, Fault> {
     Ok(Call::Bus { output_size, frame })
 }
 
-fn set(mut words: Words) -> Result<Call, Fault> {
+fn set(mut words: Words<'_>) -> Result<Call, Fault<'_>> {
     let first = words.next().ok_or(Fault::WrongCount)?;
     let opcode = hexadecimal(first, 2, 2)? as u8;
     if !(opcode::FIRST_WRITE..=opcode::LAST_WRITE).contains(&opcode) {
-        return Err(Fault::BadNumber);
+        return Err(Fault::BadNumber(first));
     }
     let mut list = Vec::with_capacity(LONGEST_SET);
     for word in words {
@@ -195,7 +194,7 @@ fn set(mut words: Words) -> Result<Call, Fault> {
     })
 }
 
-fn flight(words: Words) -> Result<Call, Fault> {
+fn flight(words: Words<'_>) -> Result<Call, Fault<'_>> {
     let mut up = Vec::with_capacity(LONGEST_LIST);
     let mut down = Vec::with_capacity(LONGEST_LIST);
     let mut separators = 0;
@@ -213,7 +212,7 @@ fn flight(words: Words) -> Result<Call, Fault> {
     Ok(Call::Flight { up, down })
 }
 
-fn temperature(words: Words) -> Result<Call, Fault> {
+fn temperature(words: Words<'_>) -> Result<Call, Fault<'_>> {
     let mut list = Vec::with_capacity(LONGEST_LIST);
     for word in words {
         list.push(i64::from(hexadecimal(word, 1, 8)?));
@@ -224,7 +223,7 @@ fn temperature(words: Words) -> Result<Call, Fault> {
     Ok(Call::Temperature(list))
 }
 
-fn probe(words: Words) -> Result<Call, Fault> {
+fn probe(words: Words<'_>) -> Result<Call, Fault<'_>> {
     let entries: Vec<u32> = words
         .map(|word| decimal(word, u32::MAX))
         .collect::<Result<_, _>>()?;
@@ -234,7 +233,7 @@ fn probe(words: Words) -> Result<Call, Fault> {
     Ok(Call::Probe(entries))
 }
 
-fn degrees(mut words: Words) -> Result<Call, Fault> {
+fn degrees(mut words: Words<'_>) -> Result<Call, Fault<'_>> {
     let mut word = || {
         let word = words.next().ok_or(Fault::WrongCount)?;
         hexadecimal(word, 1, 8)
@@ -244,12 +243,12 @@ fn degrees(mut words: Words) -> Result<Call, Fault> {
     Ok(Call::Degrees { probe, reference })
 }
 
-fn record(words: Words) -> Result<Call, Fault> {
+fn record(words: Words<'_>) -> Result<Call, Fault<'_>> {
     let differences = words.map(signed_decimal).collect::<Result<_, _>>()?;
     Ok(Call::Record(differences))
 }
 
-fn listing(mut words: Words) -> Result<Call, Fault> {
+fn listing(mut words: Words<'_>) -> Result<Call, Fault<'_>> {
     let mut first = words.next();
     let old = first == Some(b"old");
     if old {
@@ -260,37 +259,49 @@ fn listing(mut words: Words) -> Result<Call, Fault> {
     Ok(Call::Listing { old, first })
 }
 
-/// Words past the last register are not looked into.
-fn expect(mut words: Words) -> Result<Line, Fault> {
-    let first = words.next().ok_or(Fault::WrongCount)?;
-    let first = hexadecimal(first, 2, 2)? as u8;
+/// An address and words; those past the last register are not looked into.
+fn wanted(mut words: Words<'_>, format: Format) -> Result<Wanted, Fault<'_>> {
+    let address = words.next().ok_or(Fault::WrongCount)?;
+    let first = hexadecimal(address, 2, 2)? as u8;
     if first < registers::FIRST {
-        return Err(Fault::BadNumber);
+        return Err(Fault::BadNumber(address));
     }
     let mut wanted = Vec::new();
     for word in words.by_ref().take(registers::words_from(first)) {
-        wanted.push(hexadecimal(word, 1, 4)? as u16);
+        wanted.push(match format {
+            Format::Old => Pattern::exact(hexadecimal(word, 1, 4)? as u16),
+            Format::New => Pattern::of(word)?,
+        });
     }
     if wanted.is_empty() {
         return Err(Fault::WrongCount);
     }
     end(words)?;
-    Ok(Line::Expect { first, wanted })
+    Ok(Wanted {
+        first,
+        words: wanted,
+    })
 }
 
 #[cfg(test)]
 mod tests {
     use super::*;
 
-    fn fault(line: &str) -> Option<Fault> {
-        parse(line.as_bytes()).err()
+    fn fault_in(line: &str, format: Format) -> Option<&'static str> {
+        parse(line.as_bytes(), format).err().map(Fault::text)
+    }
+
+    fn fault(line: &str) -> Option<&'static str> {
+        let old = fault_in(line, Format::Old);
+        assert_eq!(fault_in(line, Format::New), old, "{line}");
+        old
     }
 
     #[test]
     fn the_longest_line() {
         let comment = format!("#{}", "x".repeat(LONGEST_LINE - 1));
         assert_eq!(fault(&comment), None);
-        assert_eq!(fault(&format!("{comment}x")), Some(Fault::TooLong));
+        assert_eq!(fault(&format!("{comment}x")), Some("too long"));
         let most = format!("record{}", " 1".repeat((LONGEST_LINE - 6) / 2));
         assert_eq!((fault(&most), most.len()), (None, LONGEST_LINE));
     }
@@ -329,7 +340,7 @@ mod tests {
             "flight 1 / 2 / x",
             "temperature 000000001",
             "expect AF 0",
-            "expect FF x 0",
+            "expect FF g 0",
             "expect E0 0 => ok",
             "set 2F 0",
             "set 44 0",
@@ -344,7 +355,7 @@ mod tests {
             "quietest 1.0",
         ];
         for line in lines {
-            assert_eq!(fault(line), Some(Fault::BadNumber), "{line}");
+            assert_eq!(fault(line), Some("bad number"), "{line}");
         }
     }
 
@@ -377,14 +388,14 @@ mod tests {
             &crowded_set,
         ];
         for line in lines {
-            assert_eq!(fault(line), Some(Fault::WrongCount), "{line}");
+            assert_eq!(fault(line), Some("wrong count"), "{line}");
         }
     }
 
     #[test]
     fn unknown_words() {
         for line in ["ticks 5", "=> 5", "frame", "Tick 5", "expected"] {
-            assert_eq!(fault(line), Some(Fault::UnknownWord), "{line}");
+            assert_eq!(fault(line), Some("unknown word"), "{line}");
         }
     }
 }

@@ -11,7 +11,7 @@ use answers::Answers;
 pub use beside::{LARGEST_PROBE_TABLE, LONGEST_RECORD};
 
 use crate::flash;
-use crate::item::{self, Call, Fault, Line, Words, LONGEST_FRAME, LONGEST_SET};
+use crate::item::{self, Call, Fault, Format, Line, Words, LONGEST_FRAME, LONGEST_SET};
 use crate::model::{Model, Outcome, TickReport};
 use crate::opcode;
 use crate::refusal::Refusal;
@@ -60,6 +60,7 @@ struct Counts {
 }
 
 struct Replay {
+    format: Format,
     item: Item,
     pt1000: Vec<u32>,
     counts: Counts,
@@ -67,8 +68,9 @@ struct Replay {
 }
 
 /// Replays the whole text.
-pub fn replay<W: Write>(text: &[u8], mut sink: W) -> io::Result<()> {
+pub fn replay<W: Write>(text: &[u8], format: Format, mut sink: W) -> io::Result<()> {
     let mut replay = Replay {
+        format,
         item: Item::fresh(),
         pt1000: thermometer::pt1000(),
         counts: Counts::default(),
@@ -88,11 +90,12 @@ pub fn replay<W: Write>(text: &[u8], mut sink: W) -> io::Result<()> {
 }
 
 impl Replay {
-    fn line(&mut self, line: &[u8]) -> Result<(), Fault> {
-        match item::parse(line)? {
+    fn line<'a>(&mut self, line: &'a [u8]) -> Result<(), Fault<'a>> {
+        match item::parse(line, self.format)? {
             Line::Nothing | Line::Show => {}
             Line::Item(words) => self.begin_item(words),
-            Line::Expect { first, wanted } => self.expect(first, &wanted),
+            Line::Expect(wanted) => self.expect(&wanted),
+            Line::Read(wanted) => self.read(&wanted),
             Line::Call { call, expected } => {
                 let start = self.answers.len();
                 let refused = self.counts.refused;
@@ -117,7 +120,7 @@ impl Replay {
     }
 
     /// Answers a call, in one line or more; a fault leaves everything as it was.
-    fn call(&mut self, call: &Call) -> Result<(), Fault> {
+    fn call(&mut self, call: &Call) -> Result<(), Fault<'static>> {
         match call {
             Call::Bus { output_size, frame } => self.bus(*output_size, frame),
             Call::Set { opcode, words } => self.set(*opcode, words),
@@ -148,7 +151,12 @@ impl Replay {
     fn bad_line(&mut self, number: usize, fault: Fault) {
         self.counts.bad_lines += 1;
         let text = fault.text();
-        self.answers.print(format_args!("line {number}: {text}\n"));
+        let named = match self.format {
+            Format::Old => String::new(),
+            Format::New => fault.named(),
+        };
+        self.answers
+            .print(format_args!("line {number}: {text}{named}\n"));
     }
 
     fn bus(&mut self, output_size: Option<usize>, frame: &[u8]) {
@@ -201,7 +209,7 @@ impl Replay {
         self.ticks(u64::from(count), 0);
     }
 
-    fn at(&mut self, moment: u32) -> Result<(), Fault> {
+    fn at(&mut self, moment: u32) -> Result<(), Fault<'static>> {
         let now = self.item.moment;
         let count = u64::from(moment).checked_sub(now).ok_or(Fault::Past)?;
         self.counts.calls += 1;
@@ -323,7 +331,7 @@ mod tests {
 
     fn answers(text: &str) -> String {
         let mut answers = Vec::new();
-        replay(text.as_bytes(), &mut answers).unwrap();
+        replay(text.as_bytes(), Format::Old, &mut answers).unwrap();
         String::from_utf8(answers).unwrap()
     }
 

@@ -3,6 +3,8 @@
 use std::fs;
 use std::path::{Path, PathBuf};
 
+use peer::Format;
+
 fn examples() -> Vec<PathBuf> {
     let root = Path::new(env!("CARGO_MANIFEST_DIR")).join("..");
     let folders =
@@ -24,7 +26,7 @@ fn examples_answer_as_stored() {
     assert!(paths.len() >= 9, "{paths:?}");
     for path in paths {
         let mut answers = Vec::new();
-        peer::replay(&fs::read(&path).unwrap(), &mut answers).unwrap();
+        peer::replay(&fs::read(&path).unwrap(), Format::Old, &mut answers).unwrap();
         let stored = fs::read_to_string(path.with_extension("expected")).unwrap();
         assert_eq!(String::from_utf8(answers).unwrap(), stored, "{path:?}");
     }

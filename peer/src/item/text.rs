@@ -6,6 +6,8 @@ use super::Fault;
 pub const DECIMAL_DIGITS: usize = 10;
 /// The word before an expected answer.
 const ARROW: &[u8] = b"=>";
+/// The word before a comment.
+const COMMENT: &[u8] = b"#";
 
 /// The words of a line, parted by blanks and tabs.
 #[derive(Clone)]
@@ -20,13 +22,23 @@ impl<'a> Words<'a> {
 
     /// The words before the first arrow, and those after it where there is one.
     pub fn split_at_arrow(self) -> (Words<'a>, Option<Words<'a>>) {
-        if !self.rest.contains(&ARROW[0]) {
+        self.split_at(ARROW)
+    }
+
+    /// The words before a comment.
+    pub fn without_comment(self) -> Words<'a> {
+        self.split_at(COMMENT).0
+    }
+
+    /// The words before the first that is `parting`, and those after it where there is one.
+    fn split_at(self, parting: &[u8]) -> (Words<'a>, Option<Words<'a>>) {
+        if !self.rest.contains(&parting[0]) {
             return (self, None);
         }
         let mut words = self.clone();
         while let Some(word) = words.next() {
-            if word == ARROW {
-                let before = self.rest.len() - words.rest.len() - ARROW.len();
+            if word == parting {
+                let before = self.rest.len() - words.rest.len() - parting.len();
                 return (Words::of(&self.rest[..before]), Some(words));
             }
         }
@@ -56,39 +68,44 @@ pub fn lines(text: &[u8]) -> impl Iterator<Item = &[u8]> {
     })
 }
 
-pub fn decimal(word: &[u8], largest: u32) -> Result<u32, Fault> {
-    let value = digits(word)?;
-    match u32::try_from(value) {
-        Ok(value) if value <= largest => Ok(value),
-        _ => Err(Fault::BadNumber),
+pub fn decimal(word: &[u8], largest: u32) -> Result<u32, Fault<'_>> {
+    let value = digits(word).and_then(|value| u32::try_from(value).ok());
+    match value {
+        Some(value) if value <= largest => Ok(value),
+        _ => Err(Fault::BadNumber(word)),
     }
 }
 
 /// A decimal with or without a `-` before it.
-pub fn signed_decimal(word: &[u8]) -> Result<i32, Fault> {
+pub fn signed_decimal(word: &[u8]) -> Result<i32, Fault<'_>> {
     let value = match word.strip_prefix(b"-") {
-        Some(word) => -digits(word)?,
-        None => digits(word)?,
+        Some(word) => digits(word).map(|value| -value),
+        None => digits(word),
     };
-    i32::try_from(value).map_err(|_| Fault::BadNumber)
+    let value = value.and_then(|value| i32::try_from(value).ok());
+    value.ok_or(Fault::BadNumber(word))
 }
 
-fn digits(word: &[u8]) -> Result<i64, Fault> {
+fn digits(word: &[u8]) -> Option<i64> {
     if !(1..=DECIMAL_DIGITS).contains(&word.len()) || !word.iter().all(u8::is_ascii_digit) {
-        return Err(Fault::BadNumber);
+        return None;
     }
     let add = |value, digit: &u8| value * 10 + i64::from(digit - b'0');
-    Ok(word.iter().fold(0, add))
+    Some(word.iter().fold(0, add))
 }
 
-pub fn hexadecimal(word: &[u8], fewest_digits: usize, most_digits: usize) -> Result<u32, Fault> {
+pub fn hexadecimal(
+    word: &[u8],
+    fewest_digits: usize,
+    most_digits: usize,
+) -> Result<u32, Fault<'_>> {
+    let bad = Fault::BadNumber(word);
     if !(fewest_digits..=most_digits).contains(&word.len()) {
-        return Err(Fault::BadNumber);
+        return Err(bad);
     }
     let mut value = 0;
     for &digit in word {
-        let digit = char::from(digit).to_digit(16).ok_or(Fault::BadNumber)?;
-        value = value << 4 | digit;
+        value = value << 4 | char::from(digit).to_digit(16).ok_or(bad)?;
     }
     Ok(value)
 }
@@ -123,13 +140,22 @@ mod tests {
     }
 
     #[test]
+    fn the_first_word_of_a_comment_parts_it() {
+        let left = |line: &'static str| Words::of(line.as_bytes()).without_comment().count();
+        assert_eq!(left("a b # c"), 2);
+        assert_eq!(left("a\t#\t# c"), 1);
+        assert_eq!(left("a #b ## c#"), 4);
+        assert_eq!(left("# a"), 0);
+    }
+
+    #[test]
     fn decimals() {
         assert_eq!(decimal(b"0000000200", 200), Ok(200));
         assert_eq!(decimal(b"4294967295", u32::MAX), Ok(u32::MAX));
         for word in [&b""[..], b"201", b"00000000001", b"-1", b"+1", b"1 ", b"x"] {
-            assert_eq!(decimal(word, 200), Err(Fault::BadNumber));
+            assert_eq!(decimal(word, 200), Err(Fault::BadNumber(word)));
         }
-        assert_eq!(decimal(b"4294967296", u32::MAX), Err(Fault::BadNumber));
+        assert!(decimal(b"4294967296", u32::MAX).is_err());
     }
 
     #[test]
@@ -148,7 +174,8 @@ mod tests {
             "-00000000007",
         ];
         for word in bad {
-            assert_eq!(signed_decimal(word.as_bytes()), Err(Fault::BadNumber));
+            let word = word.as_bytes();
+            assert_eq!(signed_decimal(word), Err(Fault::BadNumber(word)));
         }
     }
 }

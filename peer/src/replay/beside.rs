@@ -28,7 +28,7 @@ impl Replay {
         }
     }
 
-    pub fn probe(&mut self, entries: &[u32]) -> Result<(), Fault> {
+    pub fn probe(&mut self, entries: &[u32]) -> Result<(), Fault<'static>> {
         let table = &mut self.item.probe_table;
         add_within(table, entries, LARGEST_PROBE_TABLE)?;
         self.answers.print(format_args!("probe {}\n", table.len()));
@@ -52,7 +52,7 @@ impl Replay {
         self.answers.put(b"\n");
     }
 
-    pub fn record(&mut self, differences: &[i32]) -> Result<(), Fault> {
+    pub fn record(&mut self, differences: &[i32]) -> Result<(), Fault<'static>> {
         let measured = [self.item.model.registers.difference()];
         let added = if differences.is_empty() {
             &measured
@@ -101,7 +101,7 @@ impl Replay {
 }
 
 /// Adds all of them, or none where they would be more than `most`.
-fn add_within<T: Copy>(list: &mut Vec<T>, added: &[T], most: usize) -> Result<(), Fault> {
+fn add_within<T: Copy>(list: &mut Vec<T>, added: &[T], most: usize) -> Result<(), Fault<'static>> {
     if list.len() + added.len() > most {
         return Err(Fault::NoRoom);
     }
@@ -112,12 +112,13 @@ fn add_within<T: Copy>(list: &mut Vec<T>, added: &[T], most: usize) -> Result<()
 #[cfg(test)]
 mod tests {
     use super::*;
+    use crate::item::Format;
     use crate::replay;
 
     /// The answers to the last lines, without the line that ends all.
     fn last_answers(text: &str, count: usize) -> Vec<String> {
         let mut answers = Vec::new();
-        replay(text.as_bytes(), &mut answers).unwrap();
+        replay(text.as_bytes(), Format::Old, &mut answers).unwrap();
         let answers = String::from_utf8(answers).unwrap();
         let mut lines: Vec<String> = answers.lines().map(String::from).collect();
         lines.pop();

@@ -110,7 +110,7 @@ mod tests {
 
     fn answers(seed: i64) -> String {
         let mut answers = Vec::new();
-        peer::replay(&items(seed), &mut answers).unwrap();
+        peer::replay(&items(seed), peer::Format::Old, &mut answers).unwrap();
         String::from_utf8_lossy(&answers).into_owned()
     }
 

@@ -20,6 +20,13 @@ PEER_BUILD = ["cargo", "build", "--release", "--offline", "--quiet"]
 PEER_OUTPUT = os.path.join(HERE, "target", "release")
 PEER_EXECUTABLE = os.path.join(PEER_OUTPUT, "peer")
 MAKE_ITEMS = os.path.join(PEER_OUTPUT, "make_items")
+# Answers of the new format, and items that only it can tell.
+NEW_ITEMS = os.path.join(HERE, "tests", "items")
+
+
+def flags(new):
+    """What the peer's programs take for the new format."""
+    return ["--new"] if new else []
 
 
 def run_build(command, folder, result):
@@ -50,29 +57,36 @@ def build():
     return replay_executable(), PEER_EXECUTABLE
 
 
+SHOWS = [b"show"], [b"show", b"#"]
+
+
 def without_pages(text):
     """The text with a comment in place of each line `show`, which the peer does not answer."""
     lines = text.split(b"\n")
-    return b"\n".join(b"# show" if line.split() == [b"show"] else line for line in lines)
+    return b"\n".join(b"# show" if line.split()[:2] in SHOWS else line for line in lines)
 
 
-def make_items(seed, size):
+def make_items(seed, size, new=False):
     """A text of random items and its numbers of items, calls and ticks."""
-    command = [MAKE_ITEMS, str(seed), str(size)]
+    command = [MAKE_ITEMS] + flags(new) + [str(seed), str(size)]
     made = subprocess.run(command, capture_output=True, check=True)
     return made.stdout, [int(number) for number in made.stderr.split()]
 
 
-def stored_items():
+def stored_items(new=False):
     """The paths of the repository's items: the examples, captures, and those of the stored run."""
     found = []
     for folder, folders, files in os.walk(ROOT):
         folders[:] = [name for name in folders if name != "target" and not name.startswith(".")]
         found += [os.path.join(folder, name) for name in files if name.endswith(".item")]
+    found = [path for path in found if new or os.path.dirname(path) != NEW_ITEMS]
     return sorted(path for path in found if os.path.exists(path))
 
 
-def stored_answers(path):
+def stored_answers(path, new=False):
     """Where the stored answers to an item are."""
     folder, name = os.path.split(path)
+    of_new = os.path.join(NEW_ITEMS, name[: -len(".item")] + ".expected")
+    if new and os.path.exists(of_new):
+        return of_new
     return os.path.join(folder, "stdout") if name == "stdin" else path[: -len(".item")] + ".expected"

@@ -21,4 +21,4 @@ mod transaction;
 mod chip;
 
 pub use item::Format;
-pub use replay::{replay, LARGEST_PROBE_TABLE, LONGEST_RECORD, LONGEST_STRETCH};
+pub use replay::{replay, Replay, LARGEST_PROBE_TABLE, LONGEST_RECORD, LONGEST_STRETCH};

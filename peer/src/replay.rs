@@ -59,7 +59,8 @@ struct Counts {
     differing: u64,
 }
 
-struct Replay {
+/// A replay of a text, line by line.
+pub struct Replay {
     format: Format,
     item: Item,
     pt1000: Vec<u32>,
@@ -69,17 +70,9 @@ struct Replay {
 
 /// Replays the whole text.
 pub fn replay<W: Write>(text: &[u8], format: Format, mut sink: W) -> io::Result<()> {
-    let mut replay = Replay {
-        format,
-        item: Item::fresh(),
-        pt1000: thermometer::pt1000(),
-        counts: Counts::default(),
-        answers: Answers::with_capacity(2 * BLOCK),
-    };
+    let mut replay = Replay::new(format);
     for (index, line) in item::lines(text).enumerate() {
-        if let Err(fault) = replay.line(line) {
-            replay.bad_line(index + 1, fault);
-        }
+        replay.numbered_line(index + 1, line);
         if replay.answers.len() >= BLOCK {
             replay.answers.hand_on(&mut sink)?;
         }
@@ -90,6 +83,33 @@ pub fn replay<W: Write>(text: &[u8], format: Format, mut sink: W) -> io::Result<
 }
 
 impl Replay {
+    pub fn new(format: Format) -> Replay {
+        Replay {
+            format,
+            item: Item::fresh(),
+            pt1000: thermometer::pt1000(),
+            counts: Counts::default(),
+            answers: Answers::with_capacity(2 * BLOCK),
+        }
+    }
+
+    /// The answer to a line of this number, with its line feeds.
+    pub fn answer(&mut self, number: usize, line: &[u8]) -> Vec<u8> {
+        self.numbered_line(number, line);
+        self.answers.take_from(0)
+    }
+
+    /// What a read of this address would return.
+    pub fn register(&self, address: u8) -> u16 {
+        self.item.model.register(address)
+    }
+
+    fn numbered_line(&mut self, number: usize, line: &[u8]) {
+        if let Err(fault) = self.line(line) {
+            self.bad_line(number, fault);
+        }
+    }
+
     fn line<'a>(&mut self, line: &'a [u8]) -> Result<(), Fault<'a>> {
         match item::parse(line, self.format)? {
             Line::Nothing | Line::Show => {}

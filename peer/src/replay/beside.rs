@@ -13,7 +13,7 @@ pub const LONGEST_RECORD: usize = 4_096;
 pub const LARGEST_PROBE_TABLE: usize = 1_024;
 
 impl Replay {
-    pub fn frames(&mut self) {
+    pub(super) fn frames(&mut self) {
         self.counts.calls += 1;
         let frames = set_up_frames::frames(&self.item.model.registers);
         self.answers
@@ -28,14 +28,14 @@ impl Replay {
         }
     }
 
-    pub fn probe(&mut self, entries: &[u32]) -> Result<(), Fault<'static>> {
+    pub(super) fn probe(&mut self, entries: &[u32]) -> Result<(), Fault<'static>> {
         let table = &mut self.item.probe_table;
         add_within(table, entries, LARGEST_PROBE_TABLE)?;
         self.answers.print(format_args!("probe {}\n", table.len()));
         Ok(())
     }
 
-    pub fn degrees(&mut self, probe: u32, reference: u32) {
+    pub(super) fn degrees(&mut self, probe: u32, reference: u32) {
         self.counts.calls += 1;
         let table = match self.item.probe_table.as_slice() {
             [] => &self.pt1000,
@@ -52,7 +52,7 @@ impl Replay {
         self.answers.put(b"\n");
     }
 
-    pub fn record(&mut self, differences: &[i32]) -> Result<(), Fault<'static>> {
+    pub(super) fn record(&mut self, differences: &[i32]) -> Result<(), Fault<'static>> {
         let measured = [self.item.model.registers.difference()];
         let added = if differences.is_empty() {
             &measured
@@ -68,7 +68,7 @@ impl Replay {
         Ok(())
     }
 
-    pub fn listing(&mut self, old: bool, first: u32) {
+    pub(super) fn listing(&mut self, old: bool, first: u32) {
         self.counts.calls += 1;
         let digits = if old {
             record::OLD_DIGITS
@@ -87,7 +87,7 @@ impl Replay {
         }
     }
 
-    pub fn quietest(&mut self, width: u32) {
+    pub(super) fn quietest(&mut self, width: u32) {
         self.counts.calls += 1;
         match record::quietest(&self.item.record, width as usize) {
             Ok((start, spread)) => {

@@ -7,7 +7,7 @@ use crate::registers;
 
 impl Replay {
     /// Looks at the registers and clears nothing.
-    pub fn expect(&mut self, wanted: &Wanted) {
+    pub(super) fn expect(&mut self, wanted: &Wanted) {
         let addresses = wanted.first..=registers::LAST;
         let has: Vec<u16> = addresses
             .take(wanted.words.len())
@@ -17,7 +17,7 @@ impl Replay {
     }
 
     /// A read transaction, which clears what such a read clears.
-    pub fn read(&mut self, wanted: &Wanted) {
+    pub(super) fn read(&mut self, wanted: &Wanted) {
         self.counts.calls += 1;
         let size = 2 * wanted.words.len();
         let mut frame = vec![0; 1 + size];
@@ -62,7 +62,7 @@ impl Replay {
 
     /// Whether the answer that begins at `start` has the expected words after its first; where it
     /// has not, its first line says so.
-    pub fn judge(&mut self, start: usize, expected: Words) -> bool {
+    pub(super) fn judge(&mut self, start: usize, expected: Words) -> bool {
         let format = self.format;
         if format == Format::Old || expected.clone().next().is_some() {
             self.counts.expectations += 1;

@@ -8,14 +8,19 @@ use crate::maker::Maker;
 
 impl Maker {
     pub fn line(&mut self, words: &[u8]) {
-        self.text.extend_from_slice(words);
+        let mut line = words.to_vec();
         let ending: &[u8] = match self.random.below(500) {
             0..=4 => b"\r\n",
             5..=9 => b" \t\n",
-            10 => b"\r\r\n",
+            10 => {
+                line.push(b'\r');
+                b"\r\n"
+            }
             11 => b"\n\n# a comment\n \t\n",
             _ => b"\n",
         };
+        self.add_to(&mut line);
+        self.text.extend(line);
         self.text.extend_from_slice(ending);
     }
 
@@ -129,6 +134,10 @@ impl Maker {
     }
 
     pub fn read(&mut self, first: u8, count: usize) {
+        if self.replay.is_some() && self.random.percent(60) {
+            self.calls += 1;
+            return self.patterns("read", first, count);
+        }
         let mut frame = vec![first];
         for _ in 0..2 * count {
             frame.push(self.random.byte());
@@ -232,6 +241,9 @@ impl Maker {
 
     fn expect(&mut self) {
         let (first, count) = self.some_registers();
+        if self.replay.is_some() {
+            return self.patterns("expect", first, count as usize);
+        }
         let mut words = format!("expect {}", self.hexadecimal(first.into(), 2));
         for _ in 0..count.min(12) {
             let random = self.random.word();

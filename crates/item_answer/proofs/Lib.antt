@@ -2,4 +2,8 @@ pub mod Examples
 pub mod BadLine
 pub mod Agreement
 pub mod ReadLine
+pub mod EachLine
 pub mod Kept
+pub mod Widths
+pub mod Room
+pub mod Adds

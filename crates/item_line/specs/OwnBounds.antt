@@ -2,7 +2,7 @@
 use Prim.Native.Nat.{ℕ, _+_, _≤_, _<_}
 use mathlib.Core.List.{List, [], _∷_}
 use mathlib.Core.Path.{_≡_}
-use lib.IntN.{ℤ}
+use lib.IntN.{ℤ, natAbs}
 use lib.ListN.{length}
 use Rattle.listing.specs.declared.Width.{Width}
 use Rattle.text.specs.Text.{Text, spaced}
@@ -17,6 +17,11 @@ pub data Below (n : ℕ) : List ℕ → Type 0 where
 pub data Fours : List Wanted → Type 0 where
   none : Fours []
   more : {w : Wanted} {ws : List Wanted} → length w ≡ 4 → Fours ws → Fours (w ∷ ws)
+
+-- Each difference of a list has 32 bits.
+pub data Quanta : List ℤ → Type 0 where
+  none : Quanta []
+  more : {d : ℤ} {ds : List ℤ} → natAbs d ≤ 2147483648 → Quanta ds → Quanta (d ∷ ds)
 
 pub data OutputBound : Output → Type 0 where
   byFrame : OutputBound Output.byFrame
@@ -37,7 +42,7 @@ pub data CallBound : Call → Type 0 where
 
 pub data KeepBound : Keep → Type 0 where
   probe : {ns : List ℕ} → 1 ≤ length ns → length ns ≤ 500 → Below 4294967296 ns → KeepBound (Keep.probe ns)
-  differences : {ds : List ℤ} → length ds ≤ 500 → KeepBound (Keep.differences ds)
+  differences : {ds : List ℤ} → length ds ≤ 500 → Quanta ds → KeepBound (Keep.differences ds)
 
 -- What is expected is at most as long, put together, as a line.
 pub data ExpectedBound : Expected → Type 0 where

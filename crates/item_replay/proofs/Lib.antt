@@ -1,2 +1,5 @@
 pub mod Examples
 pub mod BadLine
+pub mod Pieces
+pub mod Capped
+pub mod Turns

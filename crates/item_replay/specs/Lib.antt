@@ -1,1 +1,4 @@
 pub mod Replay
+pub mod Going
+pub mod OwnFeed
+pub mod OwnTurn

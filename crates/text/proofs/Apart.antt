@@ -45,8 +45,8 @@ unfolding words spaced wordsAfter begunBefore
 words-spaced [] none = refl
 words-spaced (w ∷ ws) (first h hs) = words-behind w ws h hs
 
--- the bytes of a line go to the one that has begun
-line-begun : (b cs rest : Text) → Each InLine cs → linesAfter b (cs ++ rest) ≡ linesAfter (b ++ cs) rest
+-- The bytes of a line go to the one that has begun.
+pub line-begun : (b cs rest : Text) → Each InLine cs → linesAfter b (cs ++ rest) ≡ linesAfter (b ++ cs) rest
 unfolding linesAfter
 line-begun b [] rest none = rw (append-nil b)
 line-begun b (c ∷ cs) rest (first h hs) =

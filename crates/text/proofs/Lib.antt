@@ -1,3 +1,4 @@
 pub mod Examples
 pub mod Apart
 pub mod Putting
+pub mod Lengths

@@ -1,0 +1,4 @@
+pub mod HeldLaws
+pub mod RestLaws
+pub mod StateLaws
+pub mod TurnLaws

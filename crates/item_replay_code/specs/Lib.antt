@@ -1,0 +1,4 @@
+pub mod OwnHeld
+pub mod OwnRest
+pub mod OwnState
+pub mod OwnTurn

@@ -1,0 +1,4 @@
+pub mod Ticks
+pub mod Turns
+pub mod ReportWords
+pub mod Holding

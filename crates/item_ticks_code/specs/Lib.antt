@@ -1,0 +1,3 @@
+pub mod OwnMoved
+pub mod OwnRan
+pub mod OwnHeld

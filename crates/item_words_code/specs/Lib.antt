@@ -1,0 +1,2 @@
+pub mod OwnReports
+pub mod OwnTexts

@@ -1,0 +1,6 @@
+pub mod OwnAdded
+pub mod OwnAnswered
+pub mod OwnListed
+pub mod OwnJudged
+pub mod OwnFresh
+pub mod OwnFrames

@@ -1,0 +1,3 @@
+pub mod OwnFrame
+pub mod OwnAnswered
+pub mod OwnCompared

@@ -1,0 +1,5 @@
+pub mod OwnNumbers
+pub mod OwnDigits
+pub mod OwnLists
+pub mod OwnParts
+pub mod OwnReads

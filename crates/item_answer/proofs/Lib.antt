@@ -7,3 +7,4 @@ pub mod Kept
 pub mod Widths
 pub mod Room
 pub mod Adds
+pub mod Moment

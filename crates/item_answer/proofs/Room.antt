@@ -397,7 +397,7 @@ call-fits (Call.quietest w) i b k e = quietest-fits w (quietestPlace (i .recorde
 
 -- ---- what is expected
 
-expected-most : (x : Expected) → ExpectedBound x → length (expectedText x) ≤ 1010
+pub expected-most : (x : Expected) → ExpectedBound x → length (expectedText x) ≤ 1010
 unfolding expectedText ascii
 expected-most Expected.unmarked b = omega arith
 expected-most (Expected.marked xs) (ExpectedBound.marked h) = omega (arith, h)

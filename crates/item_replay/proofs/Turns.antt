@@ -29,7 +29,7 @@ unfolding beforeFeed
 before-line [] = none
 before-line (c ∷ cs) = by-test (eqb c 10) (λ e. rw e none) (λ e. rw e (first e (before-line cs)))
 
-no-feed : (t : Text) → hasFeed t ≡ false → beforeFeed t ≡ t
+pub no-feed : (t : Text) → hasFeed t ≡ false → beforeFeed t ≡ t
 unfolding hasFeed beforeFeed
 no-feed [] = λ e. refl
 no-feed (c ∷ cs) =

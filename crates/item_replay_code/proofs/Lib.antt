@@ -2,3 +2,5 @@ pub mod HeldLaws
 pub mod RestLaws
 pub mod StateLaws
 pub mod TurnLaws
+pub mod GoneLaws
+pub mod PieceLaws

@@ -2,3 +2,4 @@ pub mod OwnHeld
 pub mod OwnRest
 pub mod OwnState
 pub mod OwnTurn
+pub mod OwnGone

@@ -58,5 +58,6 @@ pub record Small (s : State) (n : ℕ) : Type 0 where
   pub number : s .number ≤ bound n
   pub moment : s .carried .moment ≤ bound n
   pub counts : Few (s .counts) (bound n)
+  pub left : s .left .0 < 4294967296
   pub next : s .next + s .left .0 ≤ bound n + 4294967296
   pub begun : s .begun ≤ 1002

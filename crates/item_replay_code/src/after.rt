@@ -2,7 +2,7 @@
 ghost use mathlib.Core.Path.{_≡_};
 ghost use Prim.Native.Nat.{_<_};
 ghost use Rattle.item_replay_code.specs.OwnState.{Few};
-ghost use Rattle.item_replay_code.specs.OwnTurn.{LineDone, LineLeft};
+ghost use Rattle.item_replay_code.specs.OwnTurn.{Begins, LineDone, LineHeld, LineLeft};
 use crate::State;
 use crate::Turn;
 use crate::count::add;
@@ -35,6 +35,51 @@ pub fn line_done(s: State, taken: usize, c: Carried, adds: Counts, end: usize) -
         done: true,
         adds,
         more: true,
+    }
+}
+
+// The same with so many bytes of the line kept.
+pub fn with_begun(s: State, begun: usize) -> State
+    ensures { λ r. ⌜ Begins s begun r ⌝ }
+{
+    let c = s.carried;
+    let counts = s.counts;
+    let left = s.left;
+    State {
+        number: s.number,
+        carried: c,
+        counts,
+        begun,
+        left,
+        next: s.next,
+        differs: s.differs,
+    }
+}
+
+// More of a line has begun, and the piece is over.
+pub fn line_held(s: State, taken: usize, begun: usize, at: usize) -> Turn
+    ensures { λ r. ⌜ LineHeld s taken begun at r ⌝ }
+{
+    let c = s.carried;
+    let counts = s.counts;
+    let adds = nothing();
+    let left = Ticks(0);
+    let state = State {
+        number: s.number,
+        carried: c,
+        counts,
+        begun,
+        left,
+        next: 0,
+        differs: false,
+    };
+    Turn {
+        state,
+        taken,
+        used: at,
+        done: false,
+        adds,
+        more: false,
     }
 }
 

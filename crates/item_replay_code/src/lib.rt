@@ -1,7 +1,9 @@
 // The code of `item_replay`: a piece of a text is answered line by line, with what a replay keeps between pieces in lent lists.
 mod after;
 mod count;
+mod going;
 mod hold;
+mod lines;
 mod rest;
 mod ticks;
 mod under;
@@ -22,6 +24,14 @@ pub struct State {
     pub left: Ticks,
     pub next: u64,
     pub differs: bool,
+}
+
+// What a piece leaves: the state, how many bytes of it are taken, how many of answers are put, and how many lines are done.
+pub struct Gone {
+    pub state: State,
+    pub taken: usize,
+    pub used: usize,
+    pub count: usize,
 }
 
 // What a turn leaves: the state, the place after the bytes that are taken, the place after what is put, whether a line is done, what it adds, and

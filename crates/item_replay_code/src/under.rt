@@ -64,7 +64,7 @@ fn expects(line: &[u8], x: ExpectedRead) -> bool
     }
 }
 
-fn one(b: bool) -> u64
+pub fn one(b: bool) -> u64
     ensures { λ r. ⌜ (r ≡ flag b) × (r < 2) ⌝ }
 {
     if b { 1 } else { 0 }

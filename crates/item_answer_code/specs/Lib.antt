@@ -1,0 +1,2 @@
+pub mod OwnSteps
+pub mod OwnFirst

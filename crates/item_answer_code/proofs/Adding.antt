@@ -1,8 +1,8 @@
 -- Lines that add to what an item keeps, as steps. Assumes nothing.
-use Prim.Native.Nat.{ℕ, zero, suc, _+_, _≤_, min}
+use Prim.Native.Nat.{ℕ, zero, suc, _≤_, min}
 use mathlib.Core.Bool.{Bool, true, false}
 use mathlib.Core.List.{List, [], _∷_, _++_}
-use mathlib.Core.Path.{_≡_, refl, sym, ap, _∙_}
+use mathlib.Core.Path.{_≡_, refl, ap}
 use native.Mathlib.Nat.{zero-min, min-zero, suc-min-suc}
 use native.Mathlib.Omega.{arith}
 use borrow.Author.Tests.{ltb-false}
@@ -18,13 +18,11 @@ use Rattle.item_answer.specs.declared.Stepped.{Stepped}
 use Rattle.item_answer.specs.Answer.{Item, Told, Result, told, fault, answer, probeResult, recordResult}
 use Rattle.item_answer.specs.Step.{badStep, resultStep}
 use Rattle.item_answer.specs.OwnView.{itemOf}
-use Rattle.item_chip_code.specs.declared.Answered.{Answered}
 use Rattle.item_keep_code.specs.declared.Added.{Added}
 use Rattle.item_keep_code.specs.OwnAdded.{Adds, ProbeAdds, RecordAdds, lineIn, withProbes, withRecorded}
 use Rattle.item_answer_code.specs.OwnSteps.{Few, Steps}
-use Rattle.item_answer_code.specs.OwnFirst.{First, Closes, AddSteps, toldIn}
+use Rattle.item_answer_code.specs.OwnFirst.{First, AddSteps, toldIn}
 use Rattle.item_answer_code.proofs.Closing.{result-steps, steps-after}
-use Rattle.item_answer_code.proofs.Firsts.{no-both}
 
 -- Places past the end are none.
 take-min : {A : Type 0} (n m : ℕ) (l : List A) → length (take n l) ≤ m → take (min n m) l ≡ take n l

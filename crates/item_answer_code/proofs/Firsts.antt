@@ -1,7 +1,7 @@
 -- The first lines of answers, as their items have them. Assumes nothing.
 use Prim.Native.Nat.{ℕ, zero, suc, _+_, _≤_, _<_, min}
 use mathlib.Core.Bool.{Bool, true, false}
-use mathlib.Core.List.{List, [], _∷_, _++_}
+use mathlib.Core.List.{List, [], _∷_}
 use mathlib.Core.Path.{_≡_, refl, sym, ap, _∙_}
 use native.Mathlib.Omega.{arith}
 use types.Run.{OneOf, miss}
@@ -9,15 +9,10 @@ use denote.Enum.Declared.{tagOf}
 use lib.Dec.{ltb}
 use lib.IntN.{ℤ, pos}
 use lib.ListN.{length, getD, take, replicate, length-take, length-replicate}
-use lib.Seq.{take-all}
 use Rattle.unit.specs.declared.Ticks.{Ticks}
-use Rattle.unit.specs.Choice.{pick}
 use Rattle.listing.specs.declared.Width.{Width}
 use Rattle.device.specs.declared.Answer.{Answer}
 use Rattle.device.specs.declared.Model.{Model}
-use Rattle.thermometer.specs.declared.InDegrees.{InDegrees}
-use Rattle.quietest.specs.declared.Place.{Place}
-use Rattle.text.specs.Text.{Text}
 use Rattle.text.specs.OwnPut.{Puts}
 use Rattle.item_line.specs.Line.{Call, Ask, Expected, Line}
 use Rattle.item_line.specs.OwnBounds.{CallBound, LineBound}
@@ -29,7 +24,7 @@ use Rattle.item_line.specs.declared.LineRead.{LineRead}
 use Rattle.item_answer.specs.declared.Carried.{Carried}
 use Rattle.item_answer.specs.declared.Stepped.{Stepped}
 use Rattle.item_answer.specs.Step.{Step}
-use Rattle.item_answer.specs.Answer.{Item, freshItem, Told, Result, told, busTold, setTold, transactionTold, transacted, stretchTold, isRefusal, deliveryTold, framesTold, degreesTold, listingTold, quietestTold, ticksTold, atResult, callResult, askTold}
+use Rattle.item_answer.specs.Answer.{Item, freshItem, Told, told, busTold, setTold, transactionTold, stretchTold, isRefusal, deliveryTold, framesTold, listingTold, ticksTold, atResult, callResult, askTold}
 use Rattle.item_answer.specs.OwnView.{itemOf}
 use Rattle.item_answer.specs.OwnRoom.{runsTicks, isTicks}
 use Rattle.item_chip_code.specs.declared.Answered.{Answered}

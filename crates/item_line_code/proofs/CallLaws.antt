@@ -1,14 +1,13 @@
 -- The lines of the table, each by what is read of its words. Assumes nothing.
-use Prim.Native.Nat.{ℕ, zero, suc, _+_, _-_, _≤_, _<_}
-use mathlib.Core.Path.{_≡_, refl, sym, ap, _∙_}
-use mathlib.Core.Bool.{Bool, true, false}
+use Prim.Native.Nat.{ℕ, zero, suc, _-_, _≤_, _<_}
+use mathlib.Core.Path.{_≡_, refl, sym, _∙_}
+use mathlib.Core.Bool.{true, false}
 use mathlib.Core.List.{List, [], _∷_, map}
 use native.Mathlib.Decide.{decLe}
 use native.Mathlib.Omega.{arith}
 use lib.IntN.{ℤ}
 use lib.ListN.{length, getD, set, take, drop, length-take, length-drop, length-set, drop-of-length-le}
 use lib.Seq.{getD-set-same, getD-set-other}
-use Rattle.unit.specs.Choice.{pick}
 use Rattle.difference.specs.Difference.{signedOf}
 use Rattle.numeral.specs.declared.Number.the-variants.{Value, Bad}
 use Rattle.numeral.specs.Read.{readHex, readDecimal, readSigned}
@@ -18,10 +17,8 @@ use Rattle.text.specs.Text.{Text, words, is}
 use Rattle.text.specs.OwnPart.{part}
 use Rattle.item_line.specs.declared.FaultRead.{FaultRead}
 use Rattle.item_line.specs.Line.{Fault, Output, Call, Keep, Expected, Line}
-use Rattle.item_line.specs.Reading.{Got, got, wrong, hex, decimal, count, quanta, onto, before, each, with, counted, one, size, bytesLine, busLine, flightParts, flightLine, probeLine, degreesLine, recordLine, listingLine, addressed}
+use Rattle.item_line.specs.Reading.{Got, got, wrong, hex, decimal, quanta, onto, each, with, counted, one, size, bytesLine, busLine, flightParts, flightLine, probeLine, degreesLine, recordLine, listingLine}
 use Rattle.item_line.specs.OwnRead.{asFault}
-use Rattle.item_line_code.specs.declared.Kind.{Kind}
-use Rattle.item_line_code.specs.declared.Form.{Form}
 use Rattle.item_line_code.specs.declared.Tally.{Tally}
 use Rattle.item_line_code.specs.declared.NumberRead.{NumberRead}
 use Rattle.item_line_code.specs.declared.CountRead.{CountRead}

@@ -1,25 +1,24 @@
 -- The numbers that a list leaves are those of its words. Assumes nothing.
 use Prim.Native.Nat.{ℕ, zero, suc, _+_, _≤_, _<_}
 use mathlib.Core.Path.{_≡_, refl, sym, ap, _∙_}
-use mathlib.Core.Bool.{Bool, true, false}
+use mathlib.Core.Bool.{true, false}
 use mathlib.Core.List.{List, [], _∷_, _++_, append-nil, append-assoc}
 use native.Mathlib.Nat.{add-zero, zero-add}
 use native.Mathlib.Numerals.{add-one}
 use native.Mathlib.Omega.{arith}
 use lib.ListN.{length, take, drop, set, length-set, drop-of-length-le}
 use lib.Seq.{take-suc-set, take-set-le, length-take-le, drop-append-le}
-use Rattle.unit.specs.Choice.{pick, both}
+use Rattle.unit.specs.Choice.{both}
 use Rattle.unit.proofs.Cases.{by-test}
 use Rattle.numeral.specs.declared.Number.{Number}
 use Rattle.numeral.specs.declared.Number.the-variants.{Value, Bad}
 use Rattle.text.specs.Text.{Text, is}
 use Rattle.item_line.specs.Line.{Fault, Expected, Line}
-use Rattle.item_line.specs.Reading.{Got, got, wrong, onto, before, each, with, inFirst, parted, flightParts}
+use Rattle.item_line.specs.Reading.{Got, got, wrong, onto, before, each, with, parted, flightParts}
 use Rattle.item_line_code.specs.declared.Form.{Form}
 use Rattle.item_line_code.specs.declared.ListWord.{ListWord}
 use Rattle.item_line_code.specs.OwnNumbers.{numberIn, formed, listWord, Tallied, all, bad, Outcome, tallied}
 use Rattle.item_line_code.specs.OwnLists.{prefix, gotOf, Counts, flightOf, onFirst}
-use Rattle.item_line_code.proofs.NumberLaws.{tally-slash, tally-word, tally-wrong}
 
 -- what a word is, where it is no slash
 word-is : (f : Form) (w : Text) → both (f .slash) (is "/" w) ≡ false → {v : ℕ} → numberIn f w ≡ Value v → listWord f w ≡ ListWord.Word v

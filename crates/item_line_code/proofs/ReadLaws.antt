@@ -1,14 +1,13 @@
 -- What is read of a part gives the line that its words give. Assumes nothing.
-use Prim.Native.Nat.{ℕ, zero, suc, _+_, _-_, _≤_, _<_}
-use mathlib.Core.Path.{_≡_, refl, sym, ap, _∙_}
+use Prim.Native.Nat.{ℕ, _-_, _≤_, _<_}
+use mathlib.Core.Path.{_≡_, refl, sym, ap}
 use mathlib.Core.Bool.{Bool, true, false}
-use mathlib.Core.List.{List, [], _∷_, _++_}
+use mathlib.Core.List.{List, [], _∷_}
 use native.Mathlib.Omega.{arith}
 use lib.Dec.{leb}
-use lib.ListN.{length, take, drop, length-take, length-drop}
+use lib.ListN.{length, take, length-take, length-drop}
 use borrow.Author.Tests.{le-leb, lt-leb}
 use Rattle.unit.specs.Choice.{pick, both}
-use Rattle.numeral.specs.declared.Number.{Number}
 use Rattle.numeral.specs.declared.Number.the-variants.{Value, Bad}
 use Rattle.numeral.specs.Read.{readHex}
 use Rattle.text.specs.declared.Span.{Span}
@@ -17,11 +16,10 @@ use Rattle.text.specs.OwnPart.{part}
 use Rattle.text_code.specs.OwnWords.{between}
 use Rattle.text_code.proofs.WordLaws.{words-half}
 use Rattle.item_line.specs.Line.{Fault, Line}
-use Rattle.item_line.specs.Reading.{Got, got, wrong, each, with, counted, hex, one, address, addressed}
+use Rattle.item_line.specs.Reading.{got, each, with, counted, hex, one, address, addressed}
 use Rattle.item_line_code.specs.declared.Form.{Form}
 use Rattle.item_line_code.specs.declared.Tally.{Tally}
-use Rattle.item_line_code.specs.OwnNumbers.{numberIn, formed, asTally, Tallied, all, bad, Outcome, tallied, EndsBy}
-use Rattle.item_line_code.specs.OwnLists.{gotOf, Counts}
+use Rattle.item_line_code.specs.OwnNumbers.{numberIn, formed, asTally, bad, Outcome, tallied, EndsBy}
 use Rattle.item_line_code.specs.OwnParts.{Within}
 use Rattle.item_line_code.proofs.PartLaws.{inner}
 use Rattle.item_line_code.proofs.ListLaws.{list-got, list-counts}

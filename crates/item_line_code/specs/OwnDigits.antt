@@ -33,7 +33,7 @@ pub record PairAt (s : Text) (i v : ℕ) : Type 0 where
   pub digits : DigitsAt s (i + 1) (i + 3) 2 v
   pub whole : WholeAt s (i + 1) (i + 3) 2
 
--- From the place `at` on, with n numbers in l, numbers were stored up to the place i: c are in l′, and to go on from there comes to the same.
+-- From the place `at` on, after n numbers in l, numbers were stored up to the place i: c are in l′, and the rest comes to the same.
 pub record Passed (f : Form) (s : Text) (at n : ℕ) (l : List ℕ) (i c : ℕ) (l′ : List ℕ) : Type 0 where
   pub low : at ≤ i
   pub high : i ≤ length s

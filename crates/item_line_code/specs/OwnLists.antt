@@ -3,7 +3,6 @@ use Prim.Native.Nat.{ℕ, zero, suc}
 use mathlib.Core.List.{List, [], _∷_, _++_}
 use mathlib.Core.Path.{_≡_}
 use lib.ListN.{take, drop}
-use Rattle.text.specs.Text.{Text}
 use Rattle.item_line.specs.Line.{Fault, Expected, Line}
 use Rattle.item_line.specs.Reading.{Got, got, wrong, flightParts}
 use Rattle.item_line_code.specs.OwnNumbers.{Tallied, all, bad}

@@ -1,9 +1,10 @@
 -- A list of words as the numbers that are stored, word by word. Assumes nothing.
 use Prim.Native.Nat.{ℕ, _+_, _≤_}
-use mathlib.Core.Bool.{Bool, true, false}
+use mathlib.Core.Bool.{true, false}
 use mathlib.Core.List.{List, [], _∷_}
+use mathlib.Core.Path.{_≡_}
 use lib.Dec.{eqb}
-use lib.ListN.{set, take}
+use lib.ListN.{set}
 use Rattle.unit.specs.Choice.{pick, both}
 use Rattle.numeral.specs.declared.Number.{Number}
 use Rattle.numeral.specs.declared.Number.the-variants.{Value, Bad}
@@ -74,6 +75,10 @@ tallied f n k u l [] = record { tally = all n k u; numbers = l }
 tallied f n k u l (w ∷ ws) =
     onListWord (listWord f w) (tallied f n (k + 1) (pick (eqb k 0) n u) l ws) (λ v. tallied f (n + 1) k u (set l n v) ws)
     (record { tally = bad w; numbers = l })
+
+-- What was read of a whole list of words, and the list in which its numbers were stored.
+abbrev pub Tallies : Form → Text → List Text → List ℕ → Tally → List ℕ → Type 0
+Tallies f s ws l r l′ = record { tally = asTally s r; numbers = l′ } ≡ tallied f 0 0 0 l ws
 
 -- A word that is named ends by a place.
 unfoldable pub EndsBy : ℕ → Tally → Type 0

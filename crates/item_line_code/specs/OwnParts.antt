@@ -19,6 +19,10 @@ pub record Within (text : Text) (rest : Span) : Type 0 where
   pub high : rest .end ≤ length text
   pub short : rest .end ≤ 1000
 
+-- The words of a part.
+abbrev pub wordsIn : Text → Span → List Text
+wordsIn text rest = words (part text rest)
+
 -- What is left of a part after a word.
 abbrev pub after : Span → Span → Span
 after word rest = record { start = word .end; end = rest .end }
@@ -32,8 +36,8 @@ pub record NextIn (text : Text) (rest r : Span) : Type 0 where
   pub low : rest .start ≤ r .start
   pub ordered : r .start ≤ r .end
   pub high : r .end ≤ rest .end
-  pub some : r .start < r .end → words (part text rest) ≡ part text r ∷ words (part text (after r rest))
-  pub none : r .end ≤ r .start → words (part text rest) ≡ []
+  pub some : r .start < r .end → wordsIn text rest ≡ part text r ∷ wordsIn text (after r rest)
+  pub none : r .end ≤ r .start → wordsIn text rest ≡ []
   pub stops : r .start < r .end → Opens text (r .end) (rest .end)
 
 -- A word that ends what counts of a line: a comment's, and the mark where it counts.
@@ -53,14 +57,14 @@ fromStop marks (w ∷ ws) = pick (isStop marks w) (w ∷ ws) (fromStop marks ws)
 pub record CutAt (marks : Bool) (text : Text) (rest : Span) (r : Cut) : Type 0 where
   pub low : rest .start ≤ r .end
   pub high : r .end ≤ rest .end
-  pub before : words (part text (record { start = rest .start; end = r .end })) ≡ untilStop marks (words (part text rest))
+  pub before : wordsIn text (record { start = rest .start; end = r .end }) ≡ untilStop marks (wordsIn text rest)
   pub inside : r .word .end ≤ rest .end
-  pub some : r .word .start < r .word .end → fromStop marks (words (part text rest)) ≡ part text (r .word) ∷ words (part text (after (r .word) rest))
-  pub none : r .word .end ≤ r .word .start → fromStop marks (words (part text rest)) ≡ []
+  pub some : r .word .start < r .word .end → fromStop marks (wordsIn text rest) ≡ part text (r .word) ∷ wordsIn text (after (r .word) rest)
+  pub none : r .word .end ≤ r .word .start → fromStop marks (wordsIn text rest) ≡ []
   pub stops : r .word .start < r .word .end → Opens text (r .word .end) (rest .end)
 
 -- A line's words before its mark, and what it expects.
 pub record SplitAt (text : Text) (rest : Span) (r : Split) : Type 0 where
   pub within : Within text (r .before)
-  pub before : words (part text (r .before)) ≡ beforeMark (withoutComment (words (part text rest)))
-  pub expected : asExpected text (r .expected) ≡ behindMark (withoutComment (words (part text rest)))
+  pub before : wordsIn text (r .before) ≡ beforeMark (withoutComment (wordsIn text rest))
+  pub expected : asExpected text (r .expected) ≡ behindMark (withoutComment (wordsIn text rest))

@@ -31,14 +31,12 @@ ghost use mathlib.Core.List.{List};
 ghost use Prim.Native.Nat.{ℕ, _-_};
 ghost use lib.ListN.{length, take, drop};
 ghost use Rattle.numeral.specs.Read.{readDecimal};
-ghost use Rattle.text.specs.Text.{words, is};
-ghost use Rattle.text.specs.OwnPart.{part};
-ghost use Rattle.item_line.specs.Line.{call, listing};
-ghost use Rattle.item_line.specs.Reading.{hex, count, one, bytesLine, busLine, setLine, flightLine, temperatureLine, probeLine, degreesLine, recordLine, listingLine};
-ghost use Rattle.item_line.specs.OwnRead.{asOutput, asExpected, asCall, asLine};
+ghost use Rattle.text.specs.Text.{is};
+ghost use Rattle.item_line.specs.Reading.{bytesLine, busLine, setLine, flightLine, temperatureLine, probeLine, degreesLine, recordLine, listingLine};
+ghost use Rattle.item_line.specs.OwnRead.{asOutput, asCall};
 ghost use Rattle.item_line_code.specs.OwnNumbers.{wordForm};
 ghost use Rattle.item_line_code.specs.OwnParts.{Within};
-ghost use Rattle.item_line_code.specs.OwnReads.{countedCall};
+ghost use Rattle.item_line_code.specs.OwnReads.{countedCall, countedLine, listingOf, Says};
 
 // A call of one decimal.
 pub(crate) fn decimal_line(
@@ -48,7 +46,7 @@ pub(crate) fn decimal_line(
     counted: Counted,
 ) -> LineRead
     requires { ⌜ Within (now text) rest ⌝ }
-    ensures { λ r. ⌜ ((l : List ℕ) → asLine (now (text .entry)) l r ≡ one count (λ n. call (countedCall counted n) (asExpected (now (text .entry)) expected)) (words (part (now (text .entry)) rest))) ⌝ }
+    ensures { λ r. ⌜ ((l : List ℕ) → Says (countedLine counted) (now (text .entry)) rest expected l r) ⌝ }
 {
     let form = Form {
         kind: Kind::Count,
@@ -80,7 +78,7 @@ pub(crate) fn bus_line(
     numbers: &mut [u32],
 ) -> LineRead
     requires { ⌜ Within (now text) rest × (length (now numbers) ≡ 512) ⌝ }
-    ensures { λ r. ⌜ asLine (now (text .entry)) (now (numbers .exit)) r ≡ busLine (words (part (now (text .entry)) rest)) (asExpected (now (text .entry)) expected) ⌝ }
+    ensures { λ r. ⌜ Says busLine (now (text .entry)) rest expected (now (numbers .exit)) r ⌝ }
 {
     let word = next_in(text, rest);
     let start = word.start;
@@ -116,7 +114,7 @@ fn bytes_line(
     numbers: &mut [u32],
 ) -> LineRead
     requires { ⌜ Within (now text) rest × (length (now numbers) ≡ 512) ⌝ }
-    ensures { λ r. ⌜ asLine (now (text .entry)) (now (numbers .exit)) r ≡ bytesLine (asOutput output) (words (part (now (text .entry)) rest)) (asExpected (now (text .entry)) expected) ⌝ }
+    ensures { λ r. ⌜ Says (bytesLine (asOutput output)) (now (text .entry)) rest expected (now (numbers .exit)) r ⌝ }
 {
     let form = Form {
         kind: Kind::Hex,
@@ -151,7 +149,7 @@ pub(crate) fn set_line(
     numbers: &mut [u32],
 ) -> LineRead
     requires { ⌜ Within (now text) rest × (length (now numbers) ≡ 512) ⌝ }
-    ensures { λ r. ⌜ asLine (now (text .entry)) (now (numbers .exit)) r ≡ setLine (words (part (now (text .entry)) rest)) (asExpected (now (text .entry)) expected) ⌝ }
+    ensures { λ r. ⌜ Says setLine (now (text .entry)) rest expected (now (numbers .exit)) r ⌝ }
 {
     let form = Form {
         kind: Kind::Hex,
@@ -175,7 +173,7 @@ pub(crate) fn flight_line(
     numbers: &mut [u32],
 ) -> LineRead
     requires { ⌜ Within (now text) rest × (length (now numbers) ≡ 512) ⌝ }
-    ensures { λ r. ⌜ asLine (now (text .entry)) (now (numbers .exit)) r ≡ flightLine (words (part (now (text .entry)) rest)) (asExpected (now (text .entry)) expected) ⌝ }
+    ensures { λ r. ⌜ Says flightLine (now (text .entry)) rest expected (now (numbers .exit)) r ⌝ }
 {
     let form = Form {
         kind: Kind::Hex,
@@ -215,7 +213,7 @@ pub(crate) fn temperature_line(
     numbers: &mut [u32],
 ) -> LineRead
     requires { ⌜ Within (now text) rest × (length (now numbers) ≡ 512) ⌝ }
-    ensures { λ r. ⌜ asLine (now (text .entry)) (now (numbers .exit)) r ≡ temperatureLine (words (part (now (text .entry)) rest)) (asExpected (now (text .entry)) expected) ⌝ }
+    ensures { λ r. ⌜ Says temperatureLine (now (text .entry)) rest expected (now (numbers .exit)) r ⌝ }
 {
     match counted_numbers(text, rest, word_form(), 0, 16, numbers) {
         CountRead::Fault(fault) => LineRead::Bad(fault),
@@ -245,7 +243,7 @@ pub(crate) fn probe_line(
     numbers: &mut [u32],
 ) -> LineRead
     requires { ⌜ Within (now text) rest × (length (now numbers) ≡ 512) ⌝ }
-    ensures { λ r. ⌜ asLine (now (text .entry)) (now (numbers .exit)) r ≡ probeLine (words (part (now (text .entry)) rest)) (asExpected (now (text .entry)) expected) ⌝ }
+    ensures { λ r. ⌜ Says probeLine (now (text .entry)) rest expected (now (numbers .exit)) r ⌝ }
 {
     let form = Form {
         kind: Kind::Count,
@@ -266,7 +264,7 @@ pub(crate) fn record_line(
     numbers: &mut [u32],
 ) -> LineRead
     requires { ⌜ Within (now text) rest × (length (now numbers) ≡ 512) ⌝ }
-    ensures { λ r. ⌜ asLine (now (text .entry)) (now (numbers .exit)) r ≡ recordLine (words (part (now (text .entry)) rest)) (asExpected (now (text .entry)) expected) ⌝ }
+    ensures { λ r. ⌜ Says recordLine (now (text .entry)) rest expected (now (numbers .exit)) r ⌝ }
 {
     let form = Form {
         kind: Kind::Quanta,
@@ -287,7 +285,7 @@ pub(crate) fn degrees_line(
     numbers: &mut [u32],
 ) -> LineRead
     requires { ⌜ Within (now text) rest × (length (now numbers) ≡ 512) ⌝ }
-    ensures { λ r. ⌜ asLine (now (text .entry)) (now (numbers .exit)) r ≡ degreesLine (words (part (now (text .entry)) rest)) (asExpected (now (text .entry)) expected) ⌝ }
+    ensures { λ r. ⌜ Says degreesLine (now (text .entry)) rest expected (now (numbers .exit)) r ⌝ }
 {
     let word = next_in(text, rest);
     let start = word.start;
@@ -316,7 +314,7 @@ pub(crate) fn degrees_line(
 
 pub(crate) fn listing_line(text: &[u8], rest: Span, expected: ExpectedRead) -> LineRead
     requires { ⌜ Within (now text) rest ⌝ }
-    ensures { λ r. ⌜ ((l : List ℕ) → asLine (now (text .entry)) l r ≡ listingLine (words (part (now (text .entry)) rest)) (asExpected (now (text .entry)) expected)) ⌝ }
+    ensures { λ r. ⌜ ((l : List ℕ) → Says listingLine (now (text .entry)) rest expected l r) ⌝ }
 {
     let word = next_in(text, rest);
     let start = word.start;
@@ -337,7 +335,7 @@ pub(crate) fn listing_line(text: &[u8], rest: Span, expected: ExpectedRead) -> L
 
 fn listing_of(text: &[u8], rest: Span, expected: ExpectedRead, width: Width) -> LineRead
     requires { ⌜ Within (now text) rest ⌝ }
-    ensures { λ r. ⌜ ((l : List ℕ) → asLine (now (text .entry)) l r ≡ one (hex 1 8) (λ c. call (listing width c) (asExpected (now (text .entry)) expected)) (words (part (now (text .entry)) rest))) ⌝ }
+    ensures { λ r. ⌜ ((l : List ℕ) → Says (listingOf width) (now (text .entry)) rest expected l r) ⌝ }
 {
     match one_number(text, rest, word_form()) {
         NumberRead::Fault(fault) => LineRead::Bad(fault),

@@ -15,11 +15,12 @@ ghost use mathlib.Core.Path.{_≡_};
 ghost use mathlib.Core.List.{List};
 ghost use Prim.Native.Nat.{ℕ, _≤_};
 ghost use lib.ListN.{length, take};
-ghost use Rattle.text.specs.Text.{words, withoutReturn};
+ghost use Rattle.text.specs.Text.{withoutReturn};
 ghost use Rattle.text.specs.OwnPart.{part};
-ghost use Rattle.item_line.specs.Reading.{itemLine, withoutComment, worded as Reading·worded, wordsLine, lineOf};
+ghost use Rattle.item_line.specs.Reading.{itemLine, withoutComment, wordsLine, lineOf};
 ghost use Rattle.item_line.specs.OwnRead.{asLine};
-ghost use Rattle.item_line_code.specs.OwnParts.{Within, Opens};
+ghost use Rattle.item_line_code.specs.OwnParts.{Within, wordsIn, Opens};
+ghost use Rattle.item_line_code.specs.OwnReads.{Gives, wordedLine};
 
 // Reads a line, without its line feed.
 pub fn read_line(text: &[u8], numbers: &mut [u32]) -> LineRead
@@ -47,7 +48,7 @@ fn content_length(text: &[u8]) -> usize
 
 fn words_line(text: &[u8], rest: Span, numbers: &mut [u32]) -> LineRead
     requires { ⌜ Within (now text) rest × (length (now numbers) ≡ 512) ⌝ }
-    ensures { λ r. ⌜ asLine (now (text .entry)) (now (numbers .exit)) r ≡ wordsLine (words (part (now (text .entry)) rest)) ⌝ }
+    ensures { λ r. ⌜ Gives wordsLine (now (text .entry)) rest (now (numbers .exit)) r ⌝ }
 {
     let word = next_in(text, rest);
     let end = word.end;
@@ -70,7 +71,7 @@ fn words_line(text: &[u8], rest: Span, numbers: &mut [u32]) -> LineRead
 
 fn item_line(text: &[u8], rest: Span) -> LineRead
     requires { ⌜ Within (now text) rest ⌝ }
-    ensures { λ r. ⌜ ((l : List ℕ) → asLine (now (text .entry)) l r ≡ itemLine (words (part (now (text .entry)) rest))) ⌝ }
+    ensures { λ r. ⌜ ((l : List ℕ) → Gives itemLine (now (text .entry)) rest l r) ⌝ }
 {
     let word = next_in(text, rest);
     if word.end <= word.start {
@@ -83,7 +84,7 @@ fn item_line(text: &[u8], rest: Span) -> LineRead
 // A line's words before its comment, by the first.
 fn worded(text: &[u8], word: Span, rest: Span, numbers: &mut [u32]) -> LineRead
     requires { ⌜ Within (now text) rest × Opens (now text) (rest .start) (rest .end) × (length (now numbers) ≡ 512) ⌝ }
-    ensures { λ r. ⌜ asLine (now (text .entry)) (now (numbers .exit)) r ≡ Reading·worded (part (now (text .entry)) word) (withoutComment (words (part (now (text .entry)) rest))) ⌝ }
+    ensures { λ r. ⌜ Gives (wordedLine (part (now (text .entry)) word)) (now (text .entry)) rest (now (numbers .exit)) r ⌝ }
 {
     let w = part_of(text, word);
     if same(w, b"show") {
@@ -104,7 +105,8 @@ fn worded(text: &[u8], word: Span, rest: Span, numbers: &mut [u32]) -> LineRead
 // A part without its comment.
 fn uncommented(text: &[u8], rest: Span) -> Span
     requires { ⌜ Within (now text) rest × Opens (now text) (rest .start) (rest .end) ⌝ }
-    ensures { λ r. ⌜ Within (now (text .entry)) r × (words (part (now (text .entry)) r) ≡ withoutComment (words (part (now (text .entry)) rest))) ⌝ }
+    ensures { λ r. ⌜ Within (now (text .entry)) r ⌝ }
+    ensures words { λ r. ⌜ wordsIn (now (text .entry)) r ≡ withoutComment (wordsIn (now (text .entry)) rest) ⌝ }
 {
     let found = cut(text, rest, false);
     Span {

@@ -14,12 +14,12 @@ ghost use lib.Dec.{eqb};
 ghost use lib.ListN.{length, set, drop};
 ghost use Rattle.unit.specs.Choice.{pick, both};
 ghost use Rattle.text.specs.Text.{words, is};
-ghost use Rattle.item_line_code.specs.OwnNumbers.{asTally, numberIn, listWord, tallied, EndsBy};
+ghost use Rattle.item_line_code.specs.OwnNumbers.{numberIn, listWord, EndsBy, Tallies};
 
 // Reads the words from the place `at` on, and stores their numbers.
 pub(crate) fn tally(s: &[u8], at: usize, form: Form, numbers: &mut [u32]) -> Tally
     requires { ⌜ at ≤ length (now s) ⌝ }
-    ensures { λ r. ⌜ record { tally = asTally (now (s .entry)) r; numbers = now (numbers .exit) } ≡ tallied form 0 0 0 (now (numbers .entry)) (words (drop at (now (s .entry)))) ⌝ }
+    ensures { λ r. ⌜ Tallies form (now (s .entry)) (words (drop at (now (s .entry)))) (now (numbers .entry)) r (now (numbers .exit)) ⌝ }
     ensures ends { λ r. ⌜ EndsBy (length (now (s .entry))) r ⌝ }
 {
     let mut i = at;

@@ -70,19 +70,16 @@ pub(crate) fn split(text: &[u8], rest: Span) -> Split
         };
     }
     if same(&text[from..to], b"=>") {
-        let behind = cut(
-            text,
-            Span {
-                start: to,
-                end: rest.end,
-            },
-            false,
-        );
+        let further = Span {
+            start: to,
+            end: rest.end,
+        };
+        let after = cut(text, further, false);
         Split {
             before,
             expected: ExpectedRead::Marked(Span {
                 start: to,
-                end: behind.end,
+                end: after.end,
             }),
         }
     } else {

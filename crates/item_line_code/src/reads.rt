@@ -16,19 +16,16 @@ ghost use mathlib.Core.Bool.{false};
 ghost use mathlib.Core.List.{List};
 ghost use Prim.Native.Nat.{ℕ};
 ghost use lib.ListN.{length};
-ghost use Rattle.text.specs.Text.{Text, words};
-ghost use Rattle.text.specs.OwnPart.{part};
-ghost use Rattle.item_line.specs.Line.{Line};
-ghost use Rattle.item_line.specs.Reading.{each, with, counted, one, addressed};
+ghost use Rattle.item_line.specs.Reading.{alone as Reading·alone};
 ghost use Rattle.item_line.specs.OwnRead.{asLine};
-ghost use Rattle.item_line_code.specs.OwnNumbers.{asTally, formed, tallied};
-ghost use Rattle.item_line_code.specs.OwnParts.{Within};
-ghost use Rattle.item_line_code.specs.OwnReads.{numberLine, countLine, addressLine, WithinRest};
+ghost use Rattle.item_line_code.specs.OwnNumbers.{Tallies};
+ghost use Rattle.item_line_code.specs.OwnParts.{Within, wordsIn};
+ghost use Rattle.item_line_code.specs.OwnReads.{WithinRest, Gives, OneRead, CountsRead, AddressedRead};
 
 // The numbers of a part.
 pub(crate) fn numbers_in(text: &[u8], rest: Span, form: Form, numbers: &mut [u32]) -> Tally
     requires { ⌜ Within (now text) rest ⌝ }
-    ensures { λ r. ⌜ record { tally = asTally (now (text .entry)) r; numbers = now (numbers .exit) } ≡ tallied form 0 0 0 (now (numbers .entry)) (words (part (now (text .entry)) rest)) ⌝ }
+    ensures { λ r. ⌜ Tallies form (now (text .entry)) (wordsIn (now (text .entry)) rest) (now (numbers .entry)) r (now (numbers .exit)) ⌝ }
 {
     let end = rest.end;
     tally(&text[..end], rest.start, form, numbers)
@@ -44,7 +41,7 @@ pub(crate) fn counted_numbers(
     numbers: &mut [u32],
 ) -> CountRead
     requires { ⌜ Within (now text) rest × (length (now numbers) ≡ 512) × (form .slash ≡ false) ⌝ }
-    ensures { λ r. ⌜ ((line : List ℕ → Line) → countLine (now (text .entry)) (now (numbers .exit)) line r ≡ with (each (formed form) (words (part (now (text .entry)) rest))) (λ ns. counted least most (words (part (now (text .entry)) rest)) (line ns))) ⌝ }
+    ensures { λ r. ⌜ CountsRead form least most (now (text .entry)) rest (now (numbers .exit)) r ⌝ }
 {
     match numbers_in(text, rest, form, numbers) {
         Tally::Wrong(word) => CountRead::Fault(FaultRead::BadNumber(word)),
@@ -67,7 +64,7 @@ pub(crate) fn counted_numbers(
 // One number and no further word.
 pub(crate) fn one_number(text: &[u8], rest: Span, form: Form) -> NumberRead
     requires { ⌜ Within (now text) rest ⌝ }
-    ensures { λ r. ⌜ ((line : ℕ → Line) → numberLine (now (text .entry)) line r ≡ one (formed form) line (words (part (now (text .entry)) rest))) ⌝ }
+    ensures { λ r. ⌜ OneRead form (now (text .entry)) rest r ⌝ }
 {
     let word = next_in(text, rest);
     let start = word.start;
@@ -97,7 +94,7 @@ pub(crate) fn one_number(text: &[u8], rest: Span, form: Form) -> NumberRead
 // A line that has no further word.
 pub(crate) fn alone(text: &[u8], rest: Span, line: LineRead) -> LineRead
     requires { ⌜ Within (now text) rest ⌝ }
-    ensures { λ r. ⌜ ((l : List ℕ) → asLine (now (text .entry)) l r ≡ counted 0 0 (words (part (now (text .entry)) rest)) (asLine (now (text .entry)) l line)) ⌝ }
+    ensures { λ r. ⌜ ((l : List ℕ) → Gives (Reading·alone (asLine (now (text .entry)) l line)) (now (text .entry)) rest l r) ⌝ }
 {
     let word = next_in(text, rest);
     if word.end <= word.start {
@@ -110,7 +107,7 @@ pub(crate) fn alone(text: &[u8], rest: Span, line: LineRead) -> LineRead
 // An address from `low` to `high`.
 pub(crate) fn address_in(text: &[u8], rest: Span, low: u32, high: u32) -> AddressRead
     requires { ⌜ Within (now text) rest ⌝ }
-    ensures { λ r. ⌜ ((line : ℕ → List Text → Line) → addressLine (now (text .entry)) line r ≡ addressed low high line (words (part (now (text .entry)) rest))) ⌝ }
+    ensures { λ r. ⌜ AddressedRead low high (now (text .entry)) rest r ⌝ }
     ensures within { λ r. ⌜ WithinRest (now (text .entry)) r ⌝ }
 {
     let word = next_in(text, rest);

@@ -19,12 +19,10 @@ use text::Span;
 use text_code::part_of;
 use text_code::same;
 ghost use mathlib.Core.Path.{_≡_};
-ghost use lib.ListN.{length, drop};
-ghost use Rattle.text.specs.Text.{words};
+ghost use lib.ListN.{length};
 ghost use Rattle.text.specs.OwnPart.{part};
-ghost use Rattle.item_line.specs.Reading.{table, readBy};
-ghost use Rattle.item_line.specs.OwnRead.{asExpected, asLine};
 ghost use Rattle.item_line_code.specs.OwnParts.{Within};
+ghost use Rattle.item_line_code.specs.OwnReads.{Says, tableFrom};
 
 pub(crate) fn marked_line(
     text: &[u8],
@@ -34,7 +32,7 @@ pub(crate) fn marked_line(
     numbers: &mut [u32],
 ) -> LineRead
     requires { ⌜ Within (now text) rest × (length (now numbers) ≡ 512) ⌝ }
-    ensures { λ r. ⌜ asLine (now (text .entry)) (now (numbers .exit)) r ≡ readBy table (part (now (text .entry)) word) (words (part (now (text .entry)) rest)) (asExpected (now (text .entry)) expected) ⌝ }
+    ensures { λ r. ⌜ Says (tableFrom 0 (part (now (text .entry)) word)) (now (text .entry)) rest expected (now (numbers .exit)) r ⌝ }
 {
     let w = part_of(text, word);
     if same(w, b"bus") {
@@ -60,7 +58,7 @@ fn delivery_line(
     numbers: &mut [u32],
 ) -> LineRead
     requires { ⌜ Within (now text) rest × (length (now numbers) ≡ 512) ⌝ }
-    ensures { λ r. ⌜ asLine (now (text .entry)) (now (numbers .exit)) r ≡ readBy (drop 4 table) (part (now (text .entry)) word) (words (part (now (text .entry)) rest)) (asExpected (now (text .entry)) expected) ⌝ }
+    ensures { λ r. ⌜ Says (tableFrom 4 (part (now (text .entry)) word)) (now (text .entry)) rest expected (now (numbers .exit)) r ⌝ }
 {
     let w = part_of(text, word);
     if same(w, b"flight") {
@@ -89,7 +87,7 @@ fn other_line(
     numbers: &mut [u32],
 ) -> LineRead
     requires { ⌜ Within (now text) rest × (length (now numbers) ≡ 512) ⌝ }
-    ensures { λ r. ⌜ asLine (now (text .entry)) (now (numbers .exit)) r ≡ readBy (drop 9 table) (part (now (text .entry)) word) (words (part (now (text .entry)) rest)) (asExpected (now (text .entry)) expected) ⌝ }
+    ensures { λ r. ⌜ Says (tableFrom 9 (part (now (text .entry)) word)) (now (text .entry)) rest expected (now (numbers .exit)) r ⌝ }
 {
     let w = part_of(text, word);
     if same(w, b"stretch") {
@@ -115,7 +113,7 @@ fn last_line(
     numbers: &mut [u32],
 ) -> LineRead
     requires { ⌜ Within (now text) rest × (length (now numbers) ≡ 512) ⌝ }
-    ensures { λ r. ⌜ asLine (now (text .entry)) (now (numbers .exit)) r ≡ readBy (drop 13 table) (part (now (text .entry)) word) (words (part (now (text .entry)) rest)) (asExpected (now (text .entry)) expected) ⌝ }
+    ensures { λ r. ⌜ Says (tableFrom 13 (part (now (text .entry)) word)) (now (text .entry)) rest expected (now (numbers .exit)) r ⌝ }
 {
     let w = part_of(text, word);
     if same(w, b"record") {

@@ -14,20 +14,16 @@ ghost use mathlib.Core.List.{List};
 ghost use Prim.Native.Nat.{ℕ, _-_};
 ghost use lib.Dec.{ltb};
 ghost use Rattle.unit.specs.Choice.{pick};
-ghost use Rattle.text.specs.Text.{words};
-ghost use Rattle.text.specs.OwnPart.{part};
-ghost use Rattle.item_line.specs.Line.{Wanted, Line};
 ghost use Rattle.item_line.specs.Reading.{isDigit, areDigits, isWanted, wantedLine};
-ghost use Rattle.item_line.specs.OwnRead.{asLine};
 ghost use Rattle.item_line.specs.declared.FaultRead.the-variants.{WrongCount};
 ghost use Rattle.item_line_code.specs.declared.CountRead.the-variants.{Fault, Count};
 ghost use Rattle.item_line_code.specs.OwnParts.{Within};
-ghost use Rattle.item_line_code.specs.OwnReads.{wantedBy, wantedUpTo, wantedOf};
+ghost use Rattle.item_line_code.specs.OwnReads.{wantedOf, Gives, WantedRead};
 
 // A `read` line or an `expect` line.
 pub(crate) fn wanted_line(text: &[u8], rest: Span, reads: bool) -> LineRead
     requires { ⌜ Within (now text) rest ⌝ }
-    ensures { λ r. ⌜ ((l : List ℕ) → asLine (now (text .entry)) l r ≡ wantedLine (wantedOf reads) (words (part (now (text .entry)) rest))) ⌝ }
+    ensures { λ r. ⌜ ((l : List ℕ) → Gives (wantedLine (wantedOf reads)) (now (text .entry)) rest l r) ⌝ }
 {
     match address_in(text, rest, 0xB0, 0xFF) {
         AddressRead::Fault(fault) => LineRead::Bad(fault),
@@ -54,7 +50,7 @@ fn most_from(a: u32) -> usize
 // One to `most` words that are wanted; no more are judged.
 fn wanted_words(text: &[u8], rest: Span, most: usize) -> CountRead
     requires { ⌜ Within (now text) rest ⌝ }
-    ensures { λ r. ⌜ ((line : List Wanted → Line) → wantedBy (now (text .entry)) (words (part (now (text .entry)) rest)) line r ≡ wantedUpTo most (words (part (now (text .entry)) rest)) line) ⌝ }
+    ensures { λ r. ⌜ WantedRead most (now (text .entry)) rest r ⌝ }
 {
     let end = rest.end;
     let mut i = rest.start;

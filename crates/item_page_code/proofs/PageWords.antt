@@ -34,7 +34,9 @@ words-on m ws i v h e before k l =
 
 pub words-end : (m : Model) (ws : List ℕ) → length ws ≡ 80 → ((k : ℕ) → k < 80 → getD ws k 0 ≡ registerWord m (176 + k)) → ws ≡ pageWords m
 unfolding pageWords
-words-end m ws n each = ext-getD 0 ws (wordsFrom m 176 80) (n ∙ sym (length-words m 80 176)) (λ k h. each k (omega arith) ∙ sym (word-at m 80 176 k (omega arith)))
+words-end m ws n each =
+    ext-getD 0 ws (wordsFrom m 176 80) (n ∙ sym (length-words m 80 176))
+    (λ k h. each k (omega arith) ∙ sym (word-at m 80 176 k (omega arith)))
 
 pub page-length : (m : Model) (ws : List ℕ) → ws ≡ pageWords m → length ws ≡ 80
 unfolding pageWords
@@ -45,6 +47,7 @@ rows-same : (m : Model) → rowsBy (pageWords m) (m .regulator) ≡ registerRows
 unfolding rowsBy pageWords wordsFrom pairOf pairWord registerRows clockRows setupRows flightRows temperatureRows
 rows-same m = refl
 
-pub put-page-rows : (m : Model) (ws : List ℕ) {l l′ : List ℕ} {at r : ℕ} → ws ≡ pageWords m → Puts l at (endedEach (rowsBy ws (m .regulator))) r l′
+pub put-page-rows : (m : Model) (ws : List ℕ) {l l′ : List ℕ} {at r : ℕ} → ws ≡ pageWords m
+    → Puts l at (endedEach (rowsBy ws (m .regulator))) r l′
     → Puts l at (endedEach (registerRows m)) r l′
 put-page-rows m ws e p = rw (← (rows-same m)) (rw e at p)

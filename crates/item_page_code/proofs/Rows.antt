@@ -3,7 +3,7 @@ use Prim.Native.Nat.{ℕ, suc, _+_, _/_, _%_, _<_}
 use Prim.Native.String.{String}
 use mathlib.Core.Bool.{Bool, true, false}
 use mathlib.Core.List.{List, [], _∷_, _++_, append-assoc, append-nil}
-use mathlib.Core.Path.{_≡_, refl, sym, ap, _∙_}
+use mathlib.Core.Path.{_≡_, refl, sym, _∙_}
 use native.Mathlib.Omega.{arith}
 use lib.Dec.{eqb, ltb}
 use lib.ListN.{length, length-append}
@@ -62,7 +62,8 @@ pub pair : (label : String) (q : ℕ) (meaning : Text) {rest : Text} {rows : Lis
     → Rows (pairRow label q meaning ∷ rows) (ascii label ++ pairThen q (meaning ++ (10 ∷ rest)))
 unfolding pairRow pairThen
 pair label q meaning =
-    row (part (ascii label) and part (digits 16 4 (q / 65536)) and part (ascii " ") and part (digits 16 4 (q % 65536)) and part (ascii "  ") and part meaning)
+    row (part (ascii label) and part (digits 16 4 (q / 65536)) and part (ascii " ") and part (digits 16 4 (q % 65536))
+    and part (ascii "  ") and part meaning)
 
 pub rows-are : (rows : List Text) → Rows rows (endedEach rows)
 rows-are rows = record { same = refl }
@@ -176,7 +177,8 @@ unfolding nextText textWhere
 next-group k e f = rw (e, f)
 
 -- The answer to what is not refused.
-pub not-refused : (m : Model) (op : ℕ) (a : Answer) → OneOf (1 ∷ 2 ∷ 3 ∷ 4 ∷ 5 ∷ []) (tagOf the-type a) → ascii "ok" ≡ answerText m op (numberIn a)
+pub not-refused : (m : Model) (op : ℕ) (a : Answer) → OneOf (1 ∷ 2 ∷ 3 ∷ 4 ∷ 5 ∷ []) (tagOf the-type a)
+    → ascii "ok" ≡ answerText m op (numberIn a)
 unfolding numberIn answerText
 not-refused m op (Refused n) h = absurd (miss (1 ∷ 2 ∷ 3 ∷ 4 ∷ 5 ∷ []) 0 tt h)
 not-refused m op (Accepted f t) h = refl

@@ -8,7 +8,7 @@ ghost use Rattle.text.specs.OwnPut.{Puts};
 ghost use Rattle.device.specs.Bus.{isEvent};
 ghost use Rattle.device.specs.Reply.{numberIn};
 ghost use Rattle.item_page.specs.Page.{flightFields, temperatureFields, clockFields, fields, answerText, commandRows};
-ghost use Rattle.item_page_code.specs.OwnWords.{answerTo};
+ghost use Rattle.item_page_code.specs.OwnWords.{answerTo, textTo};
 use crate::words::word;
 use device::Answer;
 use device::Model;
@@ -62,7 +62,7 @@ fn put_longer(buf: &mut [u8], at: usize, m: Model) -> usize
 
 // A row for the frame that is one opcode.
 fn put_command(buf: &mut [u8], at: usize, m: Model, label: &[u8], op: u8) -> usize
-    ensures { λ r. ⌜ Puts (now (buf .entry)) at (ended (now (label .entry) ++ answerText m op (numberIn (answerTo m (op ∷ []))))) r (now (buf .exit)) ⌝ }
+    ensures { λ r. ⌜ Puts (now (buf .entry)) at (ended (now (label .entry) ++ textTo m op (op ∷ []))) r (now (buf .exit)) ⌝ }
 {
     let frame = [op];
     put_frame(buf, at, m, label, op as u32, &frame)
@@ -70,7 +70,7 @@ fn put_command(buf: &mut [u8], at: usize, m: Model, label: &[u8], op: u8) -> usi
 
 // A row for any frame, whose first byte is op.
 fn put_frame(buf: &mut [u8], at: usize, m: Model, label: &[u8], op: u32, frame: &[u8]) -> usize
-    ensures { λ r. ⌜ Puts (now (buf .entry)) at (ended (now (label .entry) ++ answerText m op (numberIn (answerTo m (now (frame .entry)))))) r (now (buf .exit)) ⌝ }
+    ensures { λ r. ⌜ Puts (now (buf .entry)) at (ended (now (label .entry) ++ textTo m op (now (frame .entry)))) r (now (buf .exit)) ⌝ }
 {
     let a = numeral::put_text(buf, at, label);
     let b = put_answer(buf, a, m, op, answer_to(m, frame));

@@ -42,46 +42,51 @@ pub fn put_setup(buf: &mut [u8], at: usize, words: &[u32]) -> usize
           BB     TOF4                     |$|       stored only\n\
           BC     TOF5                     |$|       stored only\n\
           BD     TOF6                     |$|       stored only\n\
-          BE     TOF7                     |$|       stored only\n\
-          BF     Event Timing 1           |$|       |",
+          BE     TOF7                     |$|       stored only\n|",
         words,
         10,
     );
-    let g = put_timing1(buf, f, words[15]);
-    let h = numeral::put_text(buf, g, b"\n");
-    put_control_rows(buf, h, words)
+    put_control_rows(buf, f, words)
 }
 
 fn put_control_rows(buf: &mut [u8], at: usize, words: &[u32]) -> usize
     requires { ⌜ length (now words) ≡ 80 ⌝ }
-    ensures { λ r. ⌜ Puts (now (buf .entry)) at (endedEach (drop 11 (setupRows (wordAt (now (words .entry)))))) r (now (buf .exit)) ⌝ }
+    ensures { λ r. ⌜ Puts (now (buf .entry)) at (endedEach (drop 10 (setupRows (wordAt (now (words .entry)))))) r (now (buf .exit)) ⌝ }
 {
     let a = put_form(
         buf,
         at,
-        b"C0     Event Timing 2           |$|       |",
+        b"BF     Event Timing 1           |$|       |",
         words,
-        16,
+        15,
     );
-    let b = put_timing2(buf, a, words[16]);
+    let b = put_timing1(buf, a, words[15]);
     let c = put_form(
         buf,
         b,
+        b"\nC0     Event Timing 2           |$|       |",
+        words,
+        16,
+    );
+    let d = put_timing2(buf, c, words[16]);
+    let e = put_form(
+        buf,
+        d,
         b"\nC1     TOF Measurement Delay    |$|       stored only\n\
           C2     Calibration and Control  |$|      |",
         words,
         17,
     );
-    let d = put_control(buf, c, words[18]);
-    let e = put_form(
+    let f = put_control(buf, e, words[18]);
+    let g = put_form(
         buf,
-        d,
+        f,
         b"\nC3     Real-Time Clock          |$|       |",
         words,
         19,
     );
-    let f = put_oscillator(buf, e, words[19]);
-    numeral::put_text(buf, f, b"\n")
+    let h = put_oscillator(buf, g, words[19]);
+    numeral::put_text(buf, h, b"\n")
 }
 
 fn put_pulses(buf: &mut [u8], at: usize, pl: u32) -> usize

@@ -1,4 +1,5 @@
-// The page of `show`, put into a lent buffer: each file puts the rows of one part of it.
+// The page of `show`, put into a lent buffer: each file puts the rows of one part of it, with their line feeds.
+// Where the page has no room nothing is said of what stands there.
 mod commands;
 mod date;
 mod fields;

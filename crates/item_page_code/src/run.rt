@@ -1,7 +1,6 @@
 // The state of the run.
 ghost use mathlib.Core.Path.{_≡_};
 ghost use Rattle.unit.specs.Choice.{pick};
-ghost use Rattle.numeral.specs.Ascii.{ascii};
 ghost use Rattle.text.specs.Text.{endedEach};
 ghost use Rattle.text.specs.OwnPut.{Puts};
 ghost use Rattle.device.specs.Event.{startsLeft};
@@ -23,7 +22,7 @@ pub fn put_run(buf: &mut [u8], at: usize, m: Model) -> usize
         at,
         b"STATE OF THE RUN\n       Initialised                         ",
     );
-    let b = put_yes(buf, a, m.initialised);
+    let b = put_either(buf, a, m.initialised, b"yes", b"no");
     let c = numeral::put_text(buf, b, b"\n       Flight measurement                  ");
     let d = put_awaited(buf, c, p);
     let e = numeral::put_text(buf, d, b"\n       Temperature measurement             ");
@@ -39,13 +38,14 @@ pub fn put_run(buf: &mut [u8], at: usize, m: Model) -> usize
     numeral::put_text(buf, s, b"\n")
 }
 
-fn put_yes(buf: &mut [u8], at: usize, holds: bool) -> usize
-    ensures { λ r. ⌜ Puts (now (buf .entry)) at (pick holds (ascii "yes") (ascii "no")) r (now (buf .exit)) ⌝ }
+// One of two texts.
+pub fn put_either(buf: &mut [u8], at: usize, holds: bool, yes: &[u8], no: &[u8]) -> usize
+    ensures { λ r. ⌜ Puts (now (buf .entry)) at (pick holds (now (yes .entry)) (now (no .entry))) r (now (buf .exit)) ⌝ }
 {
     if holds {
-        return numeral::put_text(buf, at, b"yes");
+        return numeral::put_text(buf, at, yes);
     }
-    numeral::put_text(buf, at, b"no")
+    numeral::put_text(buf, at, no)
 }
 
 fn put_awaited(buf: &mut [u8], at: usize, k: Schedule) -> usize

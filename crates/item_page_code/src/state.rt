@@ -1,15 +1,16 @@
 // The status, and the rows after it.
 ghost use mathlib.Core.Path.{_≡_};
-ghost use mathlib.Core.List.{[], _∷_};
+ghost use mathlib.Core.List.{_∷_};
 ghost use Prim.Native.Nat.{_%_, _<_};
 ghost use lib.Dec.{leb, eqb};
 ghost use lib.ListN.{length};
-ghost use Rattle.unit.specs.Choice.{pick, both, negate};
+ghost use Rattle.unit.specs.Choice.{both, negate};
 ghost use Rattle.numeral.specs.Ascii.{ascii};
 ghost use Rattle.text.specs.Text.{spacedEach, endedEach};
 ghost use Rattle.text.specs.OwnPut.{Puts};
-ghost use Rattle.item_page.specs.Row.{absentRow};
-ghost use Rattle.item_page.specs.Registers.{highNames, lowNames, statusRows, supplyRow};
+ghost use Rattle.item_page.specs.Registers.{highNames, lowNames, statusRows};
+ghost use Rattle.item_page_code.specs.OwnWords.{lastRows};
+use crate::run::put_either;
 use item_page_form::put_form;
 
 // With the heading.
@@ -101,11 +102,11 @@ fn low_count(w: u32) -> u32
 
 // The rows after the status.
 pub fn put_last(buf: &mut [u8], at: usize, on: bool, w: u32) -> usize
-    ensures { λ r. ⌜ Puts (now (buf .entry)) at (endedEach (supplyRow on ∷ absentRow "FF     Control                  " w ∷ [])) r (now (buf .exit)) ⌝ }
+    ensures { λ r. ⌜ Puts (now (buf .entry)) at (endedEach (lastRows on w)) r (now (buf .exit)) ⌝ }
 {
     let values = [w];
     let a = numeral::put_text(buf, at, b"       Flash supply                        ");
-    let b = put_on(buf, a, on);
+    let b = put_either(buf, a, on, b"on", b"off");
     put_form(
         buf,
         b,
@@ -113,13 +114,4 @@ pub fn put_last(buf: &mut [u8], at: usize, on: bool, w: u32) -> usize
         &values,
         0,
     )
-}
-
-fn put_on(buf: &mut [u8], at: usize, on: bool) -> usize
-    ensures { λ r. ⌜ Puts (now (buf .entry)) at (pick on (ascii "on") (ascii "off")) r (now (buf .exit)) ⌝ }
-{
-    if on {
-        return numeral::put_text(buf, at, b"on");
-    }
-    numeral::put_text(buf, at, b"off")
 }

@@ -5,8 +5,8 @@ ghost use lib.ListN.{length, drop};
 ghost use Rattle.unit.specs.Choice.{both};
 ghost use Rattle.text.specs.Text.{endedEach};
 ghost use Rattle.text.specs.OwnPut.{Puts};
-ghost use Rattle.item_page.specs.Registers.{blanked, differenceText, flightRows, temperatureRows};
-ghost use Rattle.item_page_code.specs.OwnWords.{wordAt, pairAt};
+ghost use Rattle.item_page.specs.Registers.{blanked, differenceText};
+ghost use Rattle.item_page_code.specs.OwnWords.{flightBy, temperatureBy};
 use item_page_form::pair_of;
 use item_page_form::put_form;
 use item_page_form::put_signed_time;
@@ -16,7 +16,7 @@ const BLANKED: u32 = 4294967295;
 
 pub fn put_flight(buf: &mut [u8], at: usize, words: &[u32]) -> usize
     requires { ⌜ length (now words) ≡ 80 ⌝ }
-    ensures { λ r. ⌜ Puts (now (buf .entry)) at (endedEach (flightRows (wordAt (now (words .entry))) (pairAt (now (words .entry))))) r (now (buf .exit)) ⌝ }
+    ensures { λ r. ⌜ Puts (now (buf .entry)) at (endedEach (flightBy (now (words .entry)))) r (now (buf .exit)) ⌝ }
 {
     let a = put_form(
         buf,
@@ -46,7 +46,7 @@ pub fn put_flight(buf: &mut [u8], at: usize, words: &[u32]) -> usize
 
 fn put_differences(buf: &mut [u8], at: usize, words: &[u32]) -> usize
     requires { ⌜ length (now words) ≡ 80 ⌝ }
-    ensures { λ r. ⌜ Puts (now (buf .entry)) at (endedEach (drop 17 (flightRows (wordAt (now (words .entry))) (pairAt (now (words .entry)))))) r (now (buf .exit)) ⌝ }
+    ensures { λ r. ⌜ Puts (now (buf .entry)) at (endedEach (drop 17 (flightBy (now (words .entry))))) r (now (buf .exit)) ⌝ }
 {
     let a = put_form(
         buf,
@@ -74,7 +74,7 @@ fn put_differences(buf: &mut [u8], at: usize, words: &[u32]) -> usize
 }
 
 pub fn put_temperatures(buf: &mut [u8], at: usize, words: &[u32]) -> usize
-    ensures { λ r. ⌜ Puts (now (buf .entry)) at (endedEach (temperatureRows (wordAt (now (words .entry))) (pairAt (now (words .entry))))) r (now (buf .exit)) ⌝ }
+    ensures { λ r. ⌜ Puts (now (buf .entry)) at (endedEach (temperatureBy (now (words .entry)))) r (now (buf .exit)) ⌝ }
 {
     put_form(
         buf,

@@ -3,7 +3,6 @@
 use Prim.Native.Nat.{_-_}
 use mathlib.Core.Path.{sym, _∙_}
 use native.Mathlib.Omega.{arith}
-use borrow.Author.Needs.{needs}
 use Rattle.text.specs.OwnPart.{part}
 use Rattle.item_line_code.proofs.PartLaws.{Looked, looked-first, looked-next, looked-found, looked-all, looked-end}
 use Rattle.item_line_code.proofs.parts.cut.Statement.{statement}

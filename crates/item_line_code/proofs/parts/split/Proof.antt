@@ -1,6 +1,5 @@
 -- `item_line_code::parts::split` meets its contract. Assumes nothing.
 use mathlib.Core.Path.{sym, _∙_}
-use native.Mathlib.Omega.{arith}
 use Rattle.numeral.specs.Ascii.{ascii}
 use Rattle.text.specs.OwnPart.{part}
 use Rattle.item_line_code.proofs.PartLaws.{split-none, split-comment, split-mark}

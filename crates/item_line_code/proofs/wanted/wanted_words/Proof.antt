@@ -1,8 +1,7 @@
 -- `item_line_code::wanted::wanted_words` meets its contract. Assumes nothing.
 use Prim.Native.Nat.{_-_, _≤_}
-use mathlib.Core.Path.{_≡_, sym, _∙_}
+use mathlib.Core.Path.{sym, _∙_}
 use native.Mathlib.Omega.{arith}
-use borrow.Author.Needs.{needs}
 use Rattle.text.specs.Text.{words}
 use Rattle.text.specs.OwnPart.{part}
 use Rattle.text_code.specs.OwnWords.{between}

@@ -1,7 +1,7 @@
 -- `item_page_code::commands::put_answer` meets its contract. Assumes nothing.
 use Rattle.numeral.specs.Ascii.{ascii}
 use Rattle.text.proofs.Putting.{puts}
-use Rattle.item_page_code.proofs.Rows.{put-text, put-same, not-refused}
+use Rattle.item_page_code.proofs.Rows.{put-same, not-refused}
 use Rattle.device.specs.Reply.{numberIn}
 use borrow.Author.Needs.{needs}
 use Rattle.item_page_code.proofs.commands.put_answer.Statement.{statement}

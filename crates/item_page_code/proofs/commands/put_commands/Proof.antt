@@ -5,7 +5,6 @@ use Rattle.text.specs.Text.{ended, endedEach}
 use Rattle.text.proofs.Putting.{puts-then, puts-first}
 use Rattle.item_page.specs.Page.{frameRow, commandRows}
 use Rattle.item_page_code.specs.OwnWords.{answerTo}
-use Rattle.item_page_code.proofs.Rows.{put-text}
 use borrow.Author.Needs.{needs}
 use Rattle.item_page_code.proofs.commands.put_commands.Statement.{statement}
 use Rattle.item_page_code.proofs.commands.put_commands.Tie as tie

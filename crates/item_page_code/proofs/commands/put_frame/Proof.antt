@@ -1,7 +1,6 @@
 -- `item_page_code::commands::put_frame` meets its contract. Assumes nothing.
 use Rattle.text.specs.Text.{ended}
 use Rattle.text.proofs.Putting.{puts, puts-then, puts-last}
-use Rattle.item_page_code.proofs.Rows.{put-text}
 use borrow.Author.Needs.{needs}
 use Rattle.item_page_code.proofs.commands.put_frame.Statement.{statement}
 use Rattle.item_page_code.proofs.commands.put_frame.Tie as tie

@@ -4,7 +4,6 @@ use Rattle.numeral.specs.Ascii.{ascii}
 use Rattle.text.specs.Text.{textWhere}
 use Rattle.text.proofs.Putting.{puts-none, puts-then, puts-first}
 use Rattle.item_page.specs.Page.{answerText}
-use Rattle.item_page_code.proofs.Rows.{put-text}
 use borrow.Author.Needs.{needs}
 use Rattle.item_page_code.proofs.commands.put_refused.Statement.{statement}
 use Rattle.item_page_code.proofs.commands.put_refused.Tie as tie

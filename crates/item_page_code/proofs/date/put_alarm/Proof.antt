@@ -3,7 +3,6 @@ use borrow.Author.Tests.{eq-eqb, ne-eqb}
 use Rattle.numeral.specs.Ascii.{ascii}
 use Rattle.text.proofs.Putting.{puts}
 use Rattle.item_page.specs.Registers.{alarmText}
-use Rattle.item_page_code.proofs.Rows.{put-text}
 use borrow.Author.Needs.{needs}
 use Rattle.item_page_code.proofs.date.put_alarm.Statement.{statement}
 use Rattle.item_page_code.proofs.date.put_alarm.Tie as tie

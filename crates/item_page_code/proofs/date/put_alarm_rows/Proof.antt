@@ -7,7 +7,7 @@ use Rattle.item_page.specs.Row.{storedRow}
 use Rattle.item_page.specs.Registers.{clockRows, timeOfDay, halfDay, alarmText}
 use Rattle.item_page_form.specs.OwnForm.{pieceThen, takes, filled}
 use Rattle.item_page_code.specs.OwnWords.{wordAt}
-use Rattle.item_page_code.proofs.Rows.{part, _and_, register, no-rows, put-rows, put-text}
+use Rattle.item_page_code.proofs.Rows.{part, _and_, register, no-rows, put-rows}
 use borrow.Author.Needs.{needs}
 use Rattle.item_page_code.proofs.date.put_alarm_rows.Statement.{statement}
 use Rattle.item_page_code.proofs.date.put_alarm_rows.Tie as tie

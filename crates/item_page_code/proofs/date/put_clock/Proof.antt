@@ -9,7 +9,7 @@ use Rattle.numeral.specs.Digit.{digits}
 use Rattle.item_page.specs.Registers.{clockRows, seconds, timeOfDay, halfDay, clockText}
 use Rattle.item_page_form.specs.OwnForm.{pieceThen, takes, filled}
 use Rattle.item_page_code.specs.OwnWords.{wordAt}
-use Rattle.item_page_code.proofs.Rows.{part, _and_, register, row, put-rows, put-text, rows-are}
+use Rattle.item_page_code.proofs.Rows.{part, _and_, register, row, put-rows, rows-are}
 use borrow.Author.Needs.{needs}
 use Rattle.item_page_code.proofs.date.put_clock.Statement.{statement}
 use Rattle.item_page_code.proofs.date.put_clock.Tie as tie

@@ -3,7 +3,6 @@ use borrow.Author.Tests.{eq-eqb, ne-eqb}
 use Rattle.numeral.specs.Ascii.{ascii}
 use Rattle.text.proofs.Putting.{puts, puts-none}
 use Rattle.item_page.specs.Registers.{halfDay}
-use Rattle.item_page_code.proofs.Rows.{put-text}
 use borrow.Author.Needs.{needs}
 use Rattle.item_page_code.proofs.date.put_half.Statement.{statement}
 use Rattle.item_page_code.proofs.date.put_half.Tie as tie

@@ -1,8 +1,7 @@
 -- `item_page_code::date::put_time` meets its contract. Assumes nothing.
 use Rattle.numeral.specs.Ascii.{ascii}
 use Rattle.text.proofs.Putting.{puts, puts-last}
-use Rattle.item_page.specs.Registers.{hours, timeOfDay}
-use Rattle.item_page_code.proofs.Rows.{put-text}
+use Rattle.item_page.specs.Registers.{timeOfDay}
 use borrow.Author.Needs.{needs}
 use Rattle.item_page_code.proofs.date.put_time.Statement.{statement}
 use Rattle.item_page_code.proofs.date.put_time.Tie as tie

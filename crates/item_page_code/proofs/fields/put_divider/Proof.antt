@@ -3,7 +3,6 @@ use borrow.Author.Tests.{eq-eqb, ne-eqb}
 use Rattle.numeral.specs.Ascii.{ascii}
 use Rattle.text.proofs.Putting.{puts, puts-first}
 use Rattle.item_page.specs.Registers.{divider}
-use Rattle.item_page_code.proofs.Rows.{put-text}
 use borrow.Author.Needs.{needs}
 use Rattle.item_page_code.proofs.fields.put_divider.Statement.{statement}
 use Rattle.item_page_code.proofs.fields.put_divider.Tie as tie

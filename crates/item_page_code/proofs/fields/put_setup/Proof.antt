@@ -1,15 +1,13 @@
 -- `item_page_code::fields::put_setup` meets its contract. Assumes nothing.
-use mathlib.Core.Path.{_∙_}
-use native.Mathlib.Omega.{arith}
 use lib.ListN.{drop}
 use Rattle.unit.specs.Bits.{bits}
 use Rattle.numeral.specs.Ascii.{ascii}
-use Rattle.text.proofs.Putting.{puts-then, puts-first}
+use Rattle.text.proofs.Putting.{puts-then}
 use Rattle.item_page.specs.Row.{storedRow}
-use Rattle.item_page.specs.Registers.{setupRows, pulses, divider, hitsText, timing1Text}
+use Rattle.item_page.specs.Registers.{setupRows, pulses, divider, hitsText}
 use Rattle.item_page_form.specs.OwnForm.{pieceThen, takes, filled}
 use Rattle.item_page_code.specs.OwnWords.{wordAt}
-use Rattle.item_page_code.proofs.Rows.{part, _and_, register, row, put-rows, put-text, rows-are}
+use Rattle.item_page_code.proofs.Rows.{part, _and_, register, row, put-rows, rows-are}
 use borrow.Author.Needs.{needs}
 use Rattle.item_page_code.proofs.fields.put_setup.Statement.{statement}
 use Rattle.item_page_code.proofs.fields.put_setup.Tie as tie
@@ -50,27 +48,15 @@ slice-aggregate-put-form-3 c = search needs
 put-form-requires-3 : tie.Need-put-form-requires-3
 put-form-requires-3 c κs = search needs
 
-shared-slice-read-put-timing1 : tie.Need-shared-slice-read-put-timing1
-shared-slice-read-put-timing1 c = omega (arith, c .before .before .before .before .before .before .before .before .before .before .before .before .before .before .before .before .before .before .before .before .before .before .before .before .before .before .before .before .before .before .before .before .before .before .pre)
-
-put-timing1-requires : tie.Need-put-timing1-requires
-put-timing1-requires c κs = search needs
-
-slice-aggregate-put-text : tie.Need-slice-aggregate-put-text
-slice-aggregate-put-text c = search needs
-
-put-text-requires : tie.Need-put-text-requires
-put-text-requires c κs = search needs
-
 put-control-rows-requires : tie.Need-put-control-rows-requires
-put-control-rows-requires c κs = c .before .before .before .before .before .before .before .before .before .before .before .before .before .before .before .before .before .before .before .before .before .before .before .before .before .before .before .before .before .before .before .before .before .before .before .before .before .before .before .before .before .before .before .pre
+put-control-rows-requires c κs = c .before .before .before .before .before .before .before .before .before .before .before .before .before .before .before .before .before .before .before .before .before .before .before .before .before .before .before .before .before .before .before .before .before .pre
 
 same-length : tie.Need-same-length
-same-length c = c .before .before .put-control-rows .kept .0 ∙ c .before .before .before .before .before .before .put-text .kept .0 ∙ c .before .before .before .before .before .before .before .before .before .before .before .put-timing1 .kept .0 ∙ c .before .before .before .before .before .before .before .before .before .before .before .before .before .before .before .before .put-form3 .kept .0 ∙ c .before .before .before .before .before .before .before .before .before .before .before .before .before .before .before .before .before .before .before .before .before .put-hits .kept .0 ∙ c .before .before .before .before .before .before .before .before .before .before .before .before .before .before .before .before .before .before .before .before .before .before .before .before .before .before .put-form2 .kept .0 ∙ c .before .before .before .before .before .before .before .before .before .before .before .before .before .before .before .before .before .before .before .before .before .before .before .before .before .before .before .before .before .before .before .put-divider .kept .0 ∙ c .before .before .before .before .before .before .before .before .before .before .before .before .before .before .before .before .before .before .before .before .before .before .before .before .before .before .before .before .before .before .before .before .before .before .before .before .put-pulses .kept .0 ∙ c .before .before .before .before .before .before .before .before .before .before .before .before .before .before .before .before .before .before .before .before .before .before .before .before .before .before .before .before .before .before .before .before .before .before .before .before .before .before .before .before .before .put-form .kept .0
+same-length c = search needs
 
 returns : tie.Need-returns
 unfolding ascii pieceThen takes filled storedRow setupRows
-returns c = put-rows (setupRows (wordAt (c .before .before .before .before .before .before .before .before .before .before .before .before .before .before .before .before .before .before .before .before .before .before .before .before .before .before .before .before .before .before .before .before .before .before .before .before .before .before .before .before .before .before .before .before .before .before .args .words .now))) (c .before .before .before .before .before .before .before .before .before .before .before .before .before .before .before .before .before .before .before .before .before .before .before .before .before .before .before .before .before .before .before .before .before .before .before .before .before .before .before .before .before .put-form .ensures .on _ _ _ (puts-then (c .before .before .before .before .before .before .before .before .before .before .before .before .before .before .before .before .before .before .before .before .before .before .before .before .before .before .before .before .before .before .before .before .before .before .before .before .put-pulses .ensures) (puts-then (c .before .before .before .before .before .before .before .before .before .before .before .before .before .before .before .before .before .before .before .before .before .before .before .before .before .before .before .before .before .before .before .put-divider .ensures) (c .before .before .before .before .before .before .before .before .before .before .before .before .before .before .before .before .before .before .before .before .before .before .before .before .before .before .put-form2 .ensures .on _ _ _ (puts-then (c .before .before .before .before .before .before .before .before .before .before .before .before .before .before .before .before .before .before .before .before .before .put-hits .ensures) (c .before .before .before .before .before .before .before .before .before .before .before .before .before .before .before .before .put-form3 .ensures .on _ _ _ (puts-then (c .before .before .before .before .before .before .before .before .before .before .before .put-timing1 .ensures) (puts-first (c .before .before .before .before .before .before .put-text .ensures) (c .before .before .put-control-rows .ensures))))))))) (row (part (ascii "CONFIGURATION REGISTERS")) (register _ _ (part (ascii "stored only")) (register _ _ (part (ascii "stored only")) (register _ _ (part (pulses (bits 15 8 (wordAt (c .before .before .before .before .before .before .before .before .before .before .before .before .before .before .before .before .before .before .before .before .before .before .before .before .before .before .before .before .before .before .before .before .before .before .before .before .before .before .before .before .before .before .before .before .before .before .args .words .now) 0xB8))) and part (divider (bits 7 4 (wordAt (c .before .before .before .before .before .before .before .before .before .before .before .before .before .before .before .before .before .before .before .before .before .before .before .before .before .before .before .before .before .before .before .before .before .before .before .before .before .before .before .before .before .before .before .before .before .before .args .words .now) 0xB8)))) (register _ _ (part (hitsText (wordAt (c .before .before .before .before .before .before .before .before .before .before .before .before .before .before .before .before .before .before .before .before .before .before .before .before .before .before .before .before .before .before .before .before .before .before .before .before .before .before .before .before .before .before .before .before .before .before .args .words .now) 0xB9))) (register _ _ (part (ascii "stored only")) (register _ _ (part (ascii "stored only")) (register _ _ (part (ascii "stored only")) (register _ _ (part (ascii "stored only")) (register _ _ (part (ascii "stored only")) (register _ _ (part (timing1Text (wordAt (c .before .before .before .before .before .before .before .before .before .before .before .before .before .before .before .before .before .before .before .before .before .before .before .before .before .before .before .before .before .before .before .before .before .before .before .before .before .before .before .before .before .before .before .before .before .before .args .words .now) 0xBF))) (rows-are (drop 11 (setupRows (wordAt (c .before .before .before .before .before .before .before .before .before .before .before .before .before .before .before .before .before .before .before .before .before .before .before .before .before .before .before .before .before .before .before .before .before .before .before .before .before .before .before .before .before .before .before .before .before .before .args .words .now))))))))))))))))
+returns c = put-rows (setupRows (wordAt (c .before .before .before .before .before .before .before .before .before .before .before .before .before .before .before .before .before .before .before .before .before .before .before .before .before .before .before .before .before .before .before .before .before .before .before .before .args .words .now))) (c .before .before .before .before .before .before .before .before .before .before .before .before .before .before .before .before .before .before .before .before .before .before .before .before .before .before .before .before .before .before .before .put-form .ensures .on _ _ _ (puts-then (c .before .before .before .before .before .before .before .before .before .before .before .before .before .before .before .before .before .before .before .before .before .before .before .before .before .before .put-pulses .ensures) (puts-then (c .before .before .before .before .before .before .before .before .before .before .before .before .before .before .before .before .before .before .before .before .before .put-divider .ensures) (c .before .before .before .before .before .before .before .before .before .before .before .before .before .before .before .before .put-form2 .ensures .on _ _ _ (puts-then (c .before .before .before .before .before .before .before .before .before .before .before .put-hits .ensures) (c .before .before .before .before .before .before .put-form3 .ensures .on _ _ _ (c .before .before .put-control-rows .ensures))))))) (row (part (ascii "CONFIGURATION REGISTERS")) (register _ _ (part (ascii "stored only")) (register _ _ (part (ascii "stored only")) (register _ _ (part (pulses (bits 15 8 (wordAt (c .before .before .before .before .before .before .before .before .before .before .before .before .before .before .before .before .before .before .before .before .before .before .before .before .before .before .before .before .before .before .before .before .before .before .before .before .args .words .now) 0xB8))) and part (divider (bits 7 4 (wordAt (c .before .before .before .before .before .before .before .before .before .before .before .before .before .before .before .before .before .before .before .before .before .before .before .before .before .before .before .before .before .before .before .before .before .before .before .before .args .words .now) 0xB8)))) (register _ _ (part (hitsText (wordAt (c .before .before .before .before .before .before .before .before .before .before .before .before .before .before .before .before .before .before .before .before .before .before .before .before .before .before .before .before .before .before .before .before .before .before .before .before .args .words .now) 0xB9))) (register _ _ (part (ascii "stored only")) (register _ _ (part (ascii "stored only")) (register _ _ (part (ascii "stored only")) (register _ _ (part (ascii "stored only")) (register _ _ (part (ascii "stored only")) (rows-are (drop 10 (setupRows (wordAt (c .before .before .before .before .before .before .before .before .before .before .before .before .before .before .before .before .before .before .before .before .before .before .before .before .before .before .before .before .before .before .before .before .before .before .before .before .args .words .now)))))))))))))))
 
 pub put-setup-spec : {M : Type 1} → statement M
 put-setup-spec =
@@ -88,10 +74,6 @@ put-setup-spec =
     put-hits-requires
     slice-aggregate-put-form-3
     put-form-requires-3
-    shared-slice-read-put-timing1
-    put-timing1-requires
-    slice-aggregate-put-text
-    put-text-requires
     put-control-rows-requires
     same-length
     returns)

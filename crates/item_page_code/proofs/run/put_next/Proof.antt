@@ -3,7 +3,7 @@ use mathlib.Core.Path.{sym, _∙_}
 use Rattle.numeral.specs.Ascii.{ascii}
 use Rattle.text.proofs.Putting.{puts, puts-none, puts-then}
 use Rattle.item_page.specs.Page.{nextText}
-use Rattle.item_page_code.proofs.Rows.{put-text, put-same, next-on, next-group}
+use Rattle.item_page_code.proofs.Rows.{put-same, next-on, next-group}
 use borrow.Author.Needs.{needs}
 use Rattle.item_page_code.proofs.run.put_next.Statement.{statement}
 use Rattle.item_page_code.proofs.run.put_next.Tie as tie

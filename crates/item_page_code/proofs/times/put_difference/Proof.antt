@@ -2,7 +2,6 @@
 use Rattle.numeral.specs.Ascii.{ascii}
 use Rattle.text.proofs.Putting.{puts}
 use Rattle.item_page.specs.Registers.{differenceText}
-use Rattle.item_page_code.proofs.Rows.{put-text}
 use borrow.Author.Needs.{needs}
 use Rattle.item_page_code.proofs.times.put_difference.Statement.{statement}
 use Rattle.item_page_code.proofs.times.put_difference.Tie as tie

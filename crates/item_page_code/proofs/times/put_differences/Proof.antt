@@ -6,7 +6,7 @@ use Rattle.numeral.specs.Print.{decimal}
 use Rattle.item_page.specs.Registers.{signedTime, differenceText, countRow, flightRows}
 use Rattle.item_page_form.specs.OwnForm.{pieceThen, takes, filled}
 use Rattle.item_page_code.specs.OwnWords.{wordAt, pairAt}
-use Rattle.item_page_code.proofs.Rows.{part, _and_, register, pair, no-rows, put-rows, put-text, put-as, put-as-two}
+use Rattle.item_page_code.proofs.Rows.{part, _and_, register, pair, no-rows, put-rows, put-as, put-as-two}
 use borrow.Author.Needs.{needs}
 use Rattle.item_page_code.proofs.times.put_differences.Statement.{statement}
 use Rattle.item_page_code.proofs.times.put_differences.Tie as tie

@@ -16,7 +16,7 @@ use Rattle.item_line.specs.Reading.{lineOf}
 use Rattle.item_answer.specs.Answer.{Item}
 use Rattle.item_answer.specs.Step.{Step, step}
 use Rattle.item_replay.specs.Replay.{plus}
-use Rattle.item_replay.specs.Going.{Rest, ticks, Going, steps, expectedOf, restStep, comingAfter, coming, total, joined, Went}
+use Rattle.item_replay.specs.Going.{Rest, ticks, Going, steps, expectedOf, restStep, comingAfter, coming, total, allSteps, Went}
 use Rattle.item_replay.specs.OwnFeed.{hasFeed, beforeFeed, afterFeed}
 use Rattle.item_replay.specs.OwnTurn.{held, doneWith, within, Parts}
 use Rattle.item_replay.proofs.Capped.{alike, alike-step}
@@ -63,14 +63,14 @@ all-line t h = subst (Each InLine) (no-feed t h) (before-line t)
 
 -- after a line that is done nothing has begun
 goes-on : (g : Going) (s : Step) (more : Text)
-    → joined [] [] (coming (doneWith g s) more) ≡ steps (g .number + 1) (linesAfter [] more) (s .item)
+    → allSteps [] [] (coming (doneWith g s) more) ≡ steps (g .number + 1) (linesAfter [] more) (s .item)
 unfolding coming comingAfter
 goes-on g s more = join-none (steps (g .number + 1) (linesAfter [] more) (s .item))
 
 -- a step in two parts, before what follows it
 parts-same : (s : Step) (part : Text) (left : Step) → Parts s part left → (rest : Item → List Step)
-    → s ∷ rest (s .item) ≡ joined [] part (left ∷ rest (left .item))
-unfolding joined
+    → s ∷ rest (s .item) ≡ allSteps [] part (left ∷ rest (left .item))
+unfolding allSteps
 parts-same s part left p rest = rw (p .text, p .item, p .adds)
 
 -- the step of a line that ends, by the bytes that are kept of it
@@ -112,7 +112,7 @@ line-comes n most g piece more quiet h =
 pub went-line : (n : ℕ) → 1002 ≤ n → (g : Going) (piece : Text) → g .rest ≡ Rest.none → hasFeed piece ≡ true
     → let s = step (g .number) (take n (g .begun ++ beforeFeed piece)) (g .item) in
     Went g piece (length (beforeFeed piece) + 1) (s ∷ []) [] (doneWith g s)
-unfolding total joined
+unfolding total allSteps
 went-line n most g piece quiet h =
     let s = step (g .number) (take n (g .begun ++ beforeFeed piece)) (g .item) in record {
       steps = λ more.
@@ -129,7 +129,7 @@ pub went-begun : (n : ℕ) → 1002 ≤ n → (g : Going) (piece : Text) → g .
     → let line = take n (g .begun ++ beforeFeed piece) in
     Parts (step (g .number) line (g .item)) part (restStep left next differs (expectedOf (lineOf line)) i)
     → Went g piece (length (beforeFeed piece) + 1) [] part (within g line i left next differs)
-unfolding total joined coming comingAfter
+unfolding total allSteps coming comingAfter
 went-begun n most g piece quiet h part i left next differs p =
     let line = take n (g .begun ++ beforeFeed piece) in
     let r = restStep left next differs (expectedOf (lineOf line)) i in record {
@@ -147,7 +147,7 @@ pub went-more : (g : Going) (piece : Text) (left next : ℕ) (differs : Bool) �
     → let x = expectedOf (lineOf (g .begun)) in
     Parts (restStep left next differs x (g .item)) part (restStep left′ next′ differs x i)
     → Went g piece 0 [] part (within g (g .begun) i left′ next′ differs)
-unfolding total joined coming comingAfter
+unfolding total allSteps coming comingAfter
 went-more g piece left next differs under part i left′ next′ p =
     let x = expectedOf (lineOf (g .begun)) in record {
       steps = λ more.
@@ -161,7 +161,7 @@ went-more g piece left next differs under part i left′ next′ p =
 -- All of them have.
 pub went-over : (g : Going) (piece : Text) (left next : ℕ) (differs : Bool) → g .rest ≡ ticks left next differs
     → let s = restStep left next differs (expectedOf (lineOf (g .begun))) (g .item) in Went g piece 0 (s ∷ []) [] (doneWith g s)
-unfolding total joined coming comingAfter
+unfolding total allSteps coming comingAfter
 went-over g piece left next differs under =
     let s = restStep left next differs (expectedOf (lineOf (g .begun))) (g .item) in record {
       steps = λ more. rw under (ap (λ ss. s ∷ ss) (sym (join-none (steps (g .number + 1) (linesAfter [] (piece ++ more)) (s .item)))));

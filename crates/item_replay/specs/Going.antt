@@ -86,13 +86,13 @@ toWrite g text = let ss = coming g text in texts ss ++ ended (lastLine (total (g
 -- ---- a piece
 
 -- Steps that are done, the part of one that is under way, and those that are still to come, the rest of that one first.
-unfoldable pub joined : List Step → Text → List Step → List Step
-joined [] part [] = []
-joined [] part (s ∷ ss) = record { text = part ++ s .text; item = s .item; adds = s .adds } ∷ ss
-joined (d ∷ ds) part ss = d ∷ joined ds part ss
+unfoldable pub allSteps : List Step → Text → List Step → List Step
+allSteps [] part [] = []
+allSteps [] part (s ∷ ss) = record { text = part ++ s .text; item = s .item; adds = s .adds } ∷ ss
+allSteps (d ∷ ds) part ss = d ∷ allSteps ds part ss
 
 -- A piece was given to g: so many bytes of it were taken, these steps were done, a part of the next one was written, and h goes on.
 pub record Went (g : Going) (piece : Text) (taken : ℕ) (done : List Step) (part : Text) (h : Going) : Type 0 where
-  pub steps : (more : Text) → coming g (piece ++ more) ≡ joined done part (coming h (drop taken piece ++ more))
+  pub steps : (more : Text) → coming g (piece ++ more) ≡ allSteps done part (coming h (drop taken piece ++ more))
   pub tally : h .tally ≡ total (g .tally) done
   pub most : taken ≤ length piece

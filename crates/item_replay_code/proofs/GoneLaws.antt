@@ -262,6 +262,10 @@ less-left text state taken used ls fs ds es l t ls′ fs′ ds′ es′ l′ u =
     (λ z e. rw (m, e, eq-eqb _ 0 (u .quiet m)) (omega (arith, u .low, u .high))))
     (λ m. rw m (omega arith))
 
+pub less-next : (text : Text) (state : State) (taken : ℕ) (t : Turn) (more : Bool) {used : ℕ} {ls fs : List ℕ} {ds : List ℤ} {es l : List ℕ} {ls′ fs′ : List ℕ} {ds′ : List ℤ} {es′ l′ : List ℕ}
+    → more ≡ true → Turns text taken state ls fs ds es l used t ls′ fs′ ds′ es′ l′ → leftOver text (t .state) (t .taken) (t .more) < leftOver text state taken more
+less-next text state taken t more m u = rw m (less-left text state taken _ _ _ _ _ _ t _ _ _ _ _ u)
+
 -- After the last turn.
 pub gone : (text : Text) (s : State) (ls fs : List ℕ) (ds : List ℤ) (es l ms : List ℕ) (state : State) (taken used count : ℕ) (more : Bool) (ls′ fs′ : List ℕ) (ds′ : List ℤ) (es′ l′ ms′ : List ℕ)
     → Sofar text s ls fs ds es l ms state taken used count more ls′ fs′ ds′ es′ l′ ms′

@@ -4,3 +4,4 @@ pub mod StateLaws
 pub mod TurnLaws
 pub mod GoneLaws
 pub mod PieceLaws
+pub mod LineLaws

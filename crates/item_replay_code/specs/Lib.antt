@@ -3,3 +3,4 @@ pub mod OwnRest
 pub mod OwnState
 pub mod OwnTurn
 pub mod OwnGone
+pub mod OwnLine

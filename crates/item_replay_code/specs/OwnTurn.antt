@@ -145,6 +145,8 @@ pub record Begins (s : State) (bytes : ℕ) (r : State) : Type 0 where
   pub carried : r .carried ≡ s .carried
   pub counts : r .counts ≡ s .counts
   pub begun : r .begun ≡ bytes
+  pub left : r .left .0 ≡ s .left .0
+  pub next : r .next ≡ s .next
 
 -- A line of n ticks, the first of them tick `first`, is begun after its first word with a blank: it is done, or goes on.
 pub record TicksTurn (s : State) (to : ℕ) (word : Text) (number n first : ℕ) (x : Expected) (l : List ℕ) (at : ℕ) (t : Turn) (l′ : List ℕ) : Type 0 where

@@ -1,16 +1,21 @@
 // The code of `item_replay`: a piece of a text is answered line by line, with what a replay keeps between pieces in lent lists.
 mod after;
 mod count;
+mod ended;
 mod going;
 mod hold;
 mod lines;
 mod rest;
+mod sorts;
 mod ticks;
+mod turning;
 mod under;
 
 pub use hold::HELD;
 use item_answer::Carried;
 use item_answer::Counts;
+use item_line::ExpectedRead;
+pub use lines::go;
 use unit::Ticks;
 
 // What a replay keeps between pieces of its text, beside the lists that are lent: the number of the line that comes next or is under way, the
@@ -64,4 +69,12 @@ pub struct RestRan {
 pub struct TicksBegun {
     pub rest: RestRan,
     pub differs: bool,
+}
+
+// What a line that was read asks of its turn: to run ticks, to put the page, or neither.
+pub enum Sort {
+    Tick(Ticks, ExpectedRead),
+    At(Ticks, ExpectedRead),
+    Show,
+    Other,
 }

@@ -13,7 +13,7 @@ pub use places::{asked, is_several};
 pub use words::{begin, is_open, next};
 
 // What the arguments ask for.
-#[derive(Drop)]
+#[derive(Clone, Copy)]
 pub struct Options {
     pub check: bool,
     // How many files there are, or 0 where that is not told.
@@ -26,7 +26,7 @@ pub struct Options {
 }
 
 // Which word can come next.
-#[derive(Drop)]
+#[derive(Clone, Copy)]
 pub enum Stage {
     // `--check`, or what can stand behind it.
     Check,
@@ -45,7 +45,7 @@ pub enum Stage {
 }
 
 // The options that the words so far have.
-#[derive(Drop)]
+#[derive(Clone, Copy)]
 pub struct Found {
     pub check: bool,
     // `--of` is there; and its number, or 0.
@@ -58,7 +58,7 @@ pub struct Found {
 }
 
 // How far the words are read.
-#[derive(Drop)]
+#[derive(Clone, Copy)]
 pub struct Reading {
     pub stage: Stage,
     pub found: Found,

@@ -5,7 +5,7 @@ use unit::Ticks;
 
 // Years count from 2000, hours go from 0 to 23. The second holds `ticks` of the 32,768 Hz clock. `twelve` is the form in
 // which 31h reads the hours, 12-hour or 24-hour; nothing else depends on it.
-#[derive(Drop)]
+#[derive(Clone, Copy)]
 pub struct Clock {
     pub year: u32,
     pub month: u32,

@@ -5,7 +5,7 @@
 use device::Model;
 
 // One call of a list: its kind, and two sizes.
-#[derive(Drop)]
+#[derive(Clone, Copy)]
 pub struct Entry {
     pub kind: u32,
     pub first: u32,
@@ -13,7 +13,7 @@ pub struct Entry {
 }
 
 // How far a list is done: calls, bytes of frames, hit words, bytes of the output.
-#[derive(Drop)]
+#[derive(Clone, Copy)]
 pub struct Place {
     pub calls: usize,
     pub frames: usize,
@@ -22,7 +22,7 @@ pub struct Place {
 }
 
 // The model so far, and how far the list is done.
-#[derive(Drop)]
+#[derive(Clone, Copy)]
 pub struct Progress {
     pub model: Model,
     pub place: Place,

@@ -1,5 +1,5 @@
 -- What the definitions of `Close` come to, place by place. Assumes nothing.
-use Prim.Native.Nat.{ℕ, suc, ◌+◌, ◌≤◌, ◌<◌}
+use Prim.Native.Nat.{ℕ, suc, ◌+◌, ◌-◌, ◌≤◌, ◌<◌}
 use mathlib.Core.Path.{◌≡◌, refl, sym, ap, ◌∙◌}
 use mathlib.Core.Bool.{Bool, true, false, cond}
 use mathlib.Core.List.{List, [], ◌∷◌, ◌++◌, append_assoc, append-nil}
@@ -7,11 +7,11 @@ use native.Mathlib.Decide.{dec_le}
 use native.Mathlib.Numerals.{add-one}
 use native.Mathlib.Omega.{arith}
 use lib.Dec.{leb, eqb}
-use lib.ListN.{length, get_or, set, take, drop, length-append, length-take, length-drop, length-reverse, drop_of_length-le}
-use lib.Seq.{drop-cons, take_at, drop_at, take-append-le, take-take, length-take-le}
+use lib.ListN.{length, get_or, set, take, drop, length-append, length-take, drop_of_length-le}
+use lib.Seq.{drop-cons, drop-drop, take_at, drop_at, take-append-le, take-take, length-take-le}
+use borrow.Rule.Slice.PartMut.{put_mid, Post-is}
+use Rattle.std.proofs.lemmas.List.{drop-take}
 use borrow.Author.Tests.{eq-eqb, ne_eqb, le-leb, lt-leb}
-use Rattle.bytes.specs.Bytes.{rev, slice}
-use Rattle.bytes.proofs.Laws.{rev-rev-append, split}
 use Rattle.numeral.specs.Place.{no_room, overwrite, next_place, written, Placed, put_each, joined}
 use Rattle.numeral.proofs.PlaceLaws.{length-overwrite, put-each}
 use Rattle.line.specs.Words.{is_blank, ended, words_after, words}
@@ -65,62 +65,27 @@ module _ (wanted bytes : List ℕ) (i : ℕ) where
   unfolding starts_with
   starts-stops hw hb = rw (drop_of_length-le wanted hw, drop-cons bytes i 0 hb)
 
--- ---- two neighbouring parts exchanged by three reversals
-
--- the bytes from one place to another reversed
-abbrev pub turned : ℕ → ℕ → List ℕ → List ℕ
-turned from to l = take from l ++ (rev (slice from to l) ++ drop to l)
+-- ---- two neighbouring parts exchanged
 
 -- two neighbouring parts exchanged
 abbrev pub exchanged : ℕ → ℕ → ℕ → List ℕ → List ℕ
 exchanged first middle last l = take first l ++ (drop middle (take last l) ++ (drop first (take middle l) ++ drop last l))
 
-turned-part : (p q r : List ℕ) (from to : ℕ) → length p ≡ from → from + length q ≡ to → turned from to (p ++ (q ++ r)) ≡ p ++ (rev q ++ r)
-unfolding slice
-turned-part p q r from to hp hq =
-    let long : length (p ++ q) ≡ to = length-append p q ∙ omega arith in
-    let whole : p ++ (q ++ r) ≡ (p ++ q) ++ r = sym (append_assoc p q r) in
-    let front : take to (p ++ (q ++ r)) ≡ p ++ q = ap (take to) whole ∙ take_at (p ++ q) r to long in
-    let back : drop to (p ++ (q ++ r)) ≡ r = ap (drop to) whole ∙ drop_at (p ++ q) r to long in
-    rw (front, back, take_at p (q ++ r) from hp, drop_at p q from hp)
+-- What lies from one place to another, counted from the first.
+part : (a b : ℕ) (l : List ℕ) → a ≤ b → take (b - a) (drop a l) ≡ drop a (take b l)
+part a b l h = let e : a + (b - a) ≡ b = omega arith in sym (drop-take a (b - a) l) ∙ ap (λ (n : ℕ). drop a (take n l)) e
 
-length-rev : (l : List ℕ) → length (rev l) ≡ length l
-unfolding rev
-length-rev l = length-reverse l
-
-parts : (a b c d : List ℕ) (first middle last : ℕ) → length a ≡ first → first + length b ≡ middle → middle + length c ≡ last
-    → turned first last (turned middle last (turned first middle (a ++ (b ++ (c ++ d))))) ≡ a ++ (c ++ (b ++ d))
-parts a b c d first middle last ha hb hc =
-    let one : turned first middle (a ++ (b ++ (c ++ d))) ≡ (a ++ rev b) ++ (c ++ d) =
-    turned-part a b (c ++ d) first middle ha hb ∙ sym (append_assoc a (rev b) (c ++ d)) in
-    let la : length (a ++ rev b) ≡ middle = length-append a (rev b) ∙ omega (arith, length-rev b) in
-    let two : turned middle last ((a ++ rev b) ++ (c ++ d)) ≡ a ++ ((rev b ++ rev c) ++ d) =
-    turned-part (a ++ rev b) c d middle last la hc ∙ append_assoc a (rev b) (rev c ++ d) ∙ ap (λ (l : List ℕ). a ++ l) (sym (append_assoc (rev b) (rev c) d)) in
-    let lb : first + length (rev b ++ rev c) ≡ last = omega (arith, length-append (rev b) (rev c), length-rev b, length-rev c) in
-    ap (λ (l : List ℕ). turned first last (turned middle last l)) one
-    ∙ ap (turned first last) two
-    ∙ turned-part a (rev b ++ rev c) d first last ha lb
-    ∙ ap (λ (l : List ℕ). a ++ (l ++ d)) (rev-rev-append b c)
-    ∙ ap (λ (l : List ℕ). a ++ l) (append_assoc c b d)
-
-length-slice : (from to : ℕ) (l : List ℕ) → from ≤ to → to ≤ length l → from + length (slice from to l) ≡ to
-unfolding slice
-length-slice from to l h room = rw (length-drop from (take to l), length-take to l) (omega arith)
-
-drop-slice : (middle last : ℕ) (l : List ℕ) → middle ≤ last → last ≤ length l → drop middle l ≡ slice middle last l ++ drop last l
-drop-slice middle last l h room =
-    ap (drop middle) (split l middle last h)
-    ∙ drop_at (take middle l) (slice middle last l ++ drop last l) middle (length-take-le middle l (omega arith))
-
-pub three-turns : (l : List ℕ) (first middle last : ℕ) → first ≤ middle → middle ≤ last → last ≤ length l
-    → turned first last (turned middle last (turned first middle l)) ≡ exchanged first middle last l
-unfolding slice
-three-turns l first middle last h k room =
-    let whole : l ≡ take first l ++ (slice first middle l ++ (slice middle last l ++ drop last l)) =
-    split l first middle h ∙ ap (λ (m : List ℕ). take first l ++ (slice first middle l ++ m)) (drop-slice middle last l k room) in
-    ap (λ (m : List ℕ). turned first last (turned middle last (turned first middle m))) whole
-    ∙ parts (take first l) (slice first middle l) (slice middle last l) (drop last l) first middle last
-    (length-take-le first l (omega arith)) (length-slice first middle l h (omega arith)) (length-slice middle last l k room)
+-- A part whose two halves were exchanged, put back.
+pub exchanged-rotated : (l turned : List ℕ) (first middle last : ℕ) → first ≤ middle → middle ≤ last
+    → turned ≡ drop (middle - first) (take (last - first) (drop first l)) ++ take (middle - first) (take (last - first) (drop first l))
+    → put_mid first (last - first) l turned ≡ exchanged first middle last l
+exchanged-rotated l turned first middle last h k e =
+    let on : first + (middle - first) ≡ middle = omega arith in
+    let back : drop (middle - first) (take (last - first) (drop first l)) ≡ drop middle (take last l) =
+    ap (drop (middle - first)) (part first last l (omega arith)) ∙ drop-drop (middle - first) first (take last l) ∙ ap (λ (n : ℕ). drop n (take last l)) on in
+    let front : take (middle - first) (take (last - first) (drop first l)) ≡ drop first (take middle l) =
+    take-take (middle - first) (last - first) (drop first l) (omega arith) ∙ part first middle l h in
+    rw (e, back, front, Post-is first last l (omega arith)) (ap (λ (m : List ℕ). take first l ++ m) (append_assoc (drop middle (take last l)) (drop first (take middle l)) (drop last l)))
 
 -- ---- the words wanted fit their buffer
 

@@ -200,9 +200,7 @@ fn rotate(text: &mut [u8], first: usize, middle: usize, last: usize)
     requires { (first ≤ middle) × (middle ≤ last) × (last ≤ length text.old) }
     ensures { text.new ≡ take first text.old ++ (drop middle (take last text.old) ++ (drop first (take middle text.old) ++ drop last text.old)) }
 {
-    bytes::reverse(text, first, middle);
-    bytes::reverse(text, middle, last);
-    bytes::reverse(text, first, last);
+    text[first..last].rotate_left(middle - first);
 }
 
 // In a check an answer that needs no look is dropped, and of another the first line is kept, with the

@@ -8,7 +8,7 @@
 #![tactic(auto)]
 
 // How a replay ended: whether all of the file was read, and what its last line counts.
-#[derive(Drop)]
+#[derive(Clone, Copy)]
 pub struct Outcome {
     pub whole: bool,
     pub unannounced: usize,
@@ -19,7 +19,7 @@ pub struct Outcome {
 
 // What a file is: an expectation differs, a refusal is not announced, a line is bad, it can't be read,
 // it has no expectation.
-#[derive(Drop)]
+#[derive(Clone, Copy)]
 pub struct Kinds {
     pub differ: bool,
     pub unannounced: bool,
@@ -29,7 +29,7 @@ pub struct Kinds {
 }
 
 // A group: its files, those of them that are named, and the bytes of the names.
-#[derive(Drop)]
+#[derive(Clone, Copy)]
 pub struct Group {
     pub count: usize,
     pub named: usize,
@@ -37,7 +37,7 @@ pub struct Group {
 }
 
 // The files of a run, those that agree, and the group of each kind.
-#[derive(Drop)]
+#[derive(Clone, Copy)]
 pub struct Tally {
     pub files: usize,
     pub agree: usize,

@@ -1,7 +1,7 @@
 -- The third demand. Quotations are from 01, but for those beside the claims, which are the demand's own words. What differs for a
 -- continuous event: `planned_starts` has "every j in place of j below N" (Note 5), and `unended` at the end is about it alone.
-use Rattle.device.specs.Base.{ℕ, zero, suc, ◌+◌, ◌*◌, ◌/◌, ◌%◌, ◌-◌, ◌^◌, ◌<◌, ◌≤◌, min, true, false, List, [], ◌∷◌, ◌++◌, map}
-use Rattle.device.specs.Base.{◌↔◌, ◌≡◌, length, get_or, leb, eqb, pick, clock_valid, moment, century, midnights, clock_from, word_of}
+use Rattle.std.specs.Prelude.{ℕ, zero, suc, ◌+◌, ◌*◌, ◌/◌, ◌%◌, ◌-◌, ◌^◌, ◌<◌, ◌≤◌, min, true, false, List, [], ◌∷◌, ◌++◌, map, ◌↔◌, ◌≡◌, length, get_or, leb, eqb}
+use Rattle.device.specs.Base.{pick, clock_valid, moment, century, midnights, clock_from, word_of}
 use Rattle.device.specs.Base.{hit_count, event_continuous, All, sum, difference_bits, mean_averages, floor_mean_words}
 use Rattle.device.specs.declared.Model.{Model}
 use Rattle.device.specs.declared.Reply.{Reply}

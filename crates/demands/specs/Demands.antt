@@ -1,5 +1,5 @@
 -- The three demands as one statement, with what 01 asks of sound models.
-use Rattle.device.specs.Base.{ℕ, List, [], ◌∷◌, ◌≡◌, true}
+use Rattle.std.specs.Prelude.{ℕ, List, [], ◌∷◌, ◌≡◌, true}
 use Rattle.device.specs.declared.Model.{Model}
 use Rattle.device.specs.Model.{is_sound, fresh_model}
 use Rattle.device.specs.Call.{Call}

@@ -1,8 +1,8 @@
 -- What the calls after an accepted event command tell of a kind of measurement, by 01's number and values of their answers. Quotations
 -- are from 01. One statement serves both sorts of event: where a continuous one begins a group (`opens_group`), counting begins anew,
 -- "in place of since acceptance" (Note 5).
-use Rattle.device.specs.Base.{ℕ, zero, suc, ◌+◌, ◌/◌, ◌%◌, ◌^◌, Bool, true, false, List, [], ◌∷◌, ◌++◌, length, get_or, ltb, leb}
-use Rattle.device.specs.Base.{eqb, pick, both, either, negate, hit_count, difference_period, difference_count, temperature_period}
+use Rattle.std.specs.Prelude.{ℕ, zero, suc, ◌+◌, ◌/◌, ◌%◌, ◌^◌, Bool, true, false, List, [], ◌∷◌, ◌++◌, length, get_or, ltb, leb, eqb}
+use Rattle.device.specs.Base.{pick, both, either, negate, hit_count, difference_period, difference_count, temperature_period}
 use Rattle.device.specs.Base.{temperature_count, event_continuous, each_interrupt, is_read, sum, Averages}
 use Rattle.device.specs.declared.Model.{Model}
 use Rattle.device.specs.declared.Answer.{Answer}

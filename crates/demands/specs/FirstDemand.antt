@@ -1,8 +1,8 @@
 -- The first demand, as one statement about any machine: 01's table in plain bytes, words and fields, and what an accepted and a refused
 -- call leave. Quotations are from 01, but for those that name a note of the change requests and those beside the claims, which are the
 -- demand's own words.
-use Rattle.device.specs.Base.{ℕ, ◌+◌, ◌-◌, ◌*◌, ◌/◌, ◌%◌, ◌≤◌, ◌<◌, min, true, false, List, [], ◌∷◌, ◌↔◌, ◌⊎◌, ◌≡◌, length}
-use Rattle.device.specs.Base.{get_or, drop, pick, CalendarValid, AlarmValid, word_of}
+use Rattle.std.specs.Prelude.{ℕ, ◌+◌, ◌-◌, ◌*◌, ◌/◌, ◌%◌, ◌≤◌, ◌<◌, min, true, false, List, [], ◌∷◌, ◌↔◌, ◌⊎◌, ◌≡◌, length, get_or, drop}
+use Rattle.device.specs.Base.{pick, CalendarValid, AlarmValid, word_of}
 use Rattle.device.specs.declared.Model.{Model}
 use Rattle.device.specs.declared.Reply.{Reply}
 use Rattle.device.specs.Model.{is_sound}

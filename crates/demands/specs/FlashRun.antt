@@ -1,6 +1,7 @@
 -- A run on one user flash: each transaction is lent the memory that the one before it left. Quotations are from Note 8 of the
 -- change requests.
-use Rattle.device.specs.Base.{ℕ, ◌%◌, List, [], ◌∷◌, ◌++◌, ◌≡◌, length, drop, eqb, pick, flash_word, Operation, write, erase}
+use Rattle.std.specs.Prelude.{ℕ, ◌%◌, List, [], ◌∷◌, ◌++◌, ◌≡◌, length, drop, eqb}
+use Rattle.device.specs.Base.{pick, flash_word, Operation, write, erase}
 use Rattle.device.specs.Base.{last_word}
 use Rattle.device.specs.declared.Model.{Model}
 use Rattle.device.specs.Model.{fresh_model}

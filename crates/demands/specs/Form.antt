@@ -1,5 +1,6 @@
 -- The clock's form, told from the calls and their answers: "A clock keeps the form it was last written in." (Note 2)
-use Rattle.device.specs.Base.{◌-◌, Bool, false, List, ◌≡◌, drop, eqb, pick, twelve_in, word_at}
+use Rattle.std.specs.Prelude.{◌-◌, Bool, false, List, ◌≡◌, drop, eqb}
+use Rattle.device.specs.Base.{pick, twelve_in, word_at}
 use Rattle.device.specs.Model.{fresh_model}
 use Rattle.device.specs.Write.{covers}
 use Rattle.device.specs.Call.{Call, transaction, tick, flight, temperature, stretch, opcode, words, by_sort}

@@ -1,5 +1,6 @@
 -- Whether a model is initialised, told from the calls and their answers: "05h Initialize makes the model initialised, until a Reset"
-use Rattle.device.specs.Base.{Bool, true, false, List, ◌≡◌, eqb, pick}
+use Rattle.std.specs.Prelude.{Bool, true, false, List, ◌≡◌, eqb}
+use Rattle.device.specs.Base.{pick}
 use Rattle.device.specs.Model.{fresh_model}
 use Rattle.device.specs.Call.{Call, transaction, tick, flight, temperature, stretch, opcode}
 use Rattle.device.specs.History.{after, log}

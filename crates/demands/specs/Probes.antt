@@ -1,5 +1,5 @@
 -- A change of probes and the flow. Quotations are from Note 14 of the change requests where no other place is named.
-use Rattle.device.specs.Base.{ℕ, List, [], ◌∷◌, ◌++◌, map, ◌≡◌, length}
+use Rattle.std.specs.Prelude.{ℕ, List, [], ◌∷◌, ◌++◌, map, ◌≡◌, length}
 use Rattle.device.specs.declared.Model.{Model}
 use Rattle.device.specs.declared.Reply.{Reply}
 use Rattle.device.specs.declared.Answer.{Answer}

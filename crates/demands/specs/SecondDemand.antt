@@ -2,8 +2,8 @@
 -- interrupt bits are those of the MAX35101 data sheet as 01 condenses it, for words going in over the bus and for words coming out."
 -- Quotations are from 01. `register_word m a` is what a read of address a gives; `word_of m.setup a` the word of 34h to 43h. An answer is
 -- told by its values (`values_in`): a delivery's is 1 for good, 0 for failed.
-use Rattle.device.specs.Base.{ℕ, ◌+◌, ◌-◌, ◌*◌, ◌/◌, ◌%◌, ◌^◌, ◌≤◌, ◌<◌, true, false, List, [], ◌∷◌, map, ◌↔◌, ◌⊎◌, ◌≡◌, ℤ, pos}
-use Rattle.device.specs.Base.{negsuc, ◌+ℤ◌, ◌*ℤ◌, ◌≤ℤ◌, ◌<ℤ◌, length, get_or, drop, w32, to_z, pick, either, clock_valid}
+use Rattle.std.specs.Prelude.{ℕ, ◌+◌, ◌-◌, ◌*◌, ◌/◌, ◌%◌, ◌^◌, ◌≤◌, ◌<◌, true, false, List, [], ◌∷◌, map, ◌↔◌, ◌⊎◌, ◌≡◌, ℤ, pos, negsuc, ◌+ℤ◌, ◌*ℤ◌, ◌≤ℤ◌, ◌<ℤ◌, length, get_or, drop}
+use Rattle.device.specs.Base.{w32, to_z, pick, either, clock_valid}
 use Rattle.device.specs.Base.{month_length, moment, midnights, CalendarValid, AlarmValid, word_of, word_at, sum, Averages}
 use Rattle.device.specs.Base.{difference, total, floor_mean, difference_bits, floor_mean_words}
 use Rattle.device.specs.declared.Model.{Model}

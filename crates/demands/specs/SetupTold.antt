@@ -1,5 +1,6 @@
 -- The set-up, told from the calls and their answers: each register of 34h to 43h has the word last written to it since Reset.
-use Rattle.device.specs.Base.{ℕ, ◌-◌, List, map, ◌≡◌, drop, eqb, pick, factory, word_of, word_at}
+use Rattle.std.specs.Prelude.{ℕ, ◌-◌, List, map, ◌≡◌, drop, eqb}
+use Rattle.device.specs.Base.{pick, factory, word_of, word_at}
 use Rattle.device.specs.Model.{fresh_model}
 use Rattle.device.specs.Registers.{upwards}
 use Rattle.device.specs.Write.{covers}

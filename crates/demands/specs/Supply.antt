@@ -1,6 +1,7 @@
 -- The regulator of the user flash, told from the calls and their answers: on from an accepted LDO_ON until LDO_OFF or Reset
 -- (Note 8).
-use Rattle.device.specs.Base.{Bool, true, false, List, ◌≡◌, eqb, pick}
+use Rattle.std.specs.Prelude.{Bool, true, false, List, ◌≡◌, eqb}
+use Rattle.device.specs.Base.{pick}
 use Rattle.device.specs.Model.{fresh_model}
 use Rattle.device.specs.Call.{Call, transaction, tick, flight, temperature, stretch, opcode, by_sort}
 use Rattle.device.specs.History.{after, log}

@@ -1,7 +1,7 @@
 -- The terms of the second demand beside those of `Plain` in `device`: limits, directions, single measurements, and what sets and clears
 -- a bit. Quotations are from 01.
-use Rattle.device.specs.Base.{ℕ, ◌+◌, ◌-◌, ◌*◌, ◌/◌, ◌%◌, ◌^◌, ◌≤◌, ◌<◌, min, Bool, true, List, [], ◌∷◌}
-use Rattle.device.specs.Base.{◌⊎◌, ◌≡◌, length, get_or, leb, eqb, both, either, negate, AlarmTime, word_of}
+use Rattle.std.specs.Prelude.{ℕ, ◌+◌, ◌-◌, ◌*◌, ◌/◌, ◌%◌, ◌^◌, ◌≤◌, ◌<◌, min, Bool, true, List, [], ◌∷◌, ◌⊎◌, ◌≡◌, length, get_or, leb, eqb}
+use Rattle.device.specs.Base.{both, either, negate, AlarmTime, word_of}
 use Rattle.device.specs.declared.Model.{Model}
 use Rattle.device.specs.Status.{Bit, TO, AF, TOF, TE, LDO, TOF-EVTMG, TEMP-EVTMG, FLASH, HALT, INIT, POR, place}
 use Rattle.device.specs.Registers.{register_word}

@@ -1,6 +1,7 @@
 -- Worthless machines that the first demand shuts out: 01, "Models that would be worthless". The second demand shuts out
 -- "every read zero" and "a tick that moves nothing" too; here the first does, since what it asks of an accepted call leaves one machine.
-use Rattle.device.specs.Base.{ℕ, Bool, true, false, map, ◌≡◌, pick, is_command, is_write, is_read}
+use Rattle.std.specs.Prelude.{ℕ, Bool, true, false, map, ◌≡◌}
+use Rattle.device.specs.Base.{pick, is_command, is_write, is_read}
 use Rattle.device.specs.declared.Model.{Model}
 use Rattle.device.specs.Call.{Call, opcode, on_frame, on_delivery, on_time}
 use Rattle.device.specs.Reply.{refuse, reply, number_in, values_in, buffer_of, output, memory_of, memory}

@@ -1,5 +1,4 @@
--- What the definitions here use of the language's libraries and of the crates below, handed on under one name.
-pub use Rattle.std.specs.Prelude.{ℕ, ◌+◌, ◌-◌, ◌*◌, ◌/◌, zero, suc, ◌%◌, ◌^◌, ◌<◌, ◌≤◌, min, Bool, true, false, List, [], ◌∷◌, ◌++◌, map, ltb, leb, eqb, length, get_or, drop, set, ◌↔◌, ◌⊎◌, ◌≡◌, ℤ, pos, negsuc, ◌+ℤ◌, ◌*ℤ◌, ◌≤ℤ◌, ◌<ℤ◌}
+-- What the definitions here use of the crates below, handed on under one name.
 pub use Rattle.unit.specs.Choice.{pick, either, both, negate}
 pub use Rattle.setup.specs.Setup.{flight_unset, temperature_unset, clock_stands, event_continuous, difference_period, difference_count}
 pub use Rattle.setup.specs.Setup.{temperature_period, temperature_count, hit_count, word_of, each_interrupt, factory, alarm_word}

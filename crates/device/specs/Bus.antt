@@ -1,5 +1,6 @@
 -- Accepted commands and reads, and what may stand in a command's way.
-use Rattle.device.specs.Base.{ℕ, ◌+◌, Bool, true, false, List, ltb, leb, eqb, pick, either, both, negate, flight_unset}
+use Rattle.std.specs.Prelude.{ℕ, ◌+◌, Bool, true, false, List, ltb, leb, eqb}
+use Rattle.device.specs.Base.{pick, either, both, negate, flight_unset}
 use Rattle.device.specs.Base.{temperature_unset, clock_stands, event_continuous, difference_period, difference_count}
 use Rattle.device.specs.Base.{temperature_period, temperature_count, no_quanta, no_sums, Flight, Temperature, Model}
 use Rattle.device.specs.Event.{start_single, start_event, halt_schedule}

@@ -1,5 +1,6 @@
 -- Every call, and its refusals in the order of 01's table.
-use Rattle.device.specs.Base.{ℕ, ◌-◌, ◌*◌, ◌/◌, Bool, false, List, [], ◌∷◌, length, get_or, drop, ltb, eqb, pick, both, negate}
+use Rattle.std.specs.Prelude.{ℕ, ◌-◌, ◌*◌, ◌/◌, Bool, false, List, [], ◌∷◌, length, get_or, drop, ltb, eqb}
+use Rattle.device.specs.Base.{pick, both, negate}
 use Rattle.device.specs.Base.{hit_count, is_command, is_write, is_read, is_flash, flash_further, not_whole, past_end, Model}
 use Rattle.device.specs.Event.{is_awaited}
 use Rattle.device.specs.Model.{is_sound, is_busy}

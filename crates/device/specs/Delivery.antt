@@ -1,5 +1,6 @@
 -- Deliveries of the right counts, good and failed.
-use Rattle.device.specs.Base.{ℕ, Bool, true, false, List, eqb, pick, both, negate, Quanta, each_interrupt, port_pairs, Status}
+use Rattle.std.specs.Prelude.{ℕ, Bool, true, false, List, eqb}
+use Rattle.device.specs.Base.{pick, both, negate, Quanta, each_interrupt, port_pairs, Status}
 use Rattle.device.specs.Base.{Flight, Model}
 use Rattle.device.specs.Event.{settle}
 use Rattle.device.specs.Model.{with_status, with_flight, with_temperature}

@@ -1,5 +1,6 @@
 -- The schedule of one kind of measurement: single ones, events, and continuous events in their groups.
-use Rattle.device.specs.Base.{ℕ, ◌+◌, ◌-◌, Bool, true, false, ltb, leb, eqb, pick, either, both, negate, Ticks, Schedule}
+use Rattle.std.specs.Prelude.{ℕ, ◌+◌, ◌-◌, Bool, true, false, ltb, leb, eqb}
+use Rattle.device.specs.Base.{pick, either, both, negate, Ticks, Schedule}
 
 abbrev pub ticks : ℕ → Ticks
 ticks n = record { 0 = n }

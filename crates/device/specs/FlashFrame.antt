@@ -1,6 +1,7 @@
 -- The frames of the user flash. Quotations are from Note 8 of the change requests. `b` is the frame from its second byte, `x` the
 -- memory that the call is lent.
-use Rattle.device.specs.Base.{ℕ, Bool, List, eqb, pick, both, word_at, flash_word, flash_written, flash_erased, first_word}
+use Rattle.std.specs.Prelude.{ℕ, Bool, List, eqb}
+use Rattle.device.specs.Base.{pick, both, word_at, flash_word, flash_written, flash_erased, first_word}
 use Rattle.device.specs.Base.{address_refused, erase_refused, not_erased, Model}
 use Rattle.device.specs.Status.{joined, flash_bit}
 use Rattle.device.specs.Model.{with_status}

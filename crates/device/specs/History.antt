@@ -1,6 +1,7 @@
 -- A list of calls on a model: the model after it, and its calls with their answers; and the two kinds of measurement, by which claims
 -- about such lists speak. Quotations are from 01.
-use Rattle.device.specs.Base.{List, [], ◌∷◌, Model, Answer}
+use Rattle.std.specs.Prelude.{List, [], ◌∷◌}
+use Rattle.device.specs.Base.{Model, Answer}
 use Rattle.device.specs.Call.{Call}
 use Rattle.device.specs.Reply.{reply}
 

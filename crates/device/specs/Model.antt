@@ -1,5 +1,6 @@
 -- The model: fresh, sound, busy.
-use Rattle.device.specs.Base.{ℕ, ◌*◌, ◌^◌, Bool, false, List, [], ◌∷◌, get_or, leb, either, both, Quanta, Clock, clock_valid}
+use Rattle.std.specs.Prelude.{ℕ, ◌*◌, ◌^◌, Bool, false, List, [], ◌∷◌, get_or, leb}
+use Rattle.device.specs.Base.{either, both, Quanta, Clock, clock_valid}
 use Rattle.device.specs.Base.{start, alarm_valid, factory, alarm_word, no_quanta, no_sums, Schedule, Status, Flight, Temperature}
 use Rattle.device.specs.Base.{Model}
 use Rattle.device.specs.Event.{no_schedule, schedule_sound, is_awaited, in_event}

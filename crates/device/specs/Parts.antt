@@ -1,6 +1,7 @@
 -- The code's own: the parts of a sound model's replies, as the code takes them apart. Nothing here is to be believed: the laws of
 -- `reply_parts` equate them with `reply`, `output` and `memory`.
-use Rattle.device.specs.Base.{ℕ, ◌+◌, ◌*◌, Bool, true, false, List, length, leb, eqb, pick, both, negate, hit_count, Decoded}
+use Rattle.std.specs.Prelude.{ℕ, ◌+◌, ◌*◌, Bool, true, false, List, length, leb, eqb}
+use Rattle.device.specs.Base.{pick, both, negate, hit_count, Decoded}
 use Rattle.device.specs.Base.{Command, Read, Write, Flash, Refusal, Model, Reply, Accepted, flash_word, flash_written}
 use Rattle.device.specs.Base.{flash_erased, first_word, address_refused, erase_refused, not_erased}
 use Rattle.device.specs.Model.{is_sound, is_busy}

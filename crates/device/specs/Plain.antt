@@ -1,7 +1,7 @@
 -- Register words, frames and measurements in plain numbers: the terms in which the demands and the facts beneath them speak. Quotations
 -- are from 01.
-use Rattle.device.specs.Base.{ℕ, zero, suc, ◌+◌, ◌-◌, ◌*◌, ◌/◌, ◌%◌, ◌≤◌, ◌<◌, true, List, [], ◌∷◌, ◌++◌, map, ◌⊎◌, ◌≡◌}
-use Rattle.device.specs.Base.{length, get_or, word_of, word_at, Schedule, Model}
+use Rattle.std.specs.Prelude.{ℕ, zero, suc, ◌+◌, ◌-◌, ◌*◌, ◌/◌, ◌%◌, ◌≤◌, ◌<◌, true, List, [], ◌∷◌, ◌++◌, map, ◌⊎◌, ◌≡◌, length, get_or}
+use Rattle.device.specs.Base.{word_of, word_at, Schedule, Model}
 use Rattle.device.specs.Registers.{register_word, upwards}
 use Rattle.device.specs.Call.{Call, tick}
 

@@ -1,5 +1,6 @@
 -- The answers of questions, which change nothing.
-use Rattle.device.specs.Base.{ℕ, List, [], ◌∷◌, ltb, eqb, pick, interrupt_enabled, Schedule, Model, Told, Value}
+use Rattle.std.specs.Prelude.{ℕ, List, [], ◌∷◌, ltb, eqb}
+use Rattle.device.specs.Base.{pick, interrupt_enabled, Schedule, Model, Told, Value}
 use Rattle.device.specs.declared.Told.TheVariants.{Refused}
 use Rattle.device.specs.Event.{is_awaited}
 use Rattle.device.specs.Status.{status_word}

@@ -1,5 +1,6 @@
 -- What a read of each register gives, at the read addresses B0h to FFh.
-use Rattle.device.specs.Base.{ℕ, zero, suc, ◌+◌, ◌-◌, ◌*◌, ◌/◌, ◌%◌, List, [], ◌∷◌, get_or, set, ltb, eqb, pick, word30, word31}
+use Rattle.std.specs.Prelude.{ℕ, zero, suc, ◌+◌, ◌-◌, ◌*◌, ◌/◌, ◌%◌, List, [], ◌∷◌, get_or, set, ltb, eqb}
+use Rattle.device.specs.Base.{pick, word30, word31}
 use Rattle.device.specs.Base.{word32, word33, no_quanta, difference_mean, port_mean, Flight, Temperature, Model}
 use Rattle.device.specs.Status.{status_word}
 

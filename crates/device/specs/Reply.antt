@@ -1,6 +1,7 @@
 -- What each call answers and leaves: of an accepted one the answer, the next model, the output and the memory; of a refused one its
 -- number and nothing else.
-use Rattle.device.specs.Base.{ℕ, Bool, false, List, [], ◌∷◌, ◌≡◌, drop, pick, either, hit_count, timeout, port_cycle, late_from}
+use Rattle.std.specs.Prelude.{ℕ, Bool, false, List, [], ◌∷◌, ◌≡◌, drop}
+use Rattle.device.specs.Base.{pick, either, hit_count, timeout, port_cycle, late_from}
 use Rattle.device.specs.Base.{open_from, any_from, any_fault, six_words, four_words, Model, Reply, Answer, Accepted, Ticked}
 use Rattle.device.specs.Base.{Stretched, Good, Failed}
 use Rattle.device.specs.declared.Answer.TheVariants.{Refused}

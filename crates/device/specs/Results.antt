@@ -1,5 +1,6 @@
 -- What a good and a failed measurement leave in the results of its kind.
-use Rattle.device.specs.Base.{ℕ, true, List, pick, Quanta, average, filled, failed_pairs, plus, plus_each, difference_word, biased}
+use Rattle.std.specs.Prelude.{ℕ, true, List}
+use Rattle.device.specs.Base.{pick, Quanta, average, filled, failed_pairs, plus, plus_each, difference_word, biased}
 use Rattle.device.specs.Base.{Schedule, Flight, Temperature}
 use Rattle.device.specs.Event.{to_settle, settle}
 

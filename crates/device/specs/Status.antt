@@ -1,6 +1,7 @@
 -- "Status bits: TO 15, AF 14, TOF 12, TE 11, TOF_EVTMG 9, TEMP_EVTMG 8, HALT 5, INIT 3, POR 2." "LDO_ON sets status bit 10; a write
 -- or erase sets bit 7." (Note 8): LDO and FLASH, as 000 names them.
-use Rattle.device.specs.Base.{ℕ, ◌+◌, ◌^◌, Bool, true, false, eqb, pick, either, both, negate, Schedule, Status}
+use Rattle.std.specs.Prelude.{ℕ, ◌+◌, ◌^◌, Bool, true, false, eqb}
+use Rattle.device.specs.Base.{pick, either, both, negate, Schedule, Status}
 use Rattle.device.specs.Event.{in_event, is_last}
 
 -- The bits, by their names in 000.

@@ -1,5 +1,6 @@
 -- A stretch of ticks. Quotations are from Note 1 of the change requests.
-use Rattle.device.specs.Base.{ℕ, zero, suc, ◌+◌, Bool, pick, Schedule, Model, StretchReport}
+use Rattle.std.specs.Prelude.{ℕ, zero, suc, ◌+◌, Bool}
+use Rattle.device.specs.Base.{pick, Schedule, Model, StretchReport}
 use Rattle.device.specs.Event.{ticks, begins, fails, tick_schedule}
 use Rattle.device.specs.Tick.{tick_model}
 

@@ -1,6 +1,7 @@
 -- The code's own: how a stretch moves on, by as many ticks at once as pass with nothing to report and no second's end, else by a
 -- single one. Nothing here is to be believed: Quiet.antt of ticking's proofs equates it with single ticks.
-use Rattle.device.specs.Base.{ℕ, ◌+◌, ◌-◌, ltb, leb, eqb, pick, Clock, with_time, clock_stands, Schedule, Model, Flight}
+use Rattle.std.specs.Prelude.{ℕ, ◌+◌, ◌-◌, ltb, leb, eqb}
+use Rattle.device.specs.Base.{pick, Clock, with_time, clock_stands, Schedule, Model, Flight}
 use Rattle.device.specs.Base.{Temperature, StretchReport, Progress}
 use Rattle.device.specs.Event.{ticks, begins, fails}
 use Rattle.device.specs.Tick.{tick_model}

@@ -1,5 +1,6 @@
 -- One tick.
-use Rattle.device.specs.Base.{Bool, List, pick, Quanta, Clock, tick_clock, alarm_rings, clock_stands, alarm_word, alarm_mode}
+use Rattle.std.specs.Prelude.{Bool, List}
+use Rattle.device.specs.Base.{pick, Quanta, Clock, tick_clock, alarm_rings, clock_stands, alarm_word, alarm_mode}
 use Rattle.device.specs.Base.{each_interrupt, failed_ports, no_quanta, no_sums, Schedule, Status, Flight, Temperature, Model}
 use Rattle.device.specs.Base.{Report}
 use Rattle.device.specs.Event.{begins, begins_group, fails, tick_schedule}

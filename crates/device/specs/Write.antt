@@ -1,5 +1,6 @@
 -- A write of n words from register op on: bytes are the frame from its second byte.
-use Rattle.device.specs.Base.{ℕ, zero, suc, ◌+◌, ◌-◌, Bool, List, set, ltb, leb, pick, both, negate, Ticks, Clock, ticks_in}
+use Rattle.std.specs.Prelude.{ℕ, zero, suc, ◌+◌, ◌-◌, Bool, List, set, ltb, leb}
+use Rattle.device.specs.Base.{pick, both, negate, Ticks, Clock, ticks_in}
 use Rattle.device.specs.Base.{clock_from, words_valid, alarm_valid, alarm_word, word_at, Model}
 use Rattle.device.specs.Model.{with_clock, with_setup}
 use Rattle.device.specs.Registers.{calendar_word}

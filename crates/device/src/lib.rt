@@ -6,7 +6,7 @@ use calendar::Clock;
 use unit::{Quanta, Ticks};
 
 // The measurements of one kind: the one awaited, and the event.
-#[derive(Drop)]
+#[derive(Clone, Copy)]
 pub struct Schedule {
     // Ticks until the awaited measurement fails; 0 where none is awaited.
     pub left: Ticks,
@@ -24,7 +24,7 @@ pub struct Schedule {
     pub good: u16,
 }
 
-#[derive(Drop)]
+#[derive(Clone, Copy)]
 pub struct Flight {
     pub schedule: Schedule,
     // The directions that the awaited or last measurement measures.
@@ -38,7 +38,7 @@ pub struct Flight {
     pub difference: u32,
 }
 
-#[derive(Drop)]
+#[derive(Clone, Copy)]
 pub struct Temperature {
     pub schedule: Schedule,
     // Words of the good measurements of the event, or of the current group, port by port.
@@ -47,7 +47,7 @@ pub struct Temperature {
 }
 
 // The interrupt status, a field a bit.
-#[derive(Drop)]
+#[derive(Clone, Copy)]
 pub struct Status {
     pub timeout: bool,
     pub alarm: bool,
@@ -62,7 +62,7 @@ pub struct Status {
     pub por: bool,
 }
 
-#[derive(Drop)]
+#[derive(Clone, Copy)]
 pub struct Model {
     pub clock: Clock,
     // Registers 34h to 43h.
@@ -76,20 +76,20 @@ pub struct Model {
 }
 
 // What one tick did with the measurements of a kind.
-#[derive(Drop)]
+#[derive(Clone, Copy)]
 pub struct Report {
     pub started: bool,
     pub failed: bool,
 }
 
 // The ticks of a stretch, from 1 on, in which a measurement of a kind started and one failed; 0 for none.
-#[derive(Drop)]
+#[derive(Clone, Copy)]
 pub struct StretchReport {
     pub started: Ticks,
     pub failed: Ticks,
 }
 
-#[derive(Drop)]
+#[derive(Clone, Copy)]
 pub enum Answer {
     // The number of the refusal.
     Refused(u32),
@@ -104,14 +104,14 @@ pub enum Answer {
     Failed,
 }
 
-#[derive(Drop)]
+#[derive(Clone, Copy)]
 pub struct Reply {
     pub answer: Answer,
     pub model: Model,
 }
 
 // A stretch under way: the model and the reports after so many of its ticks.
-#[derive(Drop)]
+#[derive(Clone, Copy)]
 pub struct Progress {
     pub model: Model,
     pub done: Ticks,
@@ -120,7 +120,7 @@ pub struct Progress {
 }
 
 // The answer of a question that changes nothing.
-#[derive(Drop)]
+#[derive(Clone, Copy)]
 pub enum Told {
     Refused(u32),
     Value(u32),

@@ -10,7 +10,7 @@ ghost use Rattle.file_names.specs.Names.{ends_name, NameTaken};
 use crate::held::hold_byte;
 
 // How far the bytes are used, how many bytes of a name are held, and whether the name is whole.
-#[derive(Drop)]
+#[derive(Clone, Copy)]
 pub struct Taken {
     pub at: usize,
     pub length: usize,

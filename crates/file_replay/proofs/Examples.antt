@@ -3,12 +3,12 @@ use Prim.Native.Nat.{ℕ}
 use mathlib.Core.Bool.{true, false}
 use mathlib.Core.List.{[], ◌∷◌}
 use mathlib.Core.Path.{◌≡◌, refl}
-use lib.IntN.{pos, negsuc}
+use Rattle.std.specs.Prelude.{Result, Ok, Err}
 use Rattle.numeral.specs.Ascii.{ascii}
 use Rattle.numeral.specs.Place.{joined}
 use Rattle.collection.specs.Summary.{heading_texts}
 use Rattle.file_replay.specs.declared.names.Source.{Source}
-use Rattle.file_replay.specs.Sources.{is_there, unused, place_behind, Stands, AfterRead}
+use Rattle.file_replay.specs.Sources.{is_there, unused, place_behind, AfterRead}
 use Rattle.file_replay.specs.Files.{is_descriptor, headed, places}
 
 -- Of two files from place 3 on, the next arguments are at 4 and 5.
@@ -16,7 +16,14 @@ next-places : (places 2 3 ≡ 4 ∷ 5 ∷ []) × (places 0 3 ≡ []) × (place_b
 unfolding places
 next-places = (refl, refl, refl)
 
-descriptors : (is_descriptor (pos 0) ≡ true) × (is_descriptor (pos 3) ≡ true) × (is_descriptor (negsuc 0) ≡ false)
+-- What the system answers: a number, or that of a failure.
+abbrev good : ℕ → Result ℕ ℕ
+good n = Ok n
+
+abbrev bad : ℕ → Result ℕ ℕ
+bad e = Err e
+
+descriptors : (is_descriptor (good 0) ≡ true) × (is_descriptor (good 3) ≡ true) × (is_descriptor (bad 0) ≡ false)
 unfolding is_descriptor
 descriptors = (refl, refl, refl)
 
@@ -26,7 +33,7 @@ headings = (refl, refl)
 
 -- A source of a list whose bytes 1 and 2 are read and not used, in a state.
 abbrev source : ℕ → Source
-source state = record { listed = true; fd = pos 3; list = 2; at = 1; end = 3; next = 4; left = 5; state = state; length = 6 }
+source state = record { listed = true; list = 2; at = 1; end = 3; next = 4; left = 5; state = state; length = 6 }
 
 not-used : unused (source 1) (ascii "abcd") ≡ ascii "bc"
 unfolding ascii
@@ -36,11 +43,11 @@ there : (is_there (source 1) ≡ true) × (is_there (source 2) ≡ true) × (is_
 there = (refl, refl, refl)
 
 -- Of eight bytes that the system told two are read, the buffer having no room for more, and those of the name that are held stay.
-two-read : AfterRead (pos 8) 4 5 6 2 (ascii "name") record { listed = true; fd = pos 3; list = 2; at = 0; end = 2; next = 4; left = 5; state = 0; length = 6 } (ascii "name")
+two-read : AfterRead (good 8) 4 5 6 2 (ascii "name") record { listed = true; list = 2; at = 0; end = 2; next = 4; left = 5; state = 0; length = 6 } (ascii "name")
 unfolding AfterRead
 two-read = (record { list = refl; is = refl; place = refl; more = refl }, refl, refl, refl, refl)
 
 -- A list that can't be read stands under its own name.
-none_read : AfterRead (negsuc 0) 4 5 6 2 [] record { listed = false; fd = negsuc 0; list = 2; at = 0; end = 0; next = 4; left = 5; state = 2; length = 1 } []
+none_read : AfterRead (bad 0) 4 5 6 2 [] record { listed = false; list = 2; at = 0; end = 0; next = 4; left = 5; state = 2; length = 1 } []
 unfolding AfterRead
 none_read = record { list = refl; is = refl; place = refl; more = refl }

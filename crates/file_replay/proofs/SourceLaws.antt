@@ -1,17 +1,13 @@
 -- Names that are sought in a list, step by step. Assumes nothing.
-use Prim.Native.Nat.{ℕ, zero, suc, ◌+◌, ◌-◌, ◌<◌}
-use mathlib.Core.Bool.{true, false, cond, true≢false}
+use Prim.Native.Nat.{ℕ, zero, suc, ◌+◌, ◌-◌, ◌<◌, min}
+use mathlib.Core.Bool.{true, false, cond}
 use mathlib.Core.List.{List, [], ◌∷◌, ◌++◌}
-use mathlib.Core.Path.{◌≡◌, refl, sym, ap, subst, ◌∙◌}
+use mathlib.Core.Path.{◌≡◌, refl, ◌∙◌}
 use native.Mathlib.Omega.{arith}
 use lib.Dec.{eqb}
-use lib.IntN.{ℤ, pos, negsuc}
-use lib.Signed.{lt_z}
-use mir.Syntax.{w64}
-use mir.Val.{of_z, to_z}
 use lib.ListN.{length, take, drop}
-use borrow.Author.Tests.{eq-eqb, ne_eqb, ltb-true}
-use Rattle.io.specs.Counts.{clamp_len}
+use borrow.Author.Tests.{eq-eqb, ne_eqb}
+use Rattle.std.specs.Prelude.{Result, Ok, Err}
 use Rattle.unit.proofs.Cases.{by_eqb}
 use Rattle.line_buffer.specs.Lines.{has_line}
 use Rattle.file_names.specs.Names.{Passed, Begun, Sought}
@@ -65,42 +61,32 @@ module _ {path : List ℕ} {n : ℕ} {start : List ℕ} (begun : Begun path n st
   step-read bytes' s long = on s (bytes' ∷ []) start (passed-piece nothing bytes') (rw long begun)
 
 -- Whatever the system tells of more bytes.
-pub step_after : (got : ℤ) (room : ℕ) {path : List ℕ} {held next left : ℕ} {r : Source} (bytes' : List ℕ) {path' : List ℕ}
+pub step_after : {E : Type 0} (got : Result ℕ E) (room : ℕ) {path : List ℕ} {held next left : ℕ} {r : Source} (bytes' : List ℕ) {path' : List ℕ}
     → AfterRead got next left held room path r path' → StepFrom path held next left [] r bytes' path'
 unfolding AfterRead
-step_after (negsuc k) room bytes' a start begun = step-broken begun a
-step_after (pos zero) room bytes' a start begun = step-ended begun a
-step_after (pos (suc n)) room bytes' a start begun =
+step_after (Err e) room bytes' a start begun = step-broken begun a
+step_after (Ok zero) room bytes' a start begun = step-ended begun a
+step_after (Ok (suc n)) room bytes' a start begun =
     rw a.4 (step-read begun bytes' a.0 a.3)
 
--- By the tests of the code it told a failure,
-pub after-failed : (got : ℤ) {next left : ℕ} {r : Source} (held room : ℕ) (path path' : List ℕ) → to_z w64 (of_z w64 got) ≡ got
-    → lt_z (to_z w64 (of_z w64 got)) (pos 0) ≡ true → Stands next left false 2 r → AfterRead got next left held room path r path'
+-- It told a failure,
+pub after-failed : {E : Type 0} (got : Result ℕ E) {error : E} {next left : ℕ} {r : Source} (held room : ℕ) (path path' : List ℕ) → got ≡ Err error
+    → Stands next left false 2 r → AfterRead got next left held room path r path'
 unfolding AfterRead
-after-failed got {next} {left} {r} held room path path' same low s = go got (subst (λ (z : ℤ). lt_z z (pos 0) ≡ true) same low)
-  where
-    go : (z : ℤ) → lt_z z (pos 0) ≡ true → AfterRead z next left held room path r path'
-    go (pos n) low = absurd (omega (arith, ltb-true n 0 low))
-    go (negsuc n) low = s
+after-failed got held room path path' is s = rw is s
 
 -- the end,
-pub after-ended : (got : ℤ) {next left held : ℕ} {r : Source} (room : ℕ) {path path' : List ℕ} → to_z w64 (of_z w64 got) ≡ got → of_z w64 got ≡ 0
+pub after-ended : {E : Type 0} (got : Result ℕ E) {next left held : ℕ} {r : Source} (room : ℕ) {path path' : List ℕ} → got ≡ Ok 0
     → Ended next left held path r path' → AfterRead got next left held room path r path'
 unfolding AfterRead
-after-ended got room same none e = let zero : got ≡ pos 0 = sym same ∙ ap (to_z w64) none in rw zero e
+after-ended got room is e = rw is e
 
 -- or some bytes.
-pub after_more : (got : ℤ) {next left held : ℕ} (n room : ℕ) {r : Source} (path : List ℕ) → to_z w64 (of_z w64 got) ≡ got → ¬ (of_z w64 got ≡ 0)
-    → lt_z (to_z w64 (of_z w64 got)) (pos 0) ≡ false → n ≡ clamp_len (to_z w64 (of_z w64 got)) room → Stands next left true 0 r → r.at ≡ 0 → r.end ≡ n
-    → r.length ≡ held → AfterRead got next left held room path r path
+pub after_more : {E : Type 0} (got : Result ℕ E) {next left held : ℕ} (m n room : ℕ) {r : Source} (path : List ℕ) → got ≡ Ok m → ¬ (m ≡ 0)
+    → n ≡ min m room → Stands next left true 0 r → r.at ≡ 0 → r.end ≡ n → r.length ≡ held → AfterRead got next left held room path r path
 unfolding AfterRead
-after_more got {next} {left} {held} n room {r} path same some low count s at end long =
-    go got some (subst (λ (z : ℤ). lt_z z (pos 0) ≡ false) same low) (count ∙ ap (λ (z : ℤ). clamp_len z room) same)
-  where
-    go : (z : ℤ) → ¬ (of_z w64 z ≡ 0) → lt_z z (pos 0) ≡ false → n ≡ clamp_len z room → AfterRead z next left held room path r path
-    go (pos zero) some low count = absurd (some refl)
-    go (pos (suc m)) some low count = (s, at, end ∙ count, long, refl)
-    go (negsuc m) some low count = absurd (true≢false low)
+after_more got zero n room path is some less s at end long = absurd (some refl)
+after_more got (suc m) n room path is some less s at end long = rw is (s, at, end ∙ less, long, refl)
 
 -- All bytes are used without a name.
 module _ {start first path' : List ℕ} {n room : ℕ} (s : Source) (part : List ℕ) (e : first ≡ take s.end part)

@@ -1,5 +1,5 @@
 -- The files of a run, and what is kept of them. Assumes nothing.
-use Rattle.std.specs.Prelude.{ℕ, zero, suc, ◌<◌, Bool, true, false, not, cond, List, [], ◌∷◌, ◌++◌, ◌≡◌, eqb, ℤ, pos, negsuc, length, take, replicate}
+use Rattle.std.specs.Prelude.{ℕ, zero, suc, ◌<◌, Bool, true, false, not, cond, List, [], ◌∷◌, ◌++◌, ◌≡◌, eqb, Result, Ok, Err, length, take, replicate}
 use Rattle.line_buffer.specs.Lines.{whole_text}
 use Rattle.file_names.specs.Names.{names_of, ended_names}
 use Rattle.numeral.specs.Place.{joined}
@@ -15,10 +15,10 @@ use Rattle.arguments.specs.declared.Options.{Options}
 abbrev pub not_read : Outcome
 not_read = record { whole = false; unannounced = 0; bad = 0; expected = 0; differ = 0 }
 
--- The operating system hands over a file by a number, which is negative where it can't be opened.
-unfoldable pub is_descriptor : ℤ → Bool
-is_descriptor (pos n) = true
-is_descriptor (negsuc n) = false
+-- The operating system hands over a file, or an error where it can't be opened.
+unfoldable pub is_descriptor : {F E : Type 0} → Result F E → Bool
+is_descriptor (Ok file) = true
+is_descriptor (Err error) = false
 
 -- What a file of this name came to: that of a file that can't be opened, or that of a replay under the name.
 pub data Came (name : List ℕ) (check : Bool) (came : Outcome) : Type 0 where

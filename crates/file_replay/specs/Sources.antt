@@ -1,5 +1,5 @@
 -- Where the names of a run come from. Assumes nothing.
-use Rattle.std.specs.Prelude.{ℕ, zero, suc, ◌+◌, ◌<◌, min, Bool, true, false, not, List, [], ◌∷◌, ◌≡◌, eqb, ℤ, pos, negsuc, length, take, drop}
+use Rattle.std.specs.Prelude.{ℕ, zero, suc, ◌+◌, ◌<◌, min, Bool, true, false, not, List, [], ◌∷◌, ◌≡◌, eqb, Result, Ok, Err, length, take, drop}
 use Rattle.file_names.specs.Names.{named, Passed, Begun}
 use Rattle.file_replay.specs.declared.names.Source.{Source}
 
@@ -61,10 +61,10 @@ pub record Ended (next left length : ℕ) (path : List ℕ) (r : Source) (path' 
   pub none : length ≡ 0 → NextArgument next left r
   pub some : ¬ (length ≡ 0) → Stands next left false 1 r × (r.length ≡ length) × (path' ≡ path)
 
--- The operating system told how many bytes of the list it put into a buffer with so much room, 0 at its end, or −1 where it can't be read: the
--- list stands under its own name; it has ended; or so many bytes are read and not used, and those of a name that are held stay.
-unfoldable pub AfterRead : ℤ → ℕ → ℕ → ℕ → ℕ → List ℕ → Source → List ℕ → Type 0
-AfterRead (negsuc k) next left held room path r path' = Stands next left false 2 r
-AfterRead (pos zero) next left held room path r path' = Ended next left held path r path'
-AfterRead (pos (suc n)) next left held room path r path' =
+-- The operating system told how many bytes of the list it put into a buffer with so much room, 0 at its end, or an error where it can't be
+-- read: the list stands under its own name; it has ended; or so many bytes are read and not used, and those of a name that are held stay.
+unfoldable pub AfterRead : {E : Type 0} → Result ℕ E → ℕ → ℕ → ℕ → ℕ → List ℕ → Source → List ℕ → Type 0
+AfterRead (Err e) next left held room path r path' = Stands next left false 2 r
+AfterRead (Ok zero) next left held room path r path' = Ended next left held path r path'
+AfterRead (Ok (suc n)) next left held room path r path' =
     Stands next left true 0 r × (r.at ≡ 0) × (r.end ≡ min (suc n) room) × (r.length ≡ held) × (path' ≡ path)

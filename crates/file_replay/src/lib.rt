@@ -2,9 +2,11 @@
 #![tactic(auto)]
 
 mod names;
+mod opened;
 mod progress;
 mod several;
 mod single;
 
+pub use opened::System;
 pub use several::replay_several;
 pub use single::{replay_argument, replay_input};

@@ -2,19 +2,21 @@
 ghost use Rattle.std.specs.Prelude.{◌-◌, eqb, length, true, false, [], ◌≡◌};
 ghost use Rattle.file_replay.specs.Sources.{is_there, unused, Stands, NextArgument, FromList, StepFrom, Ended, AfterRead};
 
+use crate::opened::{OpenedBy, System, close, open, put_argument};
 use arguments::Options;
 use file_names::take_name;
 use item_state::counts::more;
 use item_state::output::first_bytes;
-use libc::STDIN_FILENO;
+use session::tell_unread;
+use std::io;
+use std::io::Read;
 
 // Where the next name comes from, and the one that was found last.
-#[derive(Drop)]
+#[derive(Clone, Copy)]
 pub struct Source {
-    // Whether names may come from a list, its descriptor, its place among the arguments, and the bytes
-    // of it that are read and not used yet.
+    // Whether names may come from a list, its place among the arguments, and the bytes of it that are
+    // read and not used yet.
     pub listed: bool,
-    pub fd: i32,
     pub list: usize,
     pub at: usize,
     pub end: usize,
@@ -44,27 +46,34 @@ pub fn is_there(s: Source) -> bool
     s.state != ENDED
 }
 
-// The source of the names that are asked for, with the first of them.
-pub fn first(o: Options, part: &mut [u8], path: &mut [u8]) -> Source
+// The source of the names that are asked for, with the first of them. Their list is opened, where there is one.
+pub fn first<R: System>(
+    rt: &R,
+    o: Options,
+    list: &mut OpenedBy<R>,
+    part: &mut [u8],
+    path: &mut [u8],
+) -> Source
     ensures { (o.list ≡ 0 → NextArgument o.first o.files result) × (¬ (o.list ≡ 0) → FromList (length path.old) o.first o.files [] [] result (unused result part.new) path.new) }
 {
     if o.list == 0 {
-        return argument(source_of(o, -1), path);
+        return argument(rt, source_of(o), path);
     }
-    let fd = open_list(o.list, path);
-    if fd < 0 {
-        return broken(source_of(o, fd), path);
+    match open_list(rt, o.list, path) {
+        None => broken(rt, source_of(o), path),
+        Some(file) => {
+            *list = file;
+            seek(rt, source_of(o), list, part, path)
+        }
     }
-    seek(source_of(o, fd), part, path)
 }
 
 // The source before the first name.
-fn source_of(o: Options, fd: i32) -> Source
+fn source_of(o: Options) -> Source
     ensures { (result.next ≡ o.first) × (result.left ≡ o.files) × (result.at ≡ 0) × (result.end ≡ 0) }
 {
     Source {
         listed: true,
-        fd: fd,
         list: o.list,
         at: 0,
         end: 0,
@@ -75,32 +84,32 @@ fn source_of(o: Options, fd: i32) -> Source
     }
 }
 
-// The list's descriptor; where it can't be opened, it is told by name with the system's words.
-fn open_list(i: usize, path: &mut [u8]) -> i32 {
-    let length = os::arg(i, path);
-    if os::errno() != 0 {
-        os::fail(b"--files");
-        return -1;
+// The list; where it can't be opened, it is told by name with the system's words.
+fn open_list<R: System>(rt: &R, i: usize, path: &mut [u8]) -> Option<OpenedBy<R>> {
+    match put_argument(rt, i, path) {
+        Ok(length) => open_told(rt, &path[..length]),
+        Err(error) => {
+            tell_unread(rt, b"--files", &error);
+            None
+        }
     }
-    open_named(&path[..length])
 }
 
-fn open_named(path: &[u8]) -> i32 {
-    if check::same(path, b"-") {
-        return STDIN_FILENO;
+fn open_told<R: System>(rt: &R, path: &[u8]) -> Option<OpenedBy<R>> {
+    match open(rt, path) {
+        Ok(file) => Some(file),
+        Err(error) => {
+            tell_unread(rt, path, &error);
+            None
+        }
     }
-    let fd = os::open_read(path);
-    if fd < 0 {
-        os::fail(path);
-    }
-    fd
 }
 
 // The list can't be read; its name stands for the names that it would have had.
-fn broken(s: Source, path: &mut [u8]) -> Source
+fn broken<R: System>(rt: &R, s: Source, path: &mut [u8]) -> Source
     ensures { Stands s.next s.left false 2 result }
 {
-    let length = os::arg(s.list, path);
+    let length = put_argument(rt, s.list, path).unwrap_or(0);
     past_list(s, BROKEN, length)
 }
 
@@ -110,7 +119,6 @@ fn past_list(s: Source, state: u8, length: usize) -> Source
 {
     Source {
         listed: false,
-        fd: -1,
         list: s.list,
         at: 0,
         end: 0,
@@ -122,26 +130,38 @@ fn past_list(s: Source, state: u8, length: usize) -> Source
 }
 
 // The source with the name after the one that it has.
-pub fn next(s: Source, part: &mut [u8], path: &mut [u8]) -> Source
+pub fn next<R: System>(
+    rt: &R,
+    s: Source,
+    list: &mut OpenedBy<R>,
+    part: &mut [u8],
+    path: &mut [u8],
+) -> Source
     ensures { (s.listed ≡ false → NextArgument s.next s.left result) × (s.listed ≡ true → FromList (length path.old) s.next s.left [] (unused s part.old) result (unused result part.new) path.new) }
 {
     if s.listed {
-        return seek(s, part, path);
+        return seek(rt, s, list, part, path);
     }
-    argument(s, path)
+    argument(rt, s, path)
 }
 
 // The next name of the list, or where that has none the first argument.
 //
 // Nothing says that the list ends, so reads are counted down, from a number that no run uses up; behind
 // the last of them the list is one that can't be read.
-fn seek(s: Source, part: &mut [u8], path: &mut [u8]) -> Source
+fn seek<R: System>(
+    rt: &R,
+    s: Source,
+    list: &mut OpenedBy<R>,
+    part: &mut [u8],
+    path: &mut [u8],
+) -> Source
     ensures { FromList (length path.old) s.next s.left [] (unused s part.old) result (unused result part.new) path.new }
 {
     let mut reads = u64::MAX;
     let mut it = in_list(s, s.at, s.end, SEEKING, 0);
     while is_seeking(it) {
-        it = step(it, reads, part, path);
+        it = step(rt, it, reads, list, part, path);
         reads = one_less(reads);
     }
     it
@@ -165,7 +185,6 @@ fn in_list(s: Source, at: usize, end: usize, state: u8, length: usize) -> Source
 {
     Source {
         listed: true,
-        fd: s.fd,
         list: s.list,
         at: at,
         end: end,
@@ -177,7 +196,14 @@ fn in_list(s: Source, at: usize, end: usize, state: u8, length: usize) -> Source
 }
 
 // Takes a name from the bytes that are read, or reads on.
-fn step(s: Source, reads: u64, part: &mut [u8], path: &mut [u8]) -> Source
+fn step<R: System>(
+    rt: &R,
+    s: Source,
+    reads: u64,
+    list: &mut OpenedBy<R>,
+    part: &mut [u8],
+    path: &mut [u8],
+) -> Source
     ensures { StepFrom path.old s.length s.next s.left (unused s part.old) result (unused result part.new) path.new × (reads ≡ 0 → ¬ (result.state ≡ 0)) }
 {
     let got = take_name(first_bytes(part, s.end), s.at, path, s.length);
@@ -185,64 +211,84 @@ fn step(s: Source, reads: u64, part: &mut [u8], path: &mut [u8]) -> Source
         return in_list(s, got.at, s.end, FOUND, got.length);
     }
     if reads == 0 {
-        return broken(s, path);
+        return broken(rt, s, path);
     }
-    read_on(s, got.length, part, path)
+    read_on(rt, s, got.length, list, part, path)
 }
 
 // Reads more of the list, behind the first bytes of a name.
-fn read_on(s: Source, length: usize, part: &mut [u8], path: &mut [u8]) -> Source
+fn read_on<R: System>(
+    rt: &R,
+    s: Source,
+    length: usize,
+    list: &mut OpenedBy<R>,
+    part: &mut [u8],
+    path: &mut [u8],
+) -> Source
     ensures { StepFrom path.old length s.next s.left [] result (unused result part.new) path.new }
 {
-    let got = libc::read(s.fd, part);
-    after_read(s, got, length, part, path)
+    let got = list.read(part);
+    after_read(rt, s, got, length, list, part, path)
 }
 
-// The source once the system has told how many bytes of the list it put into the buffer: none at its end, and -1 where it can't be
+// The source once the system has told how many bytes of the list it put into the buffer: none at its end, and an error where it can't be
 // read. So many bytes of a name are held.
-fn after_read(s: Source, got: isize, held: usize, part: &[u8], path: &mut [u8]) -> Source
+fn after_read<R: System>(
+    rt: &R,
+    s: Source,
+    got: io::Result<usize>,
+    held: usize,
+    list: &mut OpenedBy<R>,
+    part: &[u8],
+    path: &mut [u8],
+) -> Source
     ensures { AfterRead got s.next s.left held (length part.now) path.old result path.new }
 {
-    if got < 0 {
-        os::fail(b"--files");
-        libc::close(s.fd);
-        return broken(s, path);
+    match got {
+        Err(error) => {
+            tell_unread(rt, b"--files", &error);
+            close(list);
+            broken(rt, s, path)
+        }
+        Ok(n) => {
+            if n == 0 {
+                close(list);
+                return list_ended(rt, s, held, path);
+            }
+            in_list(s, 0, n.min(part.len()), SEEKING, held)
+        }
     }
-    if got == 0 {
-        libc::close(s.fd);
-        return list_ended(s, held, path);
-    }
-    in_list(s, 0, io::count(got, part), SEEKING, held)
 }
 
 // The list's last name may lack the line feed.
-fn list_ended(s: Source, length: usize, path: &mut [u8]) -> Source
+fn list_ended<R: System>(rt: &R, s: Source, length: usize, path: &mut [u8]) -> Source
     ensures { Ended s.next s.left length path.old result path.new }
 {
     if length == 0 {
-        return argument(s, path);
+        return argument(rt, s, path);
     }
     past_list(s, FOUND, length)
 }
 
 // Puts an argument into the buffer. One that is too long fills it with its first bytes, and can't be
 // opened.
-fn argument_length(i: usize, path: &mut [u8]) -> usize {
-    let length = os::arg(i, path);
-    if os::errno() == 0 { length } else { path.len() }
+fn argument_length<R: System>(rt: &R, i: usize, path: &mut [u8]) -> usize {
+    match put_argument(rt, i, path) {
+        Ok(length) => length,
+        Err(_) => path.len(),
+    }
 }
 
 // The next argument.
-fn argument(s: Source, path: &mut [u8]) -> Source
+fn argument<R: System>(rt: &R, s: Source, path: &mut [u8]) -> Source
     ensures { NextArgument s.next s.left result }
 {
     if s.left == 0 {
         return past_list(s, ENDED, 0);
     }
-    let length = argument_length(s.next, path);
+    let length = argument_length(rt, s.next, path);
     Source {
         listed: false,
-        fd: -1,
         list: s.list,
         at: 0,
         end: 0,

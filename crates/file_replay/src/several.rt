@@ -4,16 +4,16 @@ ghost use Rattle.collection.specs.Tally.{none, collection};
 ghost use Rattle.file_replay.specs.Files.{not_read, Came, Gathered, Summed, Ran};
 
 use crate::names::Source;
+use crate::opened::{Opened, OpenedBy, System, input_beside};
 use crate::single::{not_read, replay_file};
 use crate::{names, progress};
 use arguments::Options;
 use collection::{Outcome, Tally};
 use item_state::output::first_bytes;
-use libc::STDOUT_FILENO;
 
 // Each group has this much room for its names. The summary has room for all names, and for 20 lines
 // more.
-pub fn replay_several(o: Options)
+pub fn replay_several<R: System>(rt: &R, o: Options)
     ensures { Ran o }
 {
     let mut out = [0u8; 331776];
@@ -23,6 +23,7 @@ pub fn replay_several(o: Options)
     let mut unread = [0u8; 65536];
     let mut plain = [0u8; 65536];
     let end = replay_each(
+        rt,
         o,
         &mut out,
         &mut differ,
@@ -31,11 +32,12 @@ pub fn replay_several(o: Options)
         &mut unread,
         &mut plain,
     );
-    io::write_all(STDOUT_FILENO, first_bytes(&out, end));
+    let _ = rt.write_all(first_bytes(&out, end));
 }
 
 // Replays the files, and puts the summary of them all into the places from 0 on.
-fn replay_each(
+fn replay_each<R: System>(
+    rt: &R,
     o: Options,
     out: &mut [u8],
     differ: &mut [u8],
@@ -47,7 +49,7 @@ fn replay_each(
     requires { (331776 ≤ length out.old) × (length differ.old ≤ 65536) × (length unannounced.old ≤ 65536) × (length bad.old ≤ 65536) × (length unread.old ≤ 65536) × (length plain.old ≤ 65536) }
     ensures { Summed o (collection none differ.old unannounced.old bad.old unread.old plain.old) (take result out.new) }
 {
-    let tally = gather(o, differ, unannounced, bad, unread, plain);
+    let tally = gather(rt, o, differ, unannounced, bad, unread, plain);
     tally::put_summary(out, tally, differ, unannounced, bad, unread, plain)
 }
 
@@ -55,7 +57,8 @@ fn replay_each(
 //
 // Nothing says that a list of names ends, so the loop counts its turns down, from a number that no
 // run uses up.
-fn gather(
+fn gather<R: System>(
+    rt: &R,
     o: Options,
     differ: &mut [u8],
     unannounced: &mut [u8],
@@ -65,15 +68,16 @@ fn gather(
 ) -> Tally
     ensures { Gathered o (collection none differ.old unannounced.old bad.old unread.old plain.old) (collection result differ.new unannounced.new bad.new unread.new plain.new) }
 {
-    let mut part = io::large_buffer();
-    let mut path = io::buffer();
+    let mut part = [0u8; 65536];
+    let mut path = [0u8; 4096];
+    let mut list = Opened::Closed;
     let mut tally = tally::empty();
-    let mut shown = progress::begin(o.total);
-    let mut source = names::first(o, &mut part, &mut path);
+    let mut shown = progress::begin(rt, o.total);
+    let mut source = names::first(rt, o, &mut list, &mut part, &mut path);
     let mut turns = u64::MAX;
     while turns > 0 && names::is_there(source) {
         turns -= 1;
-        let outcome = replay_named(source, &path, o.check);
+        let outcome = replay_named(rt, source, &list, &path, o.check);
         tally = tally::add(
             tally,
             outcome,
@@ -84,20 +88,27 @@ fn gather(
             unread,
             plain,
         );
-        shown = progress::tell(shown, tally.files);
-        source = names::next(source, &mut part, &mut path);
+        shown = progress::tell(rt, shown, tally.files);
+        source = names::next(rt, source, &mut list, &mut part, &mut path);
     }
-    progress::end(shown);
+    progress::end(rt, shown);
     tally
 }
 
 // The file of the name that was found.
-fn replay_named(source: Source, path: &[u8], check: bool) -> Outcome
+fn replay_named<R: System>(
+    rt: &R,
+    source: Source,
+    list: &OpenedBy<R>,
+    path: &[u8],
+    check: bool,
+) -> Outcome
     requires { length path.now ≤ 4096 }
     ensures { Came (take source.length path.now) check result × (source.state ≡ 2 → result ≡ not_read) }
 {
     if source.state == names::BROKEN {
         return not_read();
     }
-    replay_file(first_bytes(path, source.length), check, !check)
+    let input = input_beside(rt, list);
+    replay_file(rt, input, first_bytes(path, source.length), check, !check)
 }

@@ -3,56 +3,66 @@ ghost use Rattle.std.specs.Prelude.{◌+◌, ◌≤◌, true, false, ◌≡◌, 
 ghost use Rattle.file_replay.specs.Files.{not_read, headed, is_descriptor, Came};
 ghost use Rattle.session.specs.Turns.{Replayed};
 
+use crate::opened::{Opened, OpenedBy, System, is_input, open_named, put_argument};
 use collection::Outcome;
 use item_state::output::first_bytes;
-use libc::{STDIN_FILENO, STDOUT_FILENO};
+use session::tell_unread;
+use std::io;
 
 // Standard input, without a heading.
-pub fn replay_input() {
-    session::replay(STDIN_FILENO, b"-", false);
+pub fn replay_input<R: System>(rt: &R) {
+    session::replay(rt, &mut rt.reader(), b"-", false);
 }
 
 // The file that an argument names, without a heading.
-pub fn replay_argument(i: usize) {
-    let mut path = io::buffer();
-    let length = os::arg(i, &mut path);
-    if os::errno() != 0 {
-        os::fail(&path);
-        return;
+pub fn replay_argument<R: System>(rt: &R, i: usize) {
+    let mut path = [0u8; 4096];
+    match put_argument(rt, i, &mut path) {
+        Ok(length) => {
+            let input = Opened::Input(rt.reader());
+            replay_file(rt, input, &path[..length], false, false);
+        }
+        Err(error) => tell_unread(rt, &path, &error),
     }
-    replay_file(&path[..length], false, false);
 }
 
-// The file of a name, `-` being standard input.
-pub fn replay_file(path: &[u8], check: bool, heading: bool) -> Outcome
+// The file of a name, `-` being the input.
+pub fn replay_file<R: System>(
+    rt: &R,
+    input: OpenedBy<R>,
+    path: &[u8],
+    check: bool,
+    heading: bool,
+) -> Outcome
     requires { length path.now ≤ 4096 }
     ensures { Came path.now check result }
 {
-    if check::same(path, b"-") {
-        return replay_opened(STDIN_FILENO, path, check, heading);
+    if is_input(path) {
+        return replay_opened(rt, Ok(input), path, check, heading);
     }
-    let fd = os::open_read(path);
-    let o = replay_opened(fd, path, check, heading);
-    close(fd);
-    o
+    replay_opened(rt, open_named(rt, path), path, check, heading)
 }
 
 // A file that can't be opened is told by name, with the system's words.
-fn replay_opened(fd: i32, path: &[u8], check: bool, heading: bool) -> Outcome
+fn replay_opened<R: System>(
+    rt: &R,
+    opened: io::Result<OpenedBy<R>>,
+    path: &[u8],
+    check: bool,
+    heading: bool,
+) -> Outcome
     requires { length path.now ≤ 4096 }
-    ensures { (is_descriptor fd ≡ false → result ≡ not_read) × (is_descriptor fd ≡ true → Replayed path.now check result) }
+    ensures { (is_descriptor opened ≡ false → result ≡ not_read) × (is_descriptor opened ≡ true → Replayed path.now check result) }
 {
-    if fd < 0 {
-        os::fail(path);
-        return not_read();
-    }
-    write_heading(path, heading);
-    session::replay(fd, path, check)
-}
-
-fn close(fd: i32) {
-    if fd >= 0 {
-        libc::close(fd);
+    match opened {
+        Err(error) => {
+            tell_unread(rt, path, &error);
+            not_read()
+        }
+        Ok(mut file) => {
+            write_heading(rt, path, heading);
+            session::replay(rt, &mut file, path, check)
+        }
     }
 }
 
@@ -68,12 +78,12 @@ pub fn not_read() -> Outcome
     }
 }
 
-fn write_heading(path: &[u8], heading: bool)
+fn write_heading(rt: &impl Print, path: &[u8], heading: bool)
     requires { length path.now ≤ 4096 }
 {
     let mut out = [0u8; 4112];
     let end = put_heading(&mut out, path, heading);
-    io::write_all(STDOUT_FILENO, first_bytes(&out, end));
+    let _ = rt.write_all(first_bytes(&out, end));
 }
 
 // Puts the heading into the first places, where one is asked for.

@@ -16,7 +16,7 @@ const READ_END: u32 = 0x100;
 
 // What the bytes ask for. A read or a write names its first register, as in the opcode, and how many words follow;
 // a frame of the user flash has its opcode. A refusal holds its number.
-#[derive(Drop)]
+#[derive(Clone, Copy)]
 pub enum Decoded {
     Command(u32),
     Read(u32, usize),

@@ -6,7 +6,7 @@ use device::Model;
 
 // What an item has beside its lists: its model, its moment, and how many differences and entries its record and its probe table have. They and
 // the user flash stand in lent lists.
-#[derive(Drop)]
+#[derive(Clone, Copy)]
 pub struct Carried {
     pub model: Model,
     pub moment: u64,
@@ -15,7 +15,7 @@ pub struct Carried {
 }
 
 // The counts of the last line, or what a line adds to them.
-#[derive(Drop)]
+#[derive(Clone, Copy)]
 pub struct Counts {
     pub calls: u64,
     pub refused: u64,
@@ -26,7 +26,7 @@ pub struct Counts {
 }
 
 // What a line leaves: the item, the place behind its answer, and what it adds to the counts.
-#[derive(Drop)]
+#[derive(Clone, Copy)]
 pub struct Stepped {
     pub carried: Carried,
     pub end: usize,

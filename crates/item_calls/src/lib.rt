@@ -1,7 +1,7 @@
 // The lines that move the model: items, transactions, ticks, stretches and deliveries.
 #![tactic(auto)]
 
-mod delivery;
+mod deliveries;
 mod start;
 mod ticks;
 mod transaction;
@@ -53,8 +53,8 @@ fn answer_time(
     match content {
         Content::At(t) => ticks::at(m, Ticks(t), counts, answers),
         Content::Stretch(n) => ticks::stretch(m, Ticks(n), counts, answers),
-        Content::Flight { up, down } => delivery::flight(m, numbers, up, down, counts, answers),
-        Content::Temperature(n) => delivery::temperature(m, numbers, n, counts, answers),
+        Content::Flight { up, down } => deliveries::flight(m, numbers, up, down, counts, answers),
+        Content::Temperature(n) => deliveries::temperature(m, numbers, n, counts, answers),
         _ => m,
     }
 }

@@ -20,7 +20,7 @@ pub use stretches::stretch;
 pub use transactions::{bus, set};
 
 // What such a line leaves: the item, the place after the first line of its answer, and whether that is a refusal.
-#[derive(Drop)]
+#[derive(Clone, Copy)]
 pub struct Answered {
     pub carried: Carried,
     pub end: usize,
@@ -28,14 +28,14 @@ pub struct Answered {
 }
 
 // A transaction's answer, and the item after it.
-#[derive(Drop)]
+#[derive(Clone, Copy)]
 struct Exchanged {
     carried: Carried,
     answer: Answer,
 }
 
 // The words compared so far: the place after what differs, how many are expectations, and how many differ.
-#[derive(Drop)]
+#[derive(Clone, Copy)]
 struct Compared {
     end: usize,
     expectations: u64,

@@ -15,7 +15,7 @@ use setup_frames::Framed;
 use text_code::{bytes_from, first_bytes, first_words};
 
 // Frames one after the other in the first bytes, and their lengths.
-#[derive(Drop)]
+#[derive(Clone, Copy)]
 struct FrameBytes {
     bytes: [u8; 33],
     lengths: [u32; 8],

@@ -13,7 +13,7 @@ mod refused;
 pub mod table;
 
 // What a line that adds leaves: whether there was room, how many there are then, and the place after the answer's first line.
-#[derive(Drop)]
+#[derive(Clone, Copy)]
 pub struct Added {
     pub fits: bool,
     pub count: usize,
@@ -21,14 +21,14 @@ pub struct Added {
 }
 
 // The place after the first line of an answer, and whether it is a refusal.
-#[derive(Drop)]
+#[derive(Clone, Copy)]
 pub struct Answered {
     pub end: usize,
     pub refused: bool,
 }
 
 // The place after an answer's first line with its line feed; whether the line's `=>` agrees with the answer, differs from it, and has a word.
-#[derive(Drop)]
+#[derive(Clone, Copy)]
 pub struct Judged {
     pub end: usize,
     pub agrees: bool,

@@ -8,7 +8,7 @@ use text::Span;
 use unit::Ticks;
 
 // Why a line is no call; a word that is named is told by its place.
-#[derive(Drop)]
+#[derive(Clone, Copy)]
 pub enum FaultRead {
     TooLong,
     UnknownWord(Span),
@@ -18,13 +18,13 @@ pub enum FaultRead {
     NoRoom,
 }
 
-#[derive(Drop)]
+#[derive(Clone, Copy)]
 pub enum OutputRead {
     ByFrame,
     OutOf(usize),
 }
 
-#[derive(Drop)]
+#[derive(Clone, Copy)]
 pub enum CallRead {
     Bus(OutputRead, usize),
     // The address, and how many words.
@@ -42,14 +42,14 @@ pub enum CallRead {
     Quietest(u32),
 }
 
-#[derive(Drop)]
+#[derive(Clone, Copy)]
 pub enum AskRead {
     Int,
     Awaited,
     Regs,
 }
 
-#[derive(Drop)]
+#[derive(Clone, Copy)]
 pub enum KeepRead {
     Probe(usize),
     // Two's complement words.
@@ -57,13 +57,13 @@ pub enum KeepRead {
 }
 
 // No `=>`, or the part of the line whose words are expected.
-#[derive(Drop)]
+#[derive(Clone, Copy)]
 pub enum ExpectedRead {
     Unmarked,
     Marked(Span),
 }
 
-#[derive(Drop)]
+#[derive(Clone, Copy)]
 pub enum LineRead {
     Silent,
     Bad(FaultRead),

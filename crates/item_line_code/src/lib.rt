@@ -15,7 +15,7 @@ pub use line::read_line;
 use text::Span;
 
 // How a word stands for a number.
-#[derive(Drop)]
+#[derive(Clone, Copy)]
 pub enum Kind {
     Hex,
     Count,
@@ -23,7 +23,7 @@ pub enum Kind {
 }
 
 // The form of a list's words. The number of digits is that of hexadecimal ones.
-#[derive(Drop)]
+#[derive(Clone, Copy)]
 pub struct Form {
     pub kind: Kind,
     pub least: usize,
@@ -32,7 +32,7 @@ pub struct Form {
     pub slash: bool,
 }
 
-#[derive(Drop)]
+#[derive(Clone, Copy)]
 pub enum ListWord {
     Slash,
     Word(u32),
@@ -40,7 +40,7 @@ pub enum ListWord {
 }
 
 // What a list of words comes to: how many numbers, slashes, and numbers before the first slash; or the first word that is none of the form.
-#[derive(Drop)]
+#[derive(Clone, Copy)]
 pub enum Tally {
     All {
         count: usize,
@@ -51,56 +51,56 @@ pub enum Tally {
 }
 
 // Digits that end before a place, and their value.
-#[derive(Drop)]
+#[derive(Clone, Copy)]
 pub struct Digits {
     pub end: usize,
     pub value: u32,
 }
 
 // The place up to which numbers were stored, and how many there are.
-#[derive(Drop)]
+#[derive(Clone, Copy)]
 pub struct Reached {
     pub at: usize,
     pub count: usize,
 }
 
 // Where the words of a part end that stand before a comment or a mark, and that word; it is empty where there is none.
-#[derive(Drop)]
+#[derive(Clone, Copy)]
 pub struct Cut {
     pub end: usize,
     pub word: Span,
 }
 
 // The part of a line before its mark, and what the line expects.
-#[derive(Drop)]
+#[derive(Clone, Copy)]
 pub struct Split {
     pub before: Span,
     pub expected: ExpectedRead,
 }
 
 // A number, or why the line is no call.
-#[derive(Drop)]
+#[derive(Clone, Copy)]
 pub enum NumberRead {
     Fault(FaultRead),
     Value(u32),
 }
 
 // How many words were read.
-#[derive(Drop)]
+#[derive(Clone, Copy)]
 pub enum CountRead {
     Fault(FaultRead),
     Count(usize),
 }
 
 // An address, and the part of the line after it.
-#[derive(Drop)]
+#[derive(Clone, Copy)]
 pub enum AddressRead {
     Fault(FaultRead),
     Address(u32, Span),
 }
 
 // The calls of one decimal.
-#[derive(Drop)]
+#[derive(Clone, Copy)]
 pub enum Counted {
     Tick,
     At,

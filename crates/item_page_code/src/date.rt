@@ -45,7 +45,7 @@ pub fn put_clock(buf: &mut [u8], at: usize, words: &[u32]) -> usize
 
 fn put_alarm_rows(buf: &mut [u8], at: usize, words: &[u32]) -> usize
     requires { length words.now ≡ 80 }
-    ensures { Puts buf.old at (endedEach (drop 6 (clockRows (word_at words.now)))) result buf.new }
+    ensures { Puts buf.old at (ended_each (drop 6 (clock_rows (word_at words.now)))) result buf.new }
 {
     let alarm = words[5];
     let a = put_form(
@@ -74,7 +74,7 @@ fn hours(w: u32) -> u32
 }
 
 fn put_time(buf: &mut [u8], at: usize, w: u32) -> usize
-    ensures { Puts buf.old at (timeOfDay w) result buf.new }
+    ensures { Puts buf.old at (time_of_day w) result buf.new }
 {
     let a = numeral::put_hex(buf, at, 2, hours(w));
     let b = numeral::put_text(buf, a, b":");
@@ -82,7 +82,7 @@ fn put_time(buf: &mut [u8], at: usize, w: u32) -> usize
 }
 
 fn put_half(buf: &mut [u8], at: usize, w: u32) -> usize
-    ensures { Puts buf.old at (halfDay w) result buf.new }
+    ensures { Puts buf.old at (half_day w) result buf.new }
 {
     if clock::words::twelve_in(w) {
         if w / 32 % 2 == 1 {
@@ -94,7 +94,7 @@ fn put_half(buf: &mut [u8], at: usize, w: u32) -> usize
 }
 
 fn put_alarm(buf: &mut [u8], at: usize, mode: u32) -> usize
-    ensures { Puts buf.old at (alarmText mode) result buf.new }
+    ensures { Puts buf.old at (alarm_text mode) result buf.new }
 {
     if mode == 0 {
         return numeral::put_text(buf, at, b", no alarm");

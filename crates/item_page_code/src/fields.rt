@@ -49,7 +49,7 @@ pub fn put_setup(buf: &mut [u8], at: usize, words: &[u32]) -> usize
 
 fn put_control_rows(buf: &mut [u8], at: usize, words: &[u32]) -> usize
     requires { length words.now ≡ 80 }
-    ensures { Puts buf.old at (endedEach (drop 10 (setupRows (word_at words.now)))) result buf.new }
+    ensures { Puts buf.old at (ended_each (drop 10 (setup_rows (word_at words.now)))) result buf.new }
 {
     let a = put_form(
         buf,
@@ -115,14 +115,14 @@ fn put_divider(buf: &mut [u8], at: usize, dpl: u32) -> usize
 }
 
 fn put_hits(buf: &mut [u8], at: usize, w: u32) -> usize
-    ensures { Puts buf.old at (hitsText w) result buf.new }
+    ensures { Puts buf.old at (hits_text w) result buf.new }
 {
     let values = [setup::stop_row(w / 8192 % 8), setup::timeout_row(w % 8)];
     put_form(buf, at, b"STOP |& hit|, TIMOUT |#| us|", &values, 0)
 }
 
 fn put_timing1(buf: &mut [u8], at: usize, w: u32) -> usize
-    ensures { Puts buf.old at (timing1Text w) result buf.new }
+    ensures { Puts buf.old at (timing1_text w) result buf.new }
 {
     let halves = w / 4096 % 16 + 1;
     let values = [halves / 2, halves % 2 * 5, w / 128 % 32 + 1, w / 2 % 64 + 1];
@@ -136,7 +136,7 @@ fn put_timing1(buf: &mut [u8], at: usize, w: u32) -> usize
 }
 
 fn put_timing2(buf: &mut [u8], at: usize, w: u32) -> usize
-    ensures { Puts buf.old at (timing2Text w) result buf.new }
+    ensures { Puts buf.old at (timing2_text w) result buf.new }
 {
     let tp = w / 32 % 4;
     let values = [w / 2048 % 32 + 1, tp / 2, tp % 2, 128 * (w % 4 + 1)];
@@ -151,7 +151,7 @@ fn put_timing2(buf: &mut [u8], at: usize, w: u32) -> usize
 
 // With the blank before them.
 fn put_control(buf: &mut [u8], at: usize, w: u32) -> usize
-    ensures { Puts buf.old at (ascii " " ++ namesOr "none" (controlNames w)) result buf.new }
+    ensures { Puts buf.old at (ascii " " ++ names_or "none" (control_names w)) result buf.new }
 {
     let a = w / 512 % 2;
     let b = w / 256 % 2;
@@ -167,7 +167,7 @@ fn put_control(buf: &mut [u8], at: usize, w: u32) -> usize
 }
 
 fn put_oscillator(buf: &mut [u8], at: usize, w: u32) -> usize
-    ensures { Puts buf.old at (oscillatorText w) result buf.new }
+    ensures { Puts buf.old at (oscillator_text w) result buf.new }
 {
     let mode = w / 4 % 4;
     let values = [w / 16 % 2, w / 16 % 2, mode / 2, mode % 2];

@@ -43,7 +43,7 @@ pub fn put_flight(buf: &mut [u8], at: usize, words: &[u32]) -> usize
 
 fn put_differences(buf: &mut [u8], at: usize, words: &[u32]) -> usize
     requires { length words.now ≡ 80 }
-    ensures { Puts buf.old at (endedEach (drop 17 (flightBy words.now))) result buf.new }
+    ensures { Puts buf.old at (ended_each (drop 17 (flight_by words.now))) result buf.new }
 {
     let a = put_form(
         buf,
@@ -71,7 +71,7 @@ fn put_differences(buf: &mut [u8], at: usize, words: &[u32]) -> usize
 }
 
 pub fn put_temperatures(buf: &mut [u8], at: usize, words: &[u32]) -> usize
-    ensures { Puts buf.old at (endedEach (temperatureBy words.now)) result buf.new }
+    ensures { Puts buf.old at (ended_each (temperature_by words.now)) result buf.new }
 {
     put_form(
         buf,
@@ -94,7 +94,7 @@ pub fn put_temperatures(buf: &mut [u8], at: usize, words: &[u32]) -> usize
 }
 
 fn put_difference(buf: &mut [u8], at: usize, w: u32, up: u32) -> usize
-    ensures { Puts buf.old at (differenceText w up) result buf.new }
+    ensures { Puts buf.old at (difference_text w up) result buf.new }
 {
     if failed(w, up) {
         return numeral::put_text(buf, at, b"no time");

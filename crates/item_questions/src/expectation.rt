@@ -3,7 +3,7 @@ ghost use Rattle.std.specs.Prelude.{◌≡◌, if◌then◌else◌, nat_eq};
 ghost use Rattle.wording.specs.Text.{PutEach};
 ghost use Rattle.item_questions.specs.Answers.{differing as Answers·differing, pairs, expectation, Expects};
 
-use crate::registers::word;
+use crate::register_lines::word;
 use device::Model;
 use item_state::counts::{DIFFER, EXPECTED, USED, more};
 

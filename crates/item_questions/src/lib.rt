@@ -3,7 +3,7 @@
 
 mod expectation;
 mod frames;
-mod registers;
+mod register_lines;
 
 ghost use Rattle.std.specs.Prelude.{◌≡◌};
 ghost use Rattle.item_questions.specs.Answers.{question_line};
@@ -28,9 +28,9 @@ pub fn answer_question(
             expectation::expect(m, address, first_words(numbers, words), counts, answers);
         }
         Content::Frames => frames::frames(m, counts, answers),
-        Content::Int => counts[USED] = registers::put_interrupt(answers, counts[USED], m),
-        Content::Awaited => counts[USED] = registers::put_awaited(answers, counts[USED], m),
-        Content::Regs => counts[USED] = registers::put_registers(answers, counts[USED], m),
+        Content::Int => counts[USED] = register_lines::put_interrupt(answers, counts[USED], m),
+        Content::Awaited => counts[USED] = register_lines::put_awaited(answers, counts[USED], m),
+        Content::Regs => counts[USED] = register_lines::put_registers(answers, counts[USED], m),
         Content::Show => counts[USED] = show::put_page(answers, counts[USED], m),
         _ => {}
     }

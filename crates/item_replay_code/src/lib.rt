@@ -22,7 +22,7 @@ use unit::Ticks;
 // What a replay keeps between pieces of its text, beside the lists that are lent: the number of the line that comes next or is under way, the
 // item, the counts, how many bytes of the line are kept, and of a line of ticks that is under way the ticks that are left, the number of the next
 // of them and whether the answer differs from what the line expects.
-#[derive(Drop)]
+#[derive(Clone, Copy)]
 pub struct State {
     pub number: u64,
     pub carried: Carried,
@@ -34,7 +34,7 @@ pub struct State {
 }
 
 // What a piece leaves: the state, how many bytes of it are taken, how many of answers are put, and how many lines are done.
-#[derive(Drop)]
+#[derive(Clone, Copy)]
 pub struct Gone {
     pub state: State,
     pub taken: usize,
@@ -44,7 +44,7 @@ pub struct Gone {
 
 // What a turn leaves: the state, the place after the bytes that are taken, the place after what is put, whether a line is done, what it adds, and
 // whether more turns may follow.
-#[derive(Drop)]
+#[derive(Clone, Copy)]
 pub struct Turn {
     pub state: State,
     pub taken: usize,
@@ -55,7 +55,7 @@ pub struct Turn {
 }
 
 // Where a line goes on: the place after what was taken of it, how many of its bytes are kept, and whether it has ended.
-#[derive(Drop)]
+#[derive(Clone, Copy)]
 pub struct Held {
     pub next: usize,
     pub begun: usize,
@@ -63,7 +63,7 @@ pub struct Held {
 }
 
 // A line of ticks that is under way: what its item carries, the ticks left, the number of the next, and the place after what is put.
-#[derive(Drop)]
+#[derive(Clone, Copy)]
 pub struct RestRan {
     pub carried: Carried,
     pub left: Ticks,
@@ -72,14 +72,14 @@ pub struct RestRan {
 }
 
 // A line of ticks that was begun: how far it is, and whether its answer differs from what the line expects.
-#[derive(Drop)]
+#[derive(Clone, Copy)]
 pub struct TicksBegun {
     pub rest: RestRan,
     pub differs: bool,
 }
 
 // What a line that was read asks of its turn: to run ticks, to put the page, or neither.
-#[derive(Drop)]
+#[derive(Clone, Copy)]
 pub enum Sort {
     Tick(Ticks, ExpectedRead),
     At(Ticks, ExpectedRead),

@@ -12,7 +12,7 @@ pub use running::{ROOM_OF_REPORTS, run_ticks};
 use unit::Ticks;
 
 // Some ticks on: the model after them, how many they were, and what the last of them reported of each kind; the others reported nothing.
-#[derive(Drop)]
+#[derive(Clone, Copy)]
 pub struct Moved {
     pub model: Model,
     pub ran: Ticks,
@@ -21,7 +21,7 @@ pub struct Moved {
 }
 
 // The ticks of a line that is under way: the model, how many are left, the number of the next, and the place after the reports so far.
-#[derive(Drop)]
+#[derive(Clone, Copy)]
 pub struct RanTicks {
     pub model: Model,
     pub left: Ticks,
@@ -31,7 +31,7 @@ pub struct RanTicks {
 
 // How far an answer's words have been held against those expected: the next of these, from `start` to before `end`, or none; and whether
 // one has differed.
-#[derive(Drop)]
+#[derive(Clone, Copy)]
 pub struct Held {
     pub start: usize,
     pub end: usize,

@@ -61,7 +61,7 @@ fn row_of(number: u32) -> usize
 
 fn length_in(row: usize) -> usize
     requires { row ≤ 21 }
-    ensures { (result ≡ length (ascii (get_or refusalWords row ""))) × (16 * row + result ≤ 336) }
+    ensures { (result ≡ length (ascii (get_or refusal_words row ""))) × (16 * row + result ≤ 336) }
 {
     LENGTHS[row]
 }

@@ -4,7 +4,7 @@
 
 // What a line holds: nothing, a fault, an item's name or a call. Counts are of the numbers that the
 // line left in the buffer, from its start on.
-#[derive(Drop)]
+#[derive(Clone, Copy)]
 pub enum Content {
     // A line that is passed over.
     Nothing,
@@ -42,14 +42,14 @@ pub enum Content {
 
 // What a line holds, and the place from which the words stand that it expects of the answer, behind
 // its `=>`; 0 where it has none.
-#[derive(Drop)]
+#[derive(Clone, Copy)]
 pub struct Said {
     pub content: Content,
     pub expected: usize,
 }
 
 // The first word of a line.
-#[derive(Drop)]
+#[derive(Clone, Copy)]
 pub enum Keyword {
     Item,
     Bus,
@@ -74,7 +74,7 @@ pub enum Keyword {
 }
 
 // What the one decimal of a line counts.
-#[derive(Drop)]
+#[derive(Clone, Copy)]
 pub enum Counted {
     Tick,
     At,
@@ -84,7 +84,7 @@ pub enum Counted {
 
 // How the words of a list are read: hexadecimal numbers of `least` to `most` digits. From the
 // number `looked` on, words are counted and not looked into. With `slash`, a word `/` parts lists.
-#[derive(Drop)]
+#[derive(Clone, Copy)]
 pub struct Form {
     pub least: usize,
     pub most: usize,
@@ -93,7 +93,7 @@ pub struct Form {
 }
 
 // One word of such a list.
-#[derive(Drop)]
+#[derive(Clone, Copy)]
 pub enum ListWord {
     Slash,
     Past,
@@ -102,7 +102,7 @@ pub enum ListWord {
 }
 
 // A whole list: how many numbers and slashes it has, and how many numbers before the first slash.
-#[derive(Drop)]
+#[derive(Clone, Copy)]
 pub enum Tally {
     Wrong,
     All {
@@ -113,21 +113,21 @@ pub enum Tally {
 }
 
 // A word's place: from `start` to before `end`. Where they are equal there is no word.
-#[derive(Drop)]
+#[derive(Clone, Copy)]
 pub struct Span {
     pub start: usize,
     pub end: usize,
 }
 
 // Digits from a place to before `end`, and their value.
-#[derive(Drop)]
+#[derive(Clone, Copy)]
 pub struct Digits {
     pub end: usize,
     pub value: u32,
 }
 
 // How far a list was read: the place after it, and the count of its numbers.
-#[derive(Drop)]
+#[derive(Clone, Copy)]
 pub struct Reached {
     pub at: usize,
     pub count: usize,

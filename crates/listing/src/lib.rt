@@ -16,14 +16,14 @@ const LAST_CAPTURE: u32 = 20;
 const SHORT_OUTPUT: u32 = 21;
 
 // How many hexadecimal digits a capture number has.
-#[derive(Drop)]
+#[derive(Clone, Copy)]
 pub enum Width {
     Two,
     Eight,
 }
 
 // How many bytes were written, or the number of a refusal.
-#[derive(Drop)]
+#[derive(Clone, Copy)]
 pub enum Listed {
     Written(usize),
     Refused(u32),

@@ -16,7 +16,7 @@ pub use print::{
 pub use read::{hex_digit, read_decimal, read_hex, read_signed};
 
 // What is read from a word.
-#[derive(Drop)]
+#[derive(Clone, Copy)]
 pub enum Number {
     Value(u32),
     Bad,

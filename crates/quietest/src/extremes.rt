@@ -4,7 +4,7 @@ ghost use Rattle.std.specs.Int.Signed.{lt_z};
 ghost use Rattle.quietest.specs.Quietest.{larger, smaller};
 ghost use Rattle.quietest.specs.Search.{extremes_of, joined, spread_of};
 
-#[derive(Drop)]
+#[derive(Clone, Copy)]
 pub struct Extremes {
     pub high: i32,
     pub low: i32,

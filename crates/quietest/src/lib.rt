@@ -13,7 +13,7 @@ mod search;
 const WIDTH: u32 = 18;
 
 // Where the quietest run starts, or the number of a refusal.
-#[derive(Drop)]
+#[derive(Clone, Copy)]
 pub enum Place {
     At(usize),
     Refused(u32),

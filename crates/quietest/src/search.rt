@@ -9,7 +9,7 @@ ghost use Rattle.quietest.specs.Search.{extremes_of, found, better, Within};
 use crate::extremes::{Extremes, extremes_of, joined, spread_of};
 
 // A start and its run's spread.
-#[derive(Drop)]
+#[derive(Clone, Copy)]
 pub struct Found {
     pub start: usize,
     pub spread: i64,

@@ -11,15 +11,15 @@
 
 mod options;
 
-fn main() {
-    let o = options::given(os::arg_count());
+fn main(rt: HostRuntime) {
+    let o = options::given(&rt, options::count(&rt));
     if arguments::is_several(o) {
-        file_replay::replay_several(o);
+        file_replay::replay_several(&rt, o);
         return;
     }
     if o.files == 0 {
-        file_replay::replay_input();
+        file_replay::replay_input(&rt);
         return;
     }
-    file_replay::replay_argument(o.first);
+    file_replay::replay_argument(&rt, o.first);
 }

@@ -14,7 +14,7 @@ use schedule::in_event;
 use unit::Ticks;
 
 // In how many ticks an awaited measurement fails.
-#[derive(Drop)]
+#[derive(Clone, Copy)]
 pub enum Left {
     Refused(u32),
     After(Ticks),
@@ -22,7 +22,7 @@ pub enum Left {
 
 // The place of an event: how many measurements it makes, or a group of a continuous one; how many of them, or of the current group,
 // are started, settled and good; and the ticks until the next start, 0 where all are started.
-#[derive(Drop)]
+#[derive(Clone, Copy)]
 pub struct Place {
     pub planned: u8,
     pub started: u8,
@@ -32,7 +32,7 @@ pub struct Place {
     pub continuous: bool,
 }
 
-#[derive(Drop)]
+#[derive(Clone, Copy)]
 pub enum Placed {
     Refused(u32),
     NoEvent,

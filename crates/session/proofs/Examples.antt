@@ -5,7 +5,7 @@ use mathlib.Core.Path.{◌≡◌, refl}
 use Prim.Native.Nat.{ℕ}
 use lib.IntN.{ℤ}
 use Rattle.numeral.specs.Digit.{digits, glyph}
-use Rattle.numeral.specs.Place.{overwrite, next_place, written, put_each, joined}
+use Rattle.numeral.specs.Place.{overwrite, next_place, written, put_each}
 use Rattle.numeral.specs.Print.{width_from, decimal_width, decimal}
 use Rattle.line.specs.Words.{is_blank, ended, words_after, words, same_bytes}
 use Rattle.line.specs.Mark.{takes_mark, before_mark, behind_mark, is_mark}
@@ -23,7 +23,7 @@ use Rattle.item_checks.specs.Fault.{is_past_or_full, is_fault, left_of, fault_sa
 use Rattle.item_checks.specs.Open.{line_counted, headed, begun, is_item, named, opened}
 use Rattle.item_checks.specs.Close.{expected_of, kept_briefly, judged_log, is_announced, refusal_counted, closed}
 use Rattle.session.specs.Line.{Replay, line_done, line_begun, line_ended, content_answered, line_answered}
-use Rattle.session.specs.Feed.{Fed, has_room, left_behind, line_fed, fed}
+use Rattle.session.specs.Feed.{has_room, left_behind, line_fed, fed}
 
 -- Where the answers end, the lines that were read, the bad ones, those before this line, and the ticks that are left.
 abbrev counts : ℕ → ℕ → ℕ → ℕ → ℕ → List ℕ

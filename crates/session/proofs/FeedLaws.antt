@@ -9,7 +9,7 @@ use lib.Dec.{eqb, leb}
 use lib.ListN.{length, get_or, take, drop, length-drop, drop_of_length-le}
 use lib.Seq.{length-take-le, drop-drop}
 use Rattle.line.specs.Line.{line_reading}
-use Rattle.line_buffer.specs.Lines.{has_line, line_of, behind_line, line_end}
+use Rattle.line_buffer.specs.Lines.{has_line, behind_line, line_end}
 use Rattle.line_buffer.proofs.LineLaws.{line-not-there, behind-shorter, line-there, line-nowhere, line-part, line-behind-part}
 use Rattle.session.specs.Line.{Replay, line_answered}
 use Rattle.session.specs.Feed.{Fed, has_room, left_behind, line_fed, fed}

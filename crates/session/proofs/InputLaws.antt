@@ -2,18 +2,13 @@
 use Prim.Native.Nat.{ℕ, zero, suc, ◌+◌, ◌-◌, ◌≤◌, ◌<◌, min}
 use mathlib.Core.Bool.{Bool, true, false, true≢false}
 use mathlib.Core.List.{List, [], ◌∷◌, ◌++◌}
-use mathlib.Core.Path.{◌≡◌, refl, sym, ap, subst, ◌∙◌}
+use mathlib.Core.Path.{◌≡◌, refl, sym, ap, ◌∙◌}
 use native.Mathlib.Decide.{dec_le}
 use native.Mathlib.Numerals.{add-one}
 use native.Mathlib.Omega.{arith}
-use lib.IntN.{ℤ, pos, negsuc}
-use lib.Signed.{lt_z}
-use borrow.Author.Tests.{ltb-true}
-use mir.Syntax.{w64}
-use mir.Val.{of_z, to_z}
 use lib.ListN.{length, set, take, drop, length-take, length-drop, take-append-drop}
 use lib.Seq.{length-take-le, take_all, take-take, take-add, take-suc-set, drop_at}
-use Rattle.io.specs.Counts.{clamp_len}
+use Rattle.std.specs.Prelude.{Result, Ok, Err}
 use Rattle.line_buffer.specs.Lines.{has_line}
 use Rattle.session.specs.Flush.{line_ending}
 use Rattle.session.specs.Input.{state_after, bytes_after, over_from, ReadOn, WentOn}
@@ -49,35 +44,24 @@ read-room part part' held k n room same less =
     let long : length (take held part') ≡ length (take held part) = ap length same in
     omega (arith, length-take held part', length-take held part, length-take k (drop held part'), length-drop held part')
 
--- What the system told, by the tests of the code: a failure,
-pub told-failed : (got : ℤ) (held : ℕ) (part : List ℕ) → to_z w64 (of_z w64 got) ≡ got → lt_z (to_z w64 (of_z w64 got)) (pos 0) ≡ true
+-- What the system told: a failure,
+pub told-failed : {E : Type 0} (got : Result ℕ E) {error : E} (held : ℕ) (part : List ℕ) → got ≡ Err error
     → (2 ≡ state_after got) × ([] ≡ bytes_after got held part)
 unfolding state_after bytes_after
-told-failed got held part same low = go got (subst (λ (z : ℤ). lt_z z (pos 0) ≡ true) same low)
-  where
-    go : (z : ℤ) → lt_z z (pos 0) ≡ true → (2 ≡ state_after z) × ([] ≡ bytes_after z held part)
-    go (pos n) low = absurd (omega (arith, ltb-true n 0 low))
-    go (negsuc n) low = (refl, refl)
+told-failed got held part is = rw is (refl, refl)
 
 -- the end,
-pub told-ended : (got : ℤ) (held : ℕ) (part : List ℕ) → to_z w64 (of_z w64 got) ≡ got → of_z w64 got ≡ 0
+pub told-ended : {E : Type 0} (got : Result ℕ E) (held : ℕ) (part : List ℕ) → got ≡ Ok 0
     → (1 ≡ state_after got) × (line_ending (take held part) ≡ bytes_after got held part)
 unfolding state_after bytes_after
-told-ended got held part same none =
-    let zero : got ≡ pos 0 = sym same ∙ ap (to_z w64) none in rw zero (refl, refl)
+told-ended got held part is = rw is (refl, refl)
 
 -- or some bytes.
-pub told_more : (got : ℤ) (held n k : ℕ) (part : List ℕ) → to_z w64 (of_z w64 got) ≡ got → ¬ (of_z w64 got ≡ 0) → lt_z (to_z w64 (of_z w64 got)) (pos 0) ≡ false
-    → n ≡ clamp_len (to_z w64 (of_z w64 got)) k → k ≡ length part - held → (0 ≡ state_after got) × (take (held + n) part ≡ bytes_after got held part)
+pub told_more : {E : Type 0} (got : Result ℕ E) (held n k : ℕ) (part : List ℕ) → got ≡ Ok n → ¬ (n ≡ 0) → k ≡ min n (length part - held)
+    → (0 ≡ state_after got) × (take (held + k) part ≡ bytes_after got held part)
 unfolding state_after bytes_after
-told_more got held n k part same some low count long =
-    go got some (subst (λ (z : ℤ). lt_z z (pos 0) ≡ false) same low) (count ∙ (ap (λ (z : ℤ). clamp_len z k) same ∙ ap (clamp_len got) long))
-  where
-    go : (z : ℤ) → ¬ (of_z w64 z ≡ 0) → lt_z z (pos 0) ≡ false → n ≡ clamp_len z (length part - held)
-        → (0 ≡ state_after z) × (take (held + n) part ≡ bytes_after z held part)
-    go (pos zero) some low count = absurd (some refl)
-    go (pos (suc m)) some low count = (refl, rw count)
-    go (negsuc m) some low count = absurd (true≢false low)
+told_more got held zero k part is some less = absurd (some refl)
+told_more got held (suc m) k part is some less = rw is (refl, rw less)
 
 read-longer : (part part' : List ℕ) (held n : ℕ) → held ≤ length part → held + n ≤ length part' → 0 < n
     → length (take held part) < length (take (held + n) part')
@@ -129,12 +113,12 @@ read_more held bytes all long =
     record { known = omega arith; more = λ e. all; some = λ e. long; ended = λ e. absurd (omega arith); failed = λ e. absurd (omega arith) }
 
 -- whatever the system tells, and whatever it put behind the bytes that are held
-pub read-on : (got : ℤ) (part part' : List ℕ) (held : ℕ) → held < length part → length part' ≡ length part → take held part' ≡ take held part
+pub read-on : {E : Type 0} (got : Result ℕ E) (part part' : List ℕ) (held : ℕ) → held < length part → length part' ≡ length part → take held part' ≡ take held part
     → ReadOn (take held part) (state_after got) (bytes_after got held part')
 unfolding state_after bytes_after
-read-on (negsuc k) part part' held room long same = read-failed (take held part)
-read-on (pos zero) part part' held room long same = read-ended (take held part) (line_ending (take held part')) (ap line_ending same)
-read-on (pos (suc n)) part part' held room long same =
+read-on (Err e) part part' held room long same = read-failed (take held part)
+read-on (Ok zero) part part' held room long same = read-ended (take held part) (line_ending (take held part')) (ap line_ending same)
+read-on (Ok (suc n)) part part' held room long same =
     let more = min (suc n) (length part' - held) in
     read_more (take held part) (take (held + more) part') (read_behind part part' held more (omega (arith, room)) same)
     (read-longer part part' held more (omega (arith, room)) (omega (arith, room, long)) (omega (arith, room, long)))

@@ -4,15 +4,15 @@ use mathlib.Core.Bool.{true, false}
 use mathlib.Core.List.{List, [], ◌∷◌, ◌++◌}
 use mathlib.Core.Path.{◌≡◌, refl}
 use native.Mathlib.Omega.{arith}
-use lib.IntN.{pos, negsuc}
 use lib.ListN.{drop, replicate}
+use Rattle.std.specs.Prelude.{Result, Ok, Err}
 use Rattle.numeral.specs.Digit.{digits, glyph}
 use Rattle.numeral.specs.Place.{overwrite, next_place, written, put_each, joined}
 use Rattle.numeral.specs.Print.{width_from, decimal_width, decimal}
 use Rattle.line_buffer.specs.Lines.{has_line}
 use Rattle.numeral.specs.Ascii.{ascii}
 use Rattle.wording.specs.Wording.{counted, calls, faults}
-use Rattle.item_state.specs.Log.{Log, said}
+use Rattle.item_state.specs.Log.{said}
 use Rattle.session.specs.Flush.{is_long, written_to, written_now, kept_to, after_writing, line_ending}
 use Rattle.session.specs.Input.{state_after, bytes_after, goes_on, was_whole, over_from, WentOn}
 use Rattle.session.specs.Ends.{names_begun, counts_begun, last_texts, last_said, outcome_of}
@@ -132,16 +132,23 @@ handed-back = refl
 
 -- ---- what the operating system tells of a read
 
+-- So many bytes, or the number of a failure.
+abbrev read : ℕ → Result ℕ ℕ
+read n = Ok n
+
+abbrev unread : ℕ → Result ℕ ℕ
+unread e = Err e
+
 -- It can't be read; it is at its end; five bytes were put into the buffer.
-told-state : (state_after (negsuc 0) ≡ 2) × (state_after (pos 0) ≡ 1) × (state_after (pos 5) ≡ 0)
+told-state : (state_after (unread 0) ≡ 2) × (state_after (read 0) ≡ 1) × (state_after (read 5) ≡ 0)
 unfolding state_after
 told-state = (refl, refl, refl)
 
 -- Behind one byte that is held: nothing; a line feed, where some are held; the byte that was read, and no more than the buffer has.
-told-bytes : (bytes_after (negsuc 0) 1 (ascii "abc") ≡ [])
-    × (bytes_after (pos 0) 1 (ascii "abc") ≡ ascii "a\n")
-    × (bytes_after (pos 0) 0 (ascii "abc") ≡ [])
-    × (bytes_after (pos 1) 1 (ascii "abc") ≡ ascii "ab")
-    × (bytes_after (pos 9) 1 (ascii "abc") ≡ ascii "abc")
+told-bytes : (bytes_after (unread 0) 1 (ascii "abc") ≡ [])
+    × (bytes_after (read 0) 1 (ascii "abc") ≡ ascii "a\n")
+    × (bytes_after (read 0) 0 (ascii "abc") ≡ [])
+    × (bytes_after (read 1) 1 (ascii "abc") ≡ ascii "ab")
+    × (bytes_after (read 9) 1 (ascii "abc") ≡ ascii "abc")
 unfolding bytes_after line_ending ascii
 told-bytes = (refl, refl, refl, refl, refl)

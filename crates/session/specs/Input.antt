@@ -2,7 +2,7 @@
 --
 -- How far reading has come: 0 the file may have more bytes, 1 it has none, 2 it can't be read; and with nothing left to answer either,
 -- 3 of a file that was read to its end, 4 of one that was not.
-use Rattle.std.specs.Prelude.{ℕ, zero, suc, ◌+◌, ◌-◌, ◌≤◌, ◌<◌, min, Bool, true, false, cond, List, [], ◌++◌, ◌≡◌, eqb, ltb, ℤ, pos, negsuc, length, take, drop}
+use Rattle.std.specs.Prelude.{ℕ, zero, suc, ◌+◌, ◌-◌, ◌≤◌, ◌<◌, min, Bool, true, false, cond, List, [], ◌++◌, ◌≡◌, eqb, ltb, Result, Ok, Err, length, take, drop}
 use Rattle.line_buffer.specs.Lines.{has_line}
 use Rattle.session.specs.Flush.{line_ending}
 
@@ -12,18 +12,18 @@ to_answer from end part = drop from (take end part)
 
 -- ---- reading on
 
--- The operating system tells how many bytes it put behind those that are held, 0 at the end of the file, or −1 where it can't be read: how
--- far reading has come,
-unfoldable pub state_after : ℤ → ℕ
-state_after (negsuc k) = 2
-state_after (pos zero) = 1
-state_after (pos (suc n)) = 0
+-- The operating system tells how many bytes it put behind those that are held, 0 at the end of the file, or an error where it can't be
+-- read: how far reading has come,
+unfoldable pub state_after : {E : Type 0} → Result ℕ E → ℕ
+state_after (Err e) = 2
+state_after (Ok zero) = 1
+state_after (Ok (suc n)) = 0
 
 -- and what is to be answered: those that are held and those behind them; the last line, which gets a line feed; nothing.
-unfoldable pub bytes_after : ℤ → ℕ → List ℕ → List ℕ
-bytes_after (negsuc k) held part = []
-bytes_after (pos zero) held part = line_ending (take held part)
-bytes_after (pos (suc n)) held part = take (held + min (suc n) (length part - held)) part
+unfoldable pub bytes_after : {E : Type 0} → Result ℕ E → ℕ → List ℕ → List ℕ
+bytes_after (Err e) held part = []
+bytes_after (Ok zero) held part = line_ending (take held part)
+bytes_after (Ok (suc n)) held part = take (held + min (suc n) (length part - held)) part
 
 -- Behind bytes that are held others are read, one at least, which the operating system puts there; at the end of the file none are, and bytes that are
 -- held get a line feed; of a file that can't be read nothing is left.

@@ -17,11 +17,11 @@ pub fn begin(path: &[u8], check: bool, counts: &mut [usize; 22], names: &mut [u8
 }
 
 // Writes the last line, and tells how the replay ended.
-pub fn end(whole: bool, counts: &mut [usize; 22], answers: &mut [u8]) -> Outcome
+pub fn end(rt: &impl Print, whole: bool, counts: &mut [usize; 22], answers: &mut [u8]) -> Outcome
     ensures { result ≡ outcome_of whole counts.old }
 {
     put_end(whole, counts, answers);
-    flush(answers, counts);
+    flush(rt, answers, counts);
     outcome_of(whole, counts)
 }
 

@@ -8,14 +8,16 @@ use crate::ends::{begin, end};
 use crate::flush::flush;
 use crate::input::{Input, MORE, go_on, is_going, is_whole};
 use crate::lines::answer_line;
+use crate::unread::Errors;
 use collection::Outcome;
 use device::Model;
 use item_state::counts::{LEFT, USED};
 use item_state::output::{FULL, bytes_from, first_bytes};
 use line_buffer::line_end;
+use std::io::Read;
 
 // The model, and how many bytes are not answered yet.
-#[derive(Drop)]
+#[derive(Clone, Copy)]
 struct Progress {
     model: Model,
     left: usize,
@@ -26,7 +28,12 @@ struct Progress {
 //
 // Each turn answers lines of what was read, writes the answers, and reads on where no line is left. Nothing says that the input ends, so
 // the loop counts its turns down, from a number that no run uses up.
-pub fn replay(fd: i32, path: &[u8], check: bool) -> Outcome
+pub fn replay(
+    rt: &(impl Print + Errors + Alloc),
+    file: &mut impl Read,
+    path: &[u8],
+    check: bool,
+) -> Outcome
     requires { length path.now ≤ 4096 }
     ensures { Replayed path.now check result }
 {
@@ -37,7 +44,7 @@ pub fn replay(fd: i32, path: &[u8], check: bool) -> Outcome
     let mut probes = [0u32; 1024];
     let mut names = [0u8; 5120];
     let mut answers = [0u8; 163840];
-    let mut part = io::large_buffer();
+    let mut part = [0u8; 65536];
     let mut m = converter::fresh();
     let mut input = Input {
         from: 0,
@@ -60,10 +67,10 @@ pub fn replay(fd: i32, path: &[u8], check: bool) -> Outcome
             &mut answers,
         );
         m = progress.model;
-        flush(&answers, &mut counts);
-        input = go_on(fd, path, &mut part, input, progress.left);
+        flush(rt, &answers, &mut counts);
+        input = go_on(rt, file, path, &mut part, input, progress.left);
     }
-    end(is_whole(input), &mut counts, &mut answers)
+    end(rt, is_whole(input), &mut counts, &mut answers)
 }
 
 // Answers lines that end in these bytes, all of them or those that the buffer has room for. The first line may be under way.

@@ -4,7 +4,6 @@ ghost use Rattle.session.specs.Flush.{is_long, written_to, written_now, kept_to,
 
 use item_state::counts::{BODY, CHECK, LEFT, USED, WRITTEN, more};
 use item_state::output::{bytes_from, first_bytes};
-use libc::STDOUT_FILENO;
 
 // An answer in parts that has grown past so many bytes is written before it ends. Its first KEPT bytes, more than a line can expect,
 // stay in the buffer.
@@ -12,11 +11,12 @@ const LONG: usize = 16384;
 
 const KEPT: usize = 2048;
 
-// Writes the answers. Of a line that is under way the start stays in the buffer.
-pub fn flush(answers: &[u8], counts: &mut [usize; 22])
+// Writes the answers. Of a line that is under way the start stays in the buffer. What can't be written is passed over: the replay goes on,
+// and whoever misses its last line knows that it broke off.
+pub fn flush(rt: &impl Print, answers: &[u8], counts: &mut [usize; 22])
     ensures { counts.new ≡ after_writing counts.old }
 {
-    io::write_all(STDOUT_FILENO, written_now(answers, counts));
+    let _ = rt.write_all(written_now(answers, counts));
     count_written(counts);
 }
 

@@ -3,11 +3,14 @@ ghost use Rattle.std.specs.Prelude.{◌≡◌, ◌-◌, ◌≤◌, ◌<◌, leng
 ghost use Rattle.session.specs.Flush.{line_ending};
 ghost use Rattle.session.specs.Input.{to_answer, state_after, bytes_after, goes_on, was_whole, over_from, ReadOn, WentOn};
 
+use crate::unread::{Errors, tell_unread};
 use item_state::output::{bytes_from, first_bytes};
 use line_buffer::{has_line, hold};
+use std::io;
+use std::io::Read;
 
 // What of the buffer is still to be answered, and how far reading has come.
-#[derive(Drop)]
+#[derive(Clone, Copy)]
 pub struct Input {
     pub from: usize,
     pub end: usize,
@@ -42,7 +45,14 @@ pub fn is_whole(input: Input) -> bool
 
 // What is to be answered next: a line that is left in the buffer, or, where none is, what is read on. As many bytes as `left` says are
 // not answered yet.
-pub fn go_on(fd: i32, path: &[u8], part: &mut [u8], input: Input, left: usize) -> Input
+pub fn go_on(
+    rt: &(impl Errors + Alloc),
+    file: &mut impl Read,
+    path: &[u8],
+    part: &mut [u8],
+    input: Input,
+    left: usize,
+) -> Input
     requires { (1002 < length part.old) × (input.end ≤ length part.old) × (left ≤ input.end) }
     ensures { WentOn (drop (input.end - left) (take input.end part.old)) input.state result.state (to_answer result.from result.end part.new) × (result.end ≤ length part.new) }
 {
@@ -60,7 +70,7 @@ pub fn go_on(fd: i32, path: &[u8], part: &mut [u8], input: Input, left: usize) -
         };
     }
     let held = hold(part, from, end);
-    read_more(fd, path, part, held)
+    read_more(rt, file, path, part, held)
 }
 
 // There is nothing left to answer.
@@ -75,39 +85,55 @@ fn over(state: u8) -> u8
 }
 
 // Reads on behind the bytes that are held.
-fn read_more(fd: i32, path: &[u8], part: &mut [u8], held: usize) -> Input
+fn read_more(
+    rt: &(impl Errors + Alloc),
+    file: &mut impl Read,
+    path: &[u8],
+    part: &mut [u8],
+    held: usize,
+) -> Input
     requires { held < length part.old }
     ensures { ReadOn (take held part.old) result.state (to_answer result.from result.end part.new) × (result.end ≤ length part.new) }
 {
-    let got = libc::read(fd, &mut part[held..]);
-    after_read(got, path, part, held)
+    let got = file.read(&mut part[held..]);
+    after_read(rt, got, path, part, held)
 }
 
-// What is to be answered once the system has told how many bytes it put behind those that are held: none at the end of the file, and -1
-// where it can't be read. A last line without a line feed gets one.
-fn after_read(got: isize, path: &[u8], part: &mut [u8], held: usize) -> Input
+// What is to be answered once the system has told how many bytes it put behind those that are held: none at the end of the file, and an
+// error where it can't be read. A last line without a line feed gets one.
+fn after_read(
+    rt: &(impl Errors + Alloc),
+    got: io::Result<usize>,
+    path: &[u8],
+    part: &mut [u8],
+    held: usize,
+) -> Input
     requires { held < length part.old }
     ensures { (result.state ≡ state_after got) × (to_answer result.from result.end part.new ≡ bytes_after got held part.old) × (result.end ≤ length part.new) }
 {
-    if got < 0 {
-        os::fail(path);
-        return Input {
-            from: 0,
-            end: 0,
-            state: UNREADABLE,
-        };
-    }
-    if got == 0 {
-        return Input {
-            from: 0,
-            end: end_line(part, held),
-            state: ENDED,
-        };
-    }
-    Input {
-        from: 0,
-        end: held + io::count(got, &part[held..]),
-        state: MORE,
+    match got {
+        Err(error) => {
+            tell_unread(rt, path, &error);
+            Input {
+                from: 0,
+                end: 0,
+                state: UNREADABLE,
+            }
+        }
+        Ok(n) => {
+            if n == 0 {
+                return Input {
+                    from: 0,
+                    end: end_line(part, held),
+                    state: ENDED,
+                };
+            }
+            Input {
+                from: 0,
+                end: held + n.min(part.len() - held),
+                state: MORE,
+            }
+        }
     }
 }
 

@@ -12,5 +12,7 @@ mod feed;
 mod flush;
 mod input;
 mod lines;
+mod unread;
 
 pub use feed::replay;
+pub use unread::{Errors, tell_unread};

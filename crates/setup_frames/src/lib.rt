@@ -20,7 +20,7 @@ const UNSOUND: u32 = 0;
 
 const SHORT_BUFFER: u32 = 19;
 
-#[derive(Drop)]
+#[derive(Clone, Copy)]
 pub enum Framed {
     // The number of the refusal.
     Refused(u32),

@@ -8,7 +8,7 @@ use crate::run::{WORDS, run_length, starts};
 // The opcode that writes 34h.
 const FIRST: usize = 0x34;
 
-#[derive(Drop)]
+#[derive(Clone, Copy)]
 pub struct Counts {
     pub bytes: usize,
     pub frames: usize,

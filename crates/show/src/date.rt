@@ -57,7 +57,7 @@ fn put_seconds_row(buf: &mut [u8], at: usize, w: u32) -> usize
 }
 
 fn put_time_row(buf: &mut [u8], at: usize, w: u32) -> usize
-    ensures { PutEach buf.old at (ended (timeRow w)) result buf.new }
+    ensures { PutEach buf.old at (ended (time_row w)) result buf.new }
 {
     let values = [w, hours(w), w / 256 % 128, w / 32 % 4, w / 32 % 4];
     put_form(
@@ -69,7 +69,7 @@ fn put_time_row(buf: &mut [u8], at: usize, w: u32) -> usize
 }
 
 fn put_day_row(buf: &mut [u8], at: usize, w: u32) -> usize
-    ensures { PutEach buf.old at (ended (dayRow w)) result buf.new }
+    ensures { PutEach buf.old at (ended (day_row w)) result buf.new }
 {
     let values = [w, w / 256, w];
     put_form(
@@ -81,7 +81,7 @@ fn put_day_row(buf: &mut [u8], at: usize, w: u32) -> usize
 }
 
 fn put_month_row(buf: &mut [u8], at: usize, w: u32) -> usize
-    ensures { PutEach buf.old at (ended (monthRow w)) result buf.new }
+    ensures { PutEach buf.old at (ended (month_row w)) result buf.new }
 {
     let values = [w, w / 256, w];
     put_form(
@@ -93,7 +93,7 @@ fn put_month_row(buf: &mut [u8], at: usize, w: u32) -> usize
 }
 
 fn put_clock_row(buf: &mut [u8], at: usize, second: u32, time: u32, day: u32, month: u32) -> usize
-    ensures { PutEach buf.old at (ended (clockRow second time day month)) result buf.new }
+    ensures { PutEach buf.old at (ended (clock_row second time day month)) result buf.new }
 {
     let half = time / 32 % 4;
     let values = [
@@ -117,7 +117,7 @@ fn put_clock_row(buf: &mut [u8], at: usize, second: u32, time: u32, day: u32, mo
 
 fn put_alarm_row(buf: &mut [u8], at: usize, w: u32, mode: u32) -> usize
     requires { mode < 4 }
-    ensures { PutEach buf.old at (ended (alarmRow w mode)) result buf.new }
+    ensures { PutEach buf.old at (ended (alarm_row w mode)) result buf.new }
 {
     let half = w / 32 % 4;
     let values = [

@@ -32,7 +32,7 @@ pub fn put_setup(buf: &mut [u8], at: usize, words: &[u32]) -> usize
 }
 
 pub fn put_more_setup(buf: &mut [u8], at: usize, words: &[u32]) -> usize
-    ensures { PutRows moreSetupRows words.now buf.old at result buf.new }
+    ensures { PutRows more_setup_rows words.now buf.old at result buf.new }
 {
     let a = put_form(
         buf,
@@ -81,7 +81,7 @@ fn put_divider(buf: &mut [u8], at: usize, dpl: u32) -> usize
 }
 
 fn put_tof1(buf: &mut [u8], at: usize, w: u32) -> usize
-    ensures { PutEach buf.old at (ended (tof1Row w)) result buf.new }
+    ensures { PutEach buf.old at (ended (tof1_row w)) result buf.new }
 {
     let values = [w];
     let a = put_form(buf, at, b"B8     TOF1                     |$|", &values);
@@ -91,7 +91,7 @@ fn put_tof1(buf: &mut [u8], at: usize, w: u32) -> usize
 }
 
 fn put_tof2(buf: &mut [u8], at: usize, w: u32) -> usize
-    ensures { PutEach buf.old at (ended (tof2Row w)) result buf.new }
+    ensures { PutEach buf.old at (ended (tof2_row w)) result buf.new }
 {
     let values = [w, setup::stop_row(w / 8192 % 8), setup::timeout_row(w % 8)];
     put_form(
@@ -103,7 +103,7 @@ fn put_tof2(buf: &mut [u8], at: usize, w: u32) -> usize
 }
 
 fn put_timing1(buf: &mut [u8], at: usize, w: u32) -> usize
-    ensures { PutEach buf.old at (ended (timing1Row w)) result buf.new }
+    ensures { PutEach buf.old at (ended (timing1_row w)) result buf.new }
 {
     let halves = w / 4096 % 16 + 1;
     let values = [
@@ -122,7 +122,7 @@ fn put_timing1(buf: &mut [u8], at: usize, w: u32) -> usize
 }
 
 fn put_timing2(buf: &mut [u8], at: usize, w: u32) -> usize
-    ensures { PutEach buf.old at (ended (timing2Row w)) result buf.new }
+    ensures { PutEach buf.old at (ended (timing2_row w)) result buf.new }
 {
     let tp = w / 32 % 4;
     let values = [w, w / 2048 % 32 + 1, tp / 2, tp % 2, 128 * (w % 4 + 1)];
@@ -135,7 +135,7 @@ fn put_timing2(buf: &mut [u8], at: usize, w: u32) -> usize
 }
 
 fn put_control(buf: &mut [u8], at: usize, w: u32) -> usize
-    ensures { PutEach buf.old at (ended (controlRow w)) result buf.new }
+    ensures { PutEach buf.old at (ended (control_row w)) result buf.new }
 {
     let values = [w, w / 512 % 2, w / 256 % 2, w / 128 % 2, w / 128 % 8];
     put_form(
@@ -147,7 +147,7 @@ fn put_control(buf: &mut [u8], at: usize, w: u32) -> usize
 }
 
 fn put_oscillator(buf: &mut [u8], at: usize, w: u32) -> usize
-    ensures { PutEach buf.old at (ended (oscillatorRow w)) result buf.new }
+    ensures { PutEach buf.old at (ended (oscillator_row w)) result buf.new }
 {
     let mode = w / 4 % 4;
     let values = [w, w / 16 % 2, w / 16 % 2, mode / 2, mode % 2];

@@ -36,7 +36,7 @@ pub fn put_last(buf: &mut [u8], at: usize, words: &[u32], on: u32) -> usize
 }
 
 fn put_high_names(buf: &mut [u8], at: usize, w: u32) -> usize
-    ensures { PutEach buf.old at (highNames w) result buf.new }
+    ensures { PutEach buf.old at (high_names w) result buf.new }
 {
     let values = [
         w / 32768 % 2,
@@ -56,7 +56,7 @@ fn put_high_names(buf: &mut [u8], at: usize, w: u32) -> usize
 }
 
 fn put_low_names(buf: &mut [u8], at: usize, w: u32) -> usize
-    ensures { PutEach buf.old at (lowNames w) result buf.new }
+    ensures { PutEach buf.old at (low_names w) result buf.new }
 {
     let values = [w / 128 % 2, w / 32 % 2, w / 8 % 2, w / 4 % 2];
     put_form(buf, at, b"?1 FLASH|?1 HALT|?1 INIT|?1 POR|", &values)
@@ -64,7 +64,7 @@ fn put_low_names(buf: &mut [u8], at: usize, w: u32) -> usize
 
 // Both bytes have bits.
 fn takes_two(w: u32) -> bool
-    ensures { result ≡ takesTwo w }
+    ensures { result ≡ takes_two w }
 {
     if w % 256 == 0 {
         return false;
@@ -73,7 +73,7 @@ fn takes_two(w: u32) -> bool
 }
 
 fn put_status(buf: &mut [u8], at: usize, w: u32) -> usize
-    ensures { PutEach buf.old at (lines (statusRows w)) result buf.new }
+    ensures { PutEach buf.old at (lines (status_rows w)) result buf.new }
 {
     let values = [w];
     let a = put_form(buf, at, b"FE     Interrupt Status         |$|", &values);
@@ -93,7 +93,7 @@ fn put_status(buf: &mut [u8], at: usize, w: u32) -> usize
 }
 
 fn put_supply(buf: &mut [u8], at: usize, on: u32) -> usize
-    ensures { PutEach buf.old at (ended (supplyRow on)) result buf.new }
+    ensures { PutEach buf.old at (ended (supply_row on)) result buf.new }
 {
     if on == 0 {
         return put_line(buf, at, b"       Flash supply                        off");

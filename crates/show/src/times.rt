@@ -32,7 +32,7 @@ pub fn put_ups(buf: &mut [u8], at: usize, words: &[u32]) -> usize
 }
 
 pub fn put_downs(buf: &mut [u8], at: usize, words: &[u32]) -> usize
-    ensures { PutRows downRows words.now buf.old at result buf.new }
+    ensures { PutRows down_rows words.now buf.old at result buf.new }
 {
     put_form(
         buf,
@@ -50,7 +50,7 @@ pub fn put_downs(buf: &mut [u8], at: usize, words: &[u32]) -> usize
 }
 
 pub fn put_differences(buf: &mut [u8], at: usize, words: &[u32]) -> usize
-    ensures { PutRows differenceRows words.now buf.old at result buf.new }
+    ensures { PutRows difference_rows words.now buf.old at result buf.new }
 {
     let a = put_form(
         buf,
@@ -71,7 +71,7 @@ pub fn put_differences(buf: &mut [u8], at: usize, words: &[u32]) -> usize
 }
 
 pub fn put_ports(buf: &mut [u8], at: usize, words: &[u32]) -> usize
-    ensures { PutRows portRows words.now buf.old at result buf.new }
+    ensures { PutRows port_rows words.now buf.old at result buf.new }
 {
     put_form(
         buf,
@@ -92,13 +92,13 @@ pub fn put_ports(buf: &mut [u8], at: usize, words: &[u32]) -> usize
 // The word of 32 bits of a pair of registers, Int and Frac.
 fn pair(words: &[u32], i: usize) -> u32
     requires { i < 80 }
-    ensures { result ≡ pairOf (get_or words.now i 0) (get_or words.now (i + 1) 0) }
+    ensures { result ≡ pair_of (get_or words.now i 0) (get_or words.now (i + 1) 0) }
 {
     form::pair_of(value(words, i), value(words, i + 1))
 }
 
 fn put_signed_time(buf: &mut [u8], at: usize, w: u32) -> usize
-    ensures { PutEach buf.old at (signedTime w) result buf.new }
+    ensures { PutEach buf.old at (signed_time w) result buf.new }
 {
     let mut field = [b' '; 32];
     let end = numeral::put_signed_nanoseconds(&mut field, 14, w);
@@ -108,7 +108,7 @@ fn put_signed_time(buf: &mut [u8], at: usize, w: u32) -> usize
 }
 
 fn put_difference_time(buf: &mut [u8], at: usize, w: u32, up: u32) -> usize
-    ensures { PutEach buf.old at (differenceTexts w up) result buf.new }
+    ensures { PutEach buf.old at (difference_texts w up) result buf.new }
 {
     if failed(w, up) {
         return numeral::put_text(buf, at, b"no time");

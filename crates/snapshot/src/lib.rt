@@ -74,7 +74,7 @@ pub fn store(m: Model, bytes: &mut [u8])
     let c = m.clock;
     let f = m.flight;
     let t = m.temperature;
-    bytes::copy(&s, bytes);
+    bytes[..s.len()].copy_from_slice(&s);
     number::put_doubles(fields::double_of(m), bytes);
     number::put_quadruples(fields::quadruple_of(c, f, t), bytes);
     number::put_octuples(fields::octuple_of(f, t), bytes);

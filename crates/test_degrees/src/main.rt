@@ -24,59 +24,59 @@ fn put_row(line: &mut [u8], from: usize, probe: u32, reference: u32, reading: In
     numeral::put_text(line, at, b"\n")
 }
 
-// The bytes before the end of the row; none where it had no room.
-fn write_line(line: &[u8], end: usize) {
+// The bytes before the end of the row; none where it had no room. One that can't be written is passed over.
+fn write_line(rt: &impl Print, line: &[u8], end: usize) {
     if end <= line.len() {
-        io::write_all(1, &line[0..end]);
+        let _ = rt.write_all(&line[0..end]);
     }
 }
 
-fn write_row(probe: u32, reference: u32) {
+fn write_row(rt: &impl Print, probe: u32, reference: u32) {
     let mut line = [0u8; 48];
     let reading = thermometer::degrees(probe, reference);
     let end = put_row(&mut line, 0, probe, reference, reading);
-    write_line(&line, end);
+    write_line(rt, &line, end);
 }
 
-fn write_row_by(table: &[u32], probe: u32, reference: u32) {
+fn write_row_by(rt: &impl Print, table: &[u32], probe: u32, reference: u32) {
     let mut line = [0u8; 64];
     let n = numeral::put_decimal(&mut line, 0, table.len() as u64);
     let from = numeral::put_text(&mut line, n, b": ");
     let reading = thermometer::degrees_by(table, probe, reference);
     let end = put_row(&mut line, from, probe, reference, reading);
-    write_line(&line, end);
+    write_line(rt, &line, end);
 }
 
 // Every 3,803 milliohms along the table.
-fn write_sweep() {
+fn write_sweep(rt: &impl Print) {
     for i in 0..181u32 {
-        write_row(1000000 + 3803 * i, 1000000);
+        write_row(rt, 1000000 + 3803 * i, 1000000);
     }
 }
 
-fn write_three_entries() {
+fn write_three_entries(rt: &impl Print) {
     let table = [500000u32, 510000, 530000];
-    write_row_by(&table, 499999, 1000000);
-    write_row_by(&table, 1, 2);
-    write_row_by(&table, 509999, 1000000);
-    write_row_by(&table, 510000, 1000000);
-    write_row_by(&table, 524687, 1000000);
-    write_row_by(&table, 529999, 1000000);
-    write_row_by(&table, 530000, 1000000);
-    write_row_by(&table, 530001, 1000000);
-    write_row_by(&table, 1, 0);
+    write_row_by(rt, &table, 499999, 1000000);
+    write_row_by(rt, &table, 1, 2);
+    write_row_by(rt, &table, 509999, 1000000);
+    write_row_by(rt, &table, 510000, 1000000);
+    write_row_by(rt, &table, 524687, 1000000);
+    write_row_by(rt, &table, 529999, 1000000);
+    write_row_by(rt, &table, 530000, 1000000);
+    write_row_by(rt, &table, 530001, 1000000);
+    write_row_by(rt, &table, 1, 0);
 }
 
 // From 0 to the largest entry, one milliohm above it, and entries that do not rise.
-fn write_two_entries() {
+fn write_two_entries(rt: &impl Print) {
     let widest = [0u32, 10000000];
-    write_row_by(&widest, 0, 1);
-    write_row_by(&widest, 1, 3);
-    write_row_by(&widest, 10, 1);
-    write_row_by(&widest, 11, 1);
-    write_row_by(&[0u32, 10000001], 0, 1);
-    write_row_by(&[5u32, 5], 0, 1);
-    write_row_by(&[6u32, 5], 4294967295, 0);
+    write_row_by(rt, &widest, 0, 1);
+    write_row_by(rt, &widest, 1, 3);
+    write_row_by(rt, &widest, 10, 1);
+    write_row_by(rt, &widest, 11, 1);
+    write_row_by(rt, &[0u32, 10000001], 0, 1);
+    write_row_by(rt, &[5u32, 5], 0, 1);
+    write_row_by(rt, &[6u32, 5], 4294967295, 0);
 }
 
 // 0, 1,000, 2,000 and so on.
@@ -89,46 +89,46 @@ fn ramp() -> [u32; 513] {
 }
 
 // Tables of 1, 512 and 513 entries.
-fn write_long_tables() {
+fn write_long_tables(rt: &impl Print) {
     let table = ramp();
-    write_row_by(&table[0..1], 0, 1);
-    write_row_by(&table[0..512], 511, 1000);
-    write_row_by(&table[0..512], 255999, 1000000);
-    write_row_by(&table[0..512], 511001, 1000000);
-    write_row_by(&table, 511, 1000);
+    write_row_by(rt, &table[0..1], 0, 1);
+    write_row_by(rt, &table[0..512], 511, 1000);
+    write_row_by(rt, &table[0..512], 255999, 1000000);
+    write_row_by(rt, &table[0..512], 511001, 1000000);
+    write_row_by(rt, &table, 511, 1000);
 }
 
-fn main() {
+fn main(rt: HostRuntime) {
     // The table's ends, and the milliohms beside them.
-    write_row(999999, 1000000);
-    write_row(1000000, 1000000);
-    write_row(1684783, 1000000);
-    write_row(1684784, 1000000);
+    write_row(&rt, 999999, 1000000);
+    write_row(&rt, 1000000, 1000000);
+    write_row(&rt, 1684783, 1000000);
+    write_row(&rt, 1684784, 1000000);
     // About entry 1 and entry 100.
-    write_row(1003907, 1000000);
-    write_row(1003908, 1000000);
-    write_row(1385054, 1000000);
-    write_row(1385055, 1000000);
-    write_row(1385056, 1000000);
+    write_row(&rt, 1003907, 1000000);
+    write_row(&rt, 1003908, 1000000);
+    write_row(&rt, 1385054, 1000000);
+    write_row(&rt, 1385055, 1000000);
+    write_row(&rt, 1385056, 1000000);
     // Resistances that are rounded down.
-    write_row(1, 1);
-    write_row(3, 2);
-    write_row(4, 3);
-    write_row(7, 5);
-    write_row(5000000, 2967743);
-    write_row(5000000, 5000001);
+    write_row(&rt, 1, 1);
+    write_row(&rt, 3, 2);
+    write_row(&rt, 4, 3);
+    write_row(&rt, 7, 5);
+    write_row(&rt, 5000000, 2967743);
+    write_row(&rt, 5000000, 5000001);
     // Words that are no readings.
-    write_row(4294967295, 4000000000);
-    write_row(4294967294, 4000000000);
-    write_row(4294967295, 4294967295);
-    write_row(4294967294, 4294967295);
-    write_row(4294967294, 4294967294);
-    write_row(0, 0);
-    write_row(1, 0);
-    write_row(0, 1);
-    write_row(4294967294, 1);
-    write_sweep();
-    write_three_entries();
-    write_two_entries();
-    write_long_tables();
+    write_row(&rt, 4294967295, 4000000000);
+    write_row(&rt, 4294967294, 4000000000);
+    write_row(&rt, 4294967295, 4294967295);
+    write_row(&rt, 4294967294, 4294967295);
+    write_row(&rt, 4294967294, 4294967294);
+    write_row(&rt, 0, 0);
+    write_row(&rt, 1, 0);
+    write_row(&rt, 0, 1);
+    write_row(&rt, 4294967294, 1);
+    write_sweep(&rt);
+    write_three_entries(&rt);
+    write_two_entries(&rt);
+    write_long_tables(&rt);
 }

@@ -32,60 +32,61 @@ const DIFFERENCES: [i32; 24] = [
 ];
 
 // The whole output, or the number of a refusal.
-fn write_out(listed: Listed, out: &[u8]) {
+fn write_out(rt: &impl Print, listed: Listed, out: &[u8]) {
     match listed {
-        Listed::Written(_) => write_bytes(out),
-        Listed::Refused(number) => write_number(number),
+        Listed::Written(_) => write_bytes(rt, out),
+        Listed::Refused(number) => write_number(rt, number),
     }
 }
 
-fn write_bytes(out: &[u8]) {
-    io::write_all(1, out);
-    io::write_all(1, b"\n");
+// What can't be written is passed over.
+fn write_bytes(rt: &impl Print, out: &[u8]) {
+    let _ = rt.write_all(out);
+    let _ = rt.write_all(b"\n");
 }
 
-fn write_number(number: u32) {
+fn write_number(rt: &impl Print, number: u32) {
     let mut text = [0u8; 16];
     let end = numeral::put_decimal(&mut text, 0, number as u64);
-    write_part(&text, end);
+    write_part(rt, &text, end);
 }
 
-fn write_part(text: &[u8], end: usize) {
+fn write_part(rt: &impl Print, text: &[u8], end: usize) {
     if end <= text.len() {
-        write_bytes(&text[0..end]);
+        write_bytes(rt, &text[0..end]);
     }
 }
 
 // All of them, from a first capture on: in eight digits.
-fn list_all(first: u32, out: &mut [u8]) {
+fn list_all(rt: &impl Print, first: u32, out: &mut [u8]) {
     let listed = listing::write_listing(&DIFFERENCES, first, out);
-    write_out(listed, out);
+    write_out(rt, listed, out);
 }
 
 // In two digits.
-fn list_old(first: u32, out: &mut [u8]) {
+fn list_old(rt: &impl Print, first: u32, out: &mut [u8]) {
     let listed = listing::write_listing_as(Width::Two, &DIFFERENCES, first, out);
-    write_out(listed, out);
+    write_out(rt, listed, out);
 }
 
-fn list_none(width: Width, first: u32) {
+fn list_none(rt: &impl Print, width: Width, first: u32) {
     let mut out = [b'.'; 2];
     let listed = listing::write_listing_as(width, &DIFFERENCES[0..0], first, &mut out);
-    write_out(listed, &out);
+    write_out(rt, listed, &out);
 }
 
-fn main() {
+fn main(rt: HostRuntime) {
     let mut out = [b'.'; 555];
-    list_all(4294967272, &mut out);
-    list_all(4294967273, &mut out);
-    list_all(233, &mut out);
+    list_all(&rt, 4294967272, &mut out);
+    list_all(&rt, 4294967273, &mut out);
+    list_all(&rt, 233, &mut out);
     let mut short = [b'.'; 551];
-    list_all(0, &mut short);
+    list_all(&rt, 0, &mut short);
     let mut old = [b'.'; 411];
-    list_old(232, &mut old);
-    list_old(233, &mut old);
+    list_old(&rt, 232, &mut old);
+    list_old(&rt, 233, &mut old);
     let mut shortest = [b'.'; 407];
-    list_old(0, &mut shortest);
-    list_none(Width::Two, 4294967295);
-    list_none(Width::Eight, 4294967295);
+    list_old(&rt, 0, &mut shortest);
+    list_none(&rt, Width::Two, 4294967295);
+    list_none(&rt, Width::Eight, 4294967295);
 }

@@ -10,29 +10,29 @@ fn put_row(line: &mut [u8], word: u32) -> usize {
     numeral::put_text(line, at, b"\n")
 }
 
-// The bytes before the end of the row; none where it had no room.
-fn write_line(line: &[u8], end: usize) {
+// The bytes before the end of the row; none where it had no room. One that can't be written is passed over.
+fn write_line(rt: &impl Print, line: &[u8], end: usize) {
     if end <= line.len() {
-        io::write_all(1, &line[0..end]);
+        let _ = rt.write_all(&line[0..end]);
     }
 }
 
-fn write_row(word: u32) {
+fn write_row(rt: &impl Print, word: u32) {
     let mut line = [0u8; 32];
     let end = put_row(&mut line, word);
-    write_line(&line, end);
+    write_line(rt, &line, end);
 }
 
-fn main() {
-    write_row(0x7fffffff);
-    write_row(0x001c0403);
-    write_row(0x000100a1);
-    write_row(0x00000089);
-    write_row(0x00000001);
-    write_row(0x00000000);
-    write_row(0xffffffff);
-    write_row(0xffffffc0);
-    write_row(0xfffe1432);
-    write_row(0xff1c8001);
-    write_row(0x80000000);
+fn main(rt: HostRuntime) {
+    write_row(&rt, 0x7fffffff);
+    write_row(&rt, 0x001c0403);
+    write_row(&rt, 0x000100a1);
+    write_row(&rt, 0x00000089);
+    write_row(&rt, 0x00000001);
+    write_row(&rt, 0x00000000);
+    write_row(&rt, 0xffffffff);
+    write_row(&rt, 0xffffffc0);
+    write_row(&rt, 0xfffe1432);
+    write_row(&rt, 0xff1c8001);
+    write_row(&rt, 0x80000000);
 }

@@ -35,6 +35,7 @@ word-begun b (c ∷ cs) rest (first h hs) =
 -- behind a word stands a blank and the next word, or nothing
 words-behind : (w : Text) (ws : List Text) → Word w → Each Word ws → words_after [] (w ++ spaced_each ws) ≡ w ∷ ws
 unfolding spaced_each ascii words_after begun_before is_blank
+words-behind [] ws none-here _ = elim none-here [ ]
 words-behind (c ∷ cs) [] (word h hs) none = word-begun [] (c ∷ cs) [] (first h hs)
 words-behind (c ∷ cs) (v ∷ vs) (word h hs) (first g gs) =
     word-begun [] (c ∷ cs) (spaced_each (v ∷ vs)) (first h hs) ∙ ap (λ l. (c ∷ cs) ∷ l) (words-behind v vs g gs)

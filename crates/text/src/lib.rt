@@ -3,7 +3,7 @@
 #![tactic(auto)]
 
 // The places from `start` to before `end`.
-#[derive(Drop)]
+#[derive(Clone, Copy)]
 pub struct Span {
     pub start: usize,
     pub end: usize,

@@ -34,7 +34,7 @@ const OFF_TABLE: u32 = 13;
 const BAD_TABLE: u32 = 14;
 
 // The answer of `degrees` and `degrees_by`.
-#[derive(Drop)]
+#[derive(Clone, Copy)]
 pub enum InDegrees {
     // Thousandths of a degree.
     Thousandths(u32),

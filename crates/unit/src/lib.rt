@@ -5,11 +5,11 @@ ghost use Rattle.std.specs.Prelude.{◌≡◌, ◌<◌};
 ghost use Rattle.unit.specs.Choice.{pick, either};
 
 // Periods of the 32,768 Hz clock. Never stands for quanta.
-#[derive(Drop)]
+#[derive(Clone, Copy)]
 pub struct Ticks(pub u32);
 
 // 65,536ths of a 4 MHz period; wide enough for sums of hit words. Never stands for ticks.
-#[derive(Drop)]
+#[derive(Clone, Copy)]
 pub struct Quanta(pub u64);
 
 pub fn choose(test: bool, yes: Ticks, no: Ticks) -> Ticks

@@ -1,0 +1,13 @@
+-- `clock::alarm::reaches` meets its contract.
+use borrow.Author.Rules.{rules}
+use Rattle.unit.proofs.Tests.{tests}
+use Rattle.calendar.specs.Alarm.{reaches}
+use Rattle.clock.proofs.alarm.reaches.Goals as goal
+
+pub returns-then-before-after : goal.returns-then-before-after
+unfolding reaches
+returns-then-before-after c = search (rules, tests)
+
+pub returns : goal.returns
+unfolding reaches
+returns c = search (rules, tests)

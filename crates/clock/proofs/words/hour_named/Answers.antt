@@ -1,0 +1,13 @@
+-- `clock::words::hour_named` meets its contract.
+use borrow.Author.Rules.{rules}
+use Rattle.unit.proofs.Tests.{tests}
+use Rattle.calendar.specs.Words.{hour_named}
+use Rattle.clock.proofs.words.hour_named.Goals as goal
+
+pub returns-then-twelve_in : goal.returns-then-twelve_in
+unfolding hour_named
+returns-then-twelve_in c = search (rules, tests, c.if-twelve_in.true, ← c.twelve_in.ensures)
+
+pub returns : goal.returns
+unfolding hour_named
+returns c = search (rules, tests, c.if-twelve_in.false, ← c.twelve_in.ensures)

@@ -1,0 +1,9 @@
+-- `clock::words::word33` meets its contract.
+use Rattle.unit.proofs.Tests.{tests}
+use Rattle.calendar.specs.Words.{word33}
+use borrow.Author.Rules.{rules}
+use Rattle.clock.proofs.words.word33.Goals as goal
+
+pub returns : goal.returns
+unfolding word33
+returns c = search (rules, tests)

@@ -1,0 +1,8 @@
+-- `converter::fresh` meets its contract.
+use Rattle.device.specs.Model.{fresh_model}
+use borrow.Author.Rules.{rules}
+use Rattle.converter.proofs.fresh.Goals as goal
+
+pub returns : goal.returns
+unfolding fresh_model
+returns c = simp (← c.fresh_with.ensures, ← c.por_bit.ensures)

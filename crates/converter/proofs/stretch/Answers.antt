@@ -1,0 +1,21 @@
+-- `converter::stretch` meets its contract.
+use Rattle.device.proofs.Table.{replied}
+use Rattle.device.specs.Call.{stretch}
+use Rattle.reply_parts.proofs.Decode.{reply-unsound}
+use Rattle.device.specs.Model.{is_sound}
+use mathlib.Core.Bool.{false}
+use mathlib.Core.Path.{◌≡◌, sym, ◌∙◌}
+use borrow.Author.Rules.{rules}
+use Rattle.converter.proofs.stretch.Goals as goal
+
+pub sound_stretch-requires : goal.sound_stretch-requires
+sound_stretch-requires c = sym c.is_sound.ensures ∙ c.if-is_sound.true
+
+pub returns-then-is_sound : goal.returns-then-is_sound
+returns-then-is_sound c = replied _ _ (search rules)
+
+pub returns : goal.returns
+returns c =
+    let m = c.args.m in
+    let e : is_sound m ≡ false = sym c.is_sound.ensures ∙ c.if-is_sound.false in
+    replied _ _ (c.refuse.ensures ∙ (reply-unsound m (stretch c.args.n.0) e).0)

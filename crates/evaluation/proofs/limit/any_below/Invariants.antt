@@ -1,0 +1,18 @@
+-- `evaluation::limit::any_below` meets its contract.
+use Prim.Native.Nat.{◌≤◌, ◌-◌}
+use native.Mathlib.Omega.{arith}
+use mathlib.Core.Path.{◌≡◌, refl}
+use lib.ListN.{length, drop}
+use lib.Dec.{ltb}
+use borrow.Author.Tests.{lt-ltb, le-ltb}
+use Rattle.hit.proofs.Limits.{any_found, any-passed, any_none}
+use borrow.Author.Rules.{rules}
+use Rattle.hit.specs.Limit.{any_word, any_below}
+use Rattle.evaluation.proofs.limit.any_below.Given as goal
+
+abbrev pub invariant-loop-i : goal.invariant-loop-i
+invariant-loop-i l =
+    (l.i ≤ length l.words) × (any_word (λ w. ltb w l.limit.0) l.words ≡ any_word (λ w. ltb w l.limit.0) (drop l.i l.words))
+
+abbrev pub decreases-loop-i : goal.decreases-loop-i
+decreases-loop-i l = length l.words - l.i

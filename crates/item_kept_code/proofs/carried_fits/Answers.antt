@@ -1,0 +1,9 @@
+-- `item_kept_code::carried_fits` meets its contract.
+use borrow.Author.Rules.{rules}
+use Rattle.item_kept_code.proofs.Fits.{kept}
+use Rattle.item_kept_code.proofs.carried_fits.Goals as goal
+
+pub returns : goal.returns
+returns c =
+    let args = c.args in
+    kept args.c args.flash.now args.recorded.now args.probes.now c.within_types.ensures

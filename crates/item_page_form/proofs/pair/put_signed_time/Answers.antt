@@ -1,0 +1,18 @@
+-- `item_page_form::pair::put_signed_time` meets its contract. Assumes nothing.
+use native.Mathlib.Omega.{arith}
+use Rattle.numeral.specs.Ascii.{ascii}
+use Rattle.text.proofs.Putting.{puts, puts_first}
+use Rattle.item_page.specs.Registers.{signed_time}
+use Rattle.item_page_form.proofs.Justified.{signed-end, signed_part}
+use borrow.Author.Rules.{rules}
+use Rattle.item_page_form.proofs.pair.put_signed_time.Goals as goal
+
+pub overflow_sub-start : goal.overflow_sub-start
+overflow_sub-start c = omega (arith, signed-end c.put_signed_nanoseconds-end.ensures (omega arith))
+
+pub slice_bounds-put_text-end : goal.slice_bounds-put_text-end
+slice_bounds-put_text-end c = omega (arith, c.put_signed_nanoseconds-end.auto.buf, signed-end c.put_signed_nanoseconds-end.ensures (omega arith))
+
+pub returns : goal.returns
+unfolding ascii signed_time
+returns c = rw (← signed_part c.put_signed_nanoseconds-end.ensures (omega arith)) (puts_first c.put_text-a.ensures (puts c.put_text.ensures))

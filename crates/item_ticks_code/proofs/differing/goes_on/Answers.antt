@@ -1,0 +1,10 @@
+-- `item_ticks_code::differing::goes_on` meets its contract.
+-- Assumes nothing.
+use borrow.Author.Tests.{lt-ltb, le-ltb}
+use Rattle.item_ticks_code.proofs.differing.goes_on.Goals as goal
+
+pub returns-then-left-gt0 : goal.returns-then-left-gt0
+returns-then-left-gt0 c = rw (lt-ltb _ _ c.if-left-gt0.true)
+
+pub returns : goal.returns
+returns c = rw (le-ltb _ _ c.if-left-gt0.false)

@@ -1,0 +1,9 @@
+-- `line_reader::numbers::store` meets its contract.
+-- Assumes nothing.
+use mathlib.Core.Path.{sym}
+use lib.Seq.{set_out}
+use borrow.Author.Rules.{rules}
+use Rattle.line_reader.proofs.numbers.store.Goals as goal
+
+pub returns-else-i-numbers : goal.returns-else-i-numbers
+returns-else-i-numbers c = sym (set_out _ _ _ c.if-i-numbers.false)

@@ -1,0 +1,6 @@
+-- `max35101_analysis::max35101_degrees` meets its contract.
+use borrow.Author.Rules.{rules}
+use Rattle.max35101_analysis.proofs.max35101_degrees.Goals as goal
+
+pub returns : goal.returns
+returns c = rw (← c.degrees.ensures.same) c.reading.ensures

@@ -1,0 +1,8 @@
+-- `max35101_questions::max35101_flight_place` meets its contract.
+use borrow.Author.Rules.{rules}
+use Rattle.max35101_questions.proofs.Handed.{gives-by}
+use Rattle.max35101_questions.proofs.max35101_flight_place.Goals as goal
+
+pub returns : goal.returns
+returns c =
+    gives-by (rw c.load.ensures at c.flight_place.ensures.same) c.placed.ensures

@@ -1,0 +1,104 @@
+-- `numeral::read::value_in` meets its contract. The invariant: n is the value of the first i digits, and below 16 to the power i; the measure is what is left of the bytes.
+-- Assumes nothing.
+use Prim.Native.Nat.{ℕ, ◌+◌, ◌-◌, ◌*◌, ◌^◌, ◌≤◌, ◌<◌}
+use mathlib.Core.Path.{◌≡◌, refl, sym, ◌∙◌}
+use mathlib.Core.List.{List, []}
+use mathlib.Core.Bool.{true, false}
+use native.Mathlib.Nat.{pow-suc, pow-le-pow_right, mul-le-mul_left}
+use native.Mathlib.Numerals.{add-one}
+use native.Mathlib.Omega.{arith}
+use lib.Dec.{lit<}
+use lib.ListN.{length, drop, get_or, drop_of_length-le}
+use lib.Seq.{drop-cons}
+use borrow.Author.Tests.{lt-ltb, le-ltb, le-leb, lt-leb}
+use Rattle.numeral.specs.Digit.{digit_of, are_digits, value_of}
+use Rattle.numeral.specs.Read.{value_in}
+use Rattle.numeral.proofs.read.value_in.Goals as goal
+
+-- the value of one digit more
+grow : (n base d i : ℕ) → n < 16 ^ i → base ≤ 16 → d < base → n * base + d < 16 ^ (i + 1)
+grow n base d i less most h = rw (add-one, pow-suc) (omega (arith, mul-le-mul_left n most))
+
+-- ten digits at most
+small : (i : ℕ) → i < 10 → 16 ^ (i + 1) ≤ 16 ^ 10
+small i h = let most : i + 1 ≤ 10 = omega arith in pow-le-pow_right (lit< tt) most
+
+module _ (base : ℕ) (s : List ℕ) (i : ℕ) (more : i < length s) where
+  digit-stops : base ≤ digit_of (get_or s i 0) → are_digits base (drop i s) ≡ false
+  unfolding are_digits
+  digit-stops h = rw (drop-cons s i 0 more, le-ltb (digit_of (get_or s i 0)) base h)
+
+  digit-counts : digit_of (get_or s i 0) < base → are_digits base (drop (i + 1) s) ≡ are_digits base (drop i s)
+  unfolding are_digits
+  digit-counts h = rw (add-one, drop-cons s i 0 more, lt-ltb (digit_of (get_or s i 0)) base h)
+
+  value_grows : (n : ℕ) → value_of base (n * base + digit_of (get_or s i 0)) (drop (i + 1) s) ≡ value_of base n (drop i s)
+  unfolding value_of
+  value_grows n = rw (add-one, drop-cons s i 0 more)
+
+-- all digits are read
+finished : (base : ℕ) (s : List ℕ) (n i : ℕ) → (i ≤ length s) × (n < 16 ^ i) × (are_digits base (drop i s) ≡ are_digits base s) × (value_of base n (drop i s) ≡ value_of base 0 s) → length s ≤ i → (are_digits base s ≡ true) × (value_of base 0 s ≡ n)
+unfolding are_digits value_of
+finished base s n i inv h =
+    let none : drop i s ≡ [] = drop_of_length-le s h in
+    (sym inv.2 ∙ rw none, sym inv.3 ∙ rw none)
+
+pub loop-i-init : goal.loop-i-init
+loop-i-init c = (omega arith, omega arith, refl, refl)
+
+pub bounds-s-i : goal.bounds-s-i
+bounds-s-i c = omega arith
+
+pub digit-d-requires : goal.digit-d-requires
+digit-d-requires c = tt
+
+pub returns-then-base-d : goal.returns-then-base-d
+unfolding value_in
+returns-then-base-d c =
+    let k = c.loop-i in
+    let more = c.loop-i-test.true in
+    rw (← k.invariant.2, digit-stops _ _ _ more (rw c.digit-d.ensures at c.if-base-d.true))
+
+pub overflow_mul-n : goal.overflow_mul-n
+overflow_mul-n c =
+    let k = c.loop-i in
+    let g = grow k.n _ 0 k.i k.invariant.1 c.requires.1 (omega arith) in
+    omega (arith, g, small k.i (omega arith))
+
+pub overflow_add-n : goal.overflow_add-n
+overflow_add-n c =
+    let k = c.loop-i in
+    let g = grow k.n _ _ k.i k.invariant.1 c.requires.1 c.if-base-d.false in
+    omega (arith, g, small k.i (omega arith))
+
+pub overflow_add-i : goal.overflow_add-i
+overflow_add-i c = omega arith
+
+pub loop-i-smaller : goal.loop-i-smaller
+loop-i-smaller c = omega arith
+
+pub loop-i-preserved : goal.loop-i-preserved
+loop-i-preserved c =
+    let k = c.loop-i in
+    let a = c.args in
+    let more = c.loop-i-test.true in (
+      omega arith,
+      grow k.n _ _ k.i k.invariant.1 c.requires.1 c.if-base-d.false,
+      digit-counts _ _ _ more (rw c.digit-d.ensures at c.if-base-d.false) ∙ k.invariant.2,
+      rw c.digit-d.ensures (value_grows _ _ _ more k.n) ∙ k.invariant.3,
+    )
+
+pub overflow_cast-result : goal.overflow_cast-result
+overflow_cast-result c = omega arith
+
+pub returns-then-n-limit : goal.returns-then-n-limit
+unfolding value_in
+returns-then-n-limit c =
+    let e = finished _ _ _ _ c.loop-i.invariant c.loop-i-test.false in
+    rw (e.0, e.1, le-leb _ _ c.if-n-limit.true)
+
+pub returns-else-n-limit : goal.returns-else-n-limit
+unfolding value_in
+returns-else-n-limit c =
+    let e = finished _ _ _ _ c.loop-i.invariant c.loop-i-test.false in
+    rw (e.0, e.1, lt-leb _ _ c.if-n-limit.false)

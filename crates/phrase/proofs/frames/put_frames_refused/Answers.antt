@@ -1,0 +1,9 @@
+-- `phrase::frames::put_frames_refused` meets its contract.
+-- Assumes nothing.
+use Rattle.std.proofs.Common.{rules}
+use Rattle.numeral.specs.Ascii.{ascii}
+use Rattle.phrase.proofs.frames.put_frames_refused.Goals as goal
+
+pub returns : goal.returns
+unfolding ascii
+returns c = c.put_refused.ensures

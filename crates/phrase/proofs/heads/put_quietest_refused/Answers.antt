@@ -1,0 +1,9 @@
+-- `phrase::heads::put_quietest_refused` meets its contract.
+-- Assumes nothing.
+use Rattle.std.proofs.Common.{rules}
+use Rattle.numeral.specs.Ascii.{ascii}
+use Rattle.phrase.proofs.heads.put_quietest_refused.Goals as goal
+
+pub returns : goal.returns
+unfolding ascii
+returns c = c.put_refused.ensures

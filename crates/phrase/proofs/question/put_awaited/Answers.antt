@@ -1,0 +1,10 @@
+-- `phrase::question::put_awaited` meets its contract.
+-- Assumes nothing.
+use Rattle.std.proofs.Common.{rules}
+use Rattle.numeral.specs.Ascii.{ascii}
+use Rattle.wording.proofs.Each.{put_one, put_first}
+use Rattle.phrase.proofs.question.put_awaited.Goals as goal
+
+pub returns : goal.returns
+unfolding ascii
+returns c = put_first c.put_text-a.ensures (put_first c.put_decimal-b.ensures (put_first c.put_text-c.ensures (put_first c.put_decimal-d.ensures (put_one c.put_text.ensures))))

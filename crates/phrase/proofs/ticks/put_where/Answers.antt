@@ -1,0 +1,14 @@
+-- `phrase::ticks::put_where` meets its contract.
+-- Assumes nothing.
+use Rattle.std.proofs.Common.{rules}
+use Rattle.wording.specs.Wording.{reported_where}
+use Rattle.wording.proofs.Each.{put-none, put_one}
+use Rattle.phrase.proofs.ticks.put_where.Goals as goal
+
+pub returns-then-holds : goal.returns-then-holds
+unfolding reported_where
+returns-then-holds c = rw c.if-holds.true (put_one c.put_text.ensures)
+
+pub returns : goal.returns
+unfolding reported_where
+returns c = rw c.if-holds.false (put-none _ _)

@@ -1,0 +1,15 @@
+-- `registers::read::fill_calendar` meets its contract.
+use Prim.Native.Nat.{◌-◌, ◌≤◌}
+use native.Mathlib.Omega.{arith}
+use mathlib.Core.Path.{◌≡◌, refl, ◌∙◌}
+use borrow.Author.Rules.{rules}
+use lib.ListN.{length}
+use Rattle.registers.specs.Filled.{Filled}
+use Rattle.registers.proofs.Parts.{calendar-part, filled_none, filled_more, filled-between}
+use Rattle.registers.proofs.read.fill_calendar.Given as goal
+
+abbrev pub invariant-loop-i : goal.invariant-loop-i
+invariant-loop-i l = (l.initial.i ≡ 0) × (l.i ≤ l.end) × (length l.out ≡ length l.initial.out) × Filled l.m l.a 0 l.i l.initial.out l.out
+
+abbrev pub decreases-loop-i : goal.decreases-loop-i
+decreases-loop-i l = l.end - l.i

@@ -1,0 +1,16 @@
+-- `registers::read::fill_temperature` meets its contract.
+use Prim.Native.Nat.{◌-◌, ◌≤◌}
+use native.Mathlib.Omega.{arith}
+use mathlib.Core.Path.{◌≡◌, refl, ◌∙◌}
+use borrow.Author.Rules.{rules}
+use lib.ListN.{length}
+use Rattle.device.specs.declared.Model.{Model}
+use Rattle.registers.specs.Filled.{Filled}
+use Rattle.registers.proofs.Parts.{temperature-part, filled_none, filled_more, filled-between}
+use Rattle.registers.proofs.read.fill_temperature.Given as goal
+
+abbrev pub invariant-loop-i : goal.invariant-loop-i
+invariant-loop-i l = (l.initial.i ≤ l.i) × (l.i ≤ l.end) × (length l.out ≡ length l.initial.out) × ((m : Model) → m.temperature ≡ l.temperature → Filled m l.a l.initial.i l.i l.initial.out l.out)
+
+abbrev pub decreases-loop-i : goal.decreases-loop-i
+decreases-loop-i l = l.end - l.i

@@ -1,0 +1,12 @@
+-- `replay::options::given` meets its contract, and ends: the measure is what is left of the arguments.
+use Prim.Native.Nat.{◌-◌}
+use mathlib.Core.Path.{◌≡◌}
+use lib.ListN.{length}
+use Rattle.replay.proofs.Handed.{Handed}
+use Rattle.replay.proofs.options.given.Given as goal
+
+abbrev pub invariant-loop-i : goal.invariant-loop-i
+invariant-loop-i g l = (length l.word ≡ 4096) × Handed l.n l.i l.reading
+
+abbrev pub decreases-loop-i : goal.decreases-loop-i
+decreases-loop-i g l = l.n - l.i

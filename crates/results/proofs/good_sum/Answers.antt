@@ -1,0 +1,21 @@
+-- `results::good_sum` meets its contract.
+use borrow.Author.Tests.{le-ltb, lt-ltb}
+use native.Mathlib.Omega.{arith}
+use Rattle.device.proofs.Sound.{flight-of}
+use Rattle.device.specs.Results.{good_sum}
+use borrow.Author.Rules.{rules}
+use Rattle.results.proofs.good_sum.Goals as goal
+
+pub overflow_add-result : goal.overflow_add-result
+overflow_add-result c =
+    let start = c in
+    let b = flight-of c.args.f c.requires.2 in
+    omega arith
+
+pub returns-then-k : goal.returns-then-k
+unfolding good_sum
+returns-then-k c = simp (← c.biased-difference.ensures.0, lt-ltb _ _ c.if-k.true)
+
+pub returns : goal.returns
+unfolding good_sum
+returns c = simp (le-ltb _ _ c.if-k.false)

@@ -8,12 +8,14 @@ HERE = os.path.dirname(os.path.abspath(__file__))
 ROOT = os.path.dirname(HERE)
 
 # ---- The proved program ------------------------------------------------------------------------
-# The command that builds it and the executable that this makes, both at the repository's root. It
-# takes an item on standard input. REPLAY=/path/to/executable in the environment takes its place.
+# The command that builds it in its crate's folder and runs it once, on no input, and the executable
+# that this makes. It takes an item on standard input. REPLAY=/path/to/executable in the environment
+# takes its place.
 # It ends with one of these statuses where it has replayed the item, as docs/ITEMS.md says.
 STATUSES = (0, 1, 2)
-REPLAY_BUILD = ["rt", "check", "replay"]
-REPLAY_EXECUTABLE = os.path.join(ROOT, "target", "bin", "replay")
+REPLAY_BUILD = ["rt", "run"]
+REPLAY_CRATE = os.path.join(ROOT, "crates", "replay")
+REPLAY_EXECUTABLE = os.path.join(REPLAY_CRATE, "out", "replay")
 # ------------------------------------------------------------------------------------------------
 
 PEER_BUILD = ["cargo", "build", "--release", "--offline", "--quiet"]
@@ -32,7 +34,9 @@ def flags(new):
 def run_build(command, folder, result):
     environment = {key: value for key, value in os.environ.items() if key != "CARGO_TARGET_DIR"}
     try:
-        status = subprocess.run(command, cwd=folder, env=environment).returncode
+        status = subprocess.run(
+            command, cwd=folder, env=environment, stdin=subprocess.DEVNULL, stdout=subprocess.DEVNULL
+        ).returncode
     except FileNotFoundError:
         sys.exit(f"'{command[0]}' is not installed, so {result} can't be built")
     if status != 0 or not os.path.exists(result):
@@ -47,7 +51,7 @@ def replay_executable():
             sys.exit(f"REPLAY={given} is no executable")
         return os.path.abspath(given)
     if not os.path.exists(REPLAY_EXECUTABLE):
-        run_build(REPLAY_BUILD, ROOT, REPLAY_EXECUTABLE)
+        run_build(REPLAY_BUILD, REPLAY_CRATE, REPLAY_EXECUTABLE)
     return REPLAY_EXECUTABLE
 
 
@@ -77,7 +81,7 @@ def stored_items(new=False):
     """The paths of the repository's items: the examples, captures, and those of the stored run."""
     found = []
     for folder, folders, files in os.walk(ROOT):
-        folders[:] = [name for name in folders if name != "target" and not name.startswith(".")]
+        folders[:] = [name for name in folders if name not in ("target", "out") and not name.startswith(".")]
         found += [os.path.join(folder, name) for name in files if name.endswith(".item")]
     found = [path for path in found if new or os.path.dirname(path) != NEW_ITEMS]
     return sorted(path for path in found if os.path.exists(path))

@@ -17,7 +17,7 @@ class ProgramError(Exception):
 
 def replay_executable() -> str:
     """The proved program: REPLAY in the environment names another one."""
-    return os.environ.get("REPLAY") or os.path.join(ROOT, "target", "bin", "replay")
+    return os.environ.get("REPLAY") or os.path.join(ROOT, "crates", "replay", "out", "replay")
 
 
 def run(program: str, text: str) -> list[str]:

@@ -16,7 +16,7 @@ from windows import CaptureError
 
 FOLDER = os.path.dirname(os.path.dirname(os.path.abspath(__file__)))
 EXAMPLES = os.path.join(FOLDER, "examples")
-PROGRAM = os.environ.get("REPLAY") or os.path.join(os.path.dirname(FOLDER), "target", "bin", "replay")
+PROGRAM = os.environ.get("REPLAY") or os.path.join(os.path.dirname(FOLDER), "crates", "replay", "out", "replay")
 RATE = Fraction(1_000_000)
 
 

@@ -11,7 +11,7 @@ import program
 from tests.support import EXAMPLES
 
 SCRIPT = os.path.join(program.ROOT, "replay")
-BUILT = os.path.join(program.ROOT, "target", "bin", "replay")
+BUILT = os.path.join(program.ROOT, "crates", "replay", "out", "replay")
 FIRST = os.path.join(EXAMPLES, "first.item")
 DIFFERS = os.path.join(EXAMPLES, "differs.item")
 EVENT = os.path.join(EXAMPLES, "event.item")

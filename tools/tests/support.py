@@ -8,7 +8,7 @@ import unittest
 
 ROOT = os.path.dirname(os.path.dirname(os.path.dirname(os.path.abspath(__file__))))
 SCRIPT = os.path.join(ROOT, "replay")
-BUILT = os.path.join(ROOT, "target", "bin", "replay")
+BUILT = os.path.join(ROOT, "crates", "replay", "out", "replay")
 
 # What each item comes to follows from docs/ITEMS.md: a fresh model has POR (0004h), and Initialize sets INIT (0008h) beside it.
 AGREES = "bus 05 => ok -\nexpect FE 000C\n"
@@ -67,6 +67,6 @@ class Folder(unittest.TestCase):
 
     def script_over(self, text: str) -> str:
         """The command with this shell script in the place of the program."""
-        self.write_program("other/target/bin/replay", text)
+        self.write_program("other/crates/replay/out/replay", text)
         return shutil.copy(SCRIPT, os.path.join(self.folder, "other", "replay"))
 

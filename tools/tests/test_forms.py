@@ -53,7 +53,7 @@ def functions(text: str) -> list[tuple[str, str]]:
     """Each function of some code: its signature up to a contract or the body, and its text up to the next function."""
     found = []
     for one in re.split(r"\n(?=(?:pub )?(?:extern \"C\" )?fn )", "\n" + text)[1:]:
-        signature = re.split(r"\n\s*(?:requires|ensures) \{|\s*\{\s*\n", one, maxsplit=1)[0]
+        signature = re.split(r"\n\s*(?:requires|ensures)\b|\s*\{\s*\n", one, maxsplit=1)[0]
         found.append((plain(signature), plain(one)))
     return found
 

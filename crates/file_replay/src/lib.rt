@@ -6,7 +6,8 @@ mod opened;
 mod progress;
 mod several;
 mod single;
+mod system;
 
-pub use opened::System;
 pub use several::replay_several;
 pub use single::{replay_argument, replay_input};
+pub use system::System;

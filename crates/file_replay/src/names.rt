@@ -2,7 +2,8 @@
 ghost use Rattle.std.specs.Prelude.{◌-◌, eqb, length, true, false, [], ◌≡◌};
 ghost use Rattle.file_replay.specs.Sources.{is_there, unused, Stands, NextArgument, FromList, StepFrom, Ended, AfterRead};
 
-use crate::opened::{OpenedBy, System, close, open, put_argument};
+use crate::opened::{OpenedBy, close, open};
+use crate::system::{System, put_argument};
 use arguments::Options;
 use file_names::take_name;
 use item_state::counts::more;

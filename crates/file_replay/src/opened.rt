@@ -1,17 +1,9 @@
-// Files that are open for reading, and arguments as the operating system hands them out.
-ghost use Rattle.std.specs.Prelude.{◌≡◌, ◌≤◌, ◌↔◌, [], ◌∷◌, length, IfOk, IsTrue};
+// Files that are open for reading, by their names.
+ghost use Rattle.std.specs.Prelude.{◌≡◌, ◌↔◌, [], ◌∷◌, IsTrue};
 
-use session::Errors;
-use std::env::{Env, FillError};
-use std::fs::Files;
-use std::io::{Input, Read};
-use std::time::{Clock, CpuClock};
-use std::{fs, io, str};
-
-// What a run reaches outside of the program.
-pub trait System: Env + Files + Input + Print + Errors + Clock + CpuClock + Alloc {}
-
-impl<R: Env + Files + Input + Print + Errors + Clock + CpuClock + Alloc> System for R {}
+use crate::system::System;
+use std::io::Read;
+use std::{io, str};
 
 // A file that is read. Of one that is closed each read fails.
 #[derive(Drop)]
@@ -26,7 +18,7 @@ pub enum Opened<I, F> {
 }
 
 // What a run opens.
-pub type OpenedBy<R> = Opened<<R as Input>::Reader, <R as Files>::File>;
+pub type OpenedBy<R> = Opened<<R as System>::Input, <R as System>::File>;
 
 impl<I: Read, F: Read> Read for Opened<I, F> {
     fn read(&mut self, buf: &mut [u8]) -> io::Result<usize> {
@@ -42,9 +34,9 @@ impl<I: Read, F: Read> Read for Opened<I, F> {
 // The operating system's numbers of failures (EBADF, EINVAL, ENAMETOOLONG and EILSEQ of Linux).
 const NOT_OPEN: i32 = 9;
 
-const INVALID: i32 = 22;
+pub const INVALID: i32 = 22;
 
-const TOO_LONG: i32 = 36;
+pub const TOO_LONG: i32 = 36;
 
 const NO_TEXT: i32 = 84;
 
@@ -61,7 +53,7 @@ pub fn is_input(name: &[u8]) -> bool
 // The file of a name, `-` being standard input.
 pub fn open<R: System>(rt: &R, name: &[u8]) -> io::Result<OpenedBy<R>> {
     if is_input(name) {
-        return Ok(Opened::Input(rt.reader()));
+        return Ok(Opened::Input(rt.input()));
     }
     open_named(rt, name)
 }
@@ -75,7 +67,7 @@ pub fn open_named<R: System>(rt: &R, name: &[u8]) -> io::Result<OpenedBy<R>> {
         return Err(io::Error::from_raw_os_error(INVALID));
     }
     match str::from_utf8(name) {
-        Ok(path) => Ok(Opened::Named(fs::open(rt, path)?)),
+        Ok(path) => Ok(Opened::Named(rt.open(path)?)),
         Err(_) => Err(io::Error::from_raw_os_error(NO_TEXT)),
     }
 }
@@ -93,17 +85,6 @@ pub fn close<I: Drop, F: Drop>(file: &mut Opened<I, F>) {
 pub fn input_beside<R: System>(rt: &R, list: &OpenedBy<R>) -> OpenedBy<R> {
     match list {
         Opened::InputClosed => Opened::InputClosed,
-        _ => Opened::Input(rt.reader()),
-    }
-}
-
-// Puts argument i into the buffer, and answers its length. One that is too long fills the buffer with its first bytes, and fails.
-pub fn put_argument(rt: &impl Env, i: usize, buf: &mut [u8]) -> io::Result<usize>
-    ensures { IfOk result (λ n. n ≤ length buf.new) }
-{
-    match rt.arg(i, buf) {
-        Ok(length) => Ok(length),
-        Err(FillError::TooLong) => Err(io::Error::from_raw_os_error(TOO_LONG)),
-        Err(FillError::NotPresent) => Err(io::Error::from_raw_os_error(INVALID)),
+        _ => Opened::Input(rt.input()),
     }
 }

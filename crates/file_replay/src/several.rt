@@ -4,8 +4,9 @@ ghost use Rattle.collection.specs.Tally.{none, collection};
 ghost use Rattle.file_replay.specs.Files.{not_read, Came, Gathered, Summed, Ran};
 
 use crate::names::Source;
-use crate::opened::{Opened, OpenedBy, System, input_beside};
+use crate::opened::{Opened, OpenedBy, input_beside};
 use crate::single::{not_read, replay_file};
+use crate::system::System;
 use crate::{names, progress};
 use arguments::Options;
 use collection::{Outcome, Tally};

@@ -3,7 +3,8 @@ ghost use Rattle.std.specs.Prelude.{◌+◌, ◌≤◌, true, false, ◌≡◌, 
 ghost use Rattle.file_replay.specs.Files.{not_read, headed, is_descriptor, Came};
 ghost use Rattle.session.specs.Turns.{Replayed};
 
-use crate::opened::{Opened, OpenedBy, System, is_input, open_named, put_argument};
+use crate::opened::{Opened, OpenedBy, is_input, open_named};
+use crate::system::{System, put_argument};
 use collection::Outcome;
 use item_state::output::first_bytes;
 use session::tell_unread;
@@ -11,7 +12,7 @@ use std::io;
 
 // Standard input, without a heading.
 pub fn replay_input<R: System>(rt: &R) {
-    session::replay(rt, &mut rt.reader(), b"-", false);
+    session::replay(rt, &mut rt.input(), b"-", false);
 }
 
 // The file that an argument names, without a heading.
@@ -19,7 +20,7 @@ pub fn replay_argument<R: System>(rt: &R, i: usize) {
     let mut path = [0u8; 4096];
     match put_argument(rt, i, &mut path) {
         Ok(length) => {
-            let input = Opened::Input(rt.reader());
+            let input = Opened::Input(rt.input());
             replay_file(rt, input, &path[..length], false, false);
         }
         Err(error) => tell_unread(rt, &path, &error),

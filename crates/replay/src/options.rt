@@ -2,10 +2,11 @@
 ghost use Rattle.replay.specs.Given.{Given};
 
 use arguments::Options;
-use std::env::{Env, FillError};
+use file_replay::System;
+use std::env::FillError;
 
 // How many arguments the program was started with, its own name among them.
-pub fn count(rt: &impl Env) -> usize {
+pub fn count(rt: &impl System) -> usize {
     let mut word = [0u8; 1];
     for i in 0..usize::MAX {
         if is_missing(rt, i, &mut word) {
@@ -15,20 +16,20 @@ pub fn count(rt: &impl Env) -> usize {
     usize::MAX
 }
 
-fn is_missing(rt: &impl Env, i: usize, word: &mut [u8]) -> bool {
-    matches!(rt.arg(i, word), Err(FillError::NotPresent))
+fn is_missing(rt: &impl System, i: usize, word: &mut [u8]) -> bool {
+    matches!(rt.argument(i, word), Err(FillError::NotPresent))
 }
 
 // What n arguments ask for, the program's name among them. One that is longer than the buffer comes as
 // a word of no bytes, which is no option and no number.
-pub fn given(rt: &impl Env, n: usize) -> Options
+pub fn given(rt: &impl System, n: usize) -> Options
     ensures { Given n result }
 {
     let mut word = [0u8; 4096];
     let mut reading = arguments::begin();
     let mut i = 1;
     while i < n && arguments::is_open(reading) {
-        let length = rt.arg(i, &mut word).unwrap_or(0);
+        let length = rt.argument(i, &mut word).unwrap_or(0);
         reading = arguments::next(reading, &word[..length]);
         i += 1;
     }

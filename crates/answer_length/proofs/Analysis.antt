@@ -12,9 +12,6 @@ use Rattle.unit.proofs.Cases.{by-test, by-ltb, by_eqb}
 use Rattle.numeral.specs.Digit.{digits, glyph}
 use Rattle.numeral.specs.Print.{width_from, decimal_width, decimal}
 use Rattle.device.specs.declared.Model.{Model}
-use Rattle.thermometer.specs.declared.InDegrees.{InDegrees}
-use Rattle.thermometer.specs.declared.InDegrees.TheVariants.{Thousandths, Refused}
-use Rattle.quietest.specs.declared.Place.{Place}
 use Rattle.quietest.specs.Quietest.{quietest_place, run_spread}
 use Rattle.listing.specs.Listing.{capture_digits, line_length, lines, last_above}
 use Rattle.listing.proofs.Meaning.{Fit, lines-length}
@@ -23,6 +20,9 @@ use Rattle.wording.specs.Wording.{line_feed, probe, degrees, refusal_words, refu
 use Rattle.item_analysis.specs.Lines.{record_words, width_of}
 use Rattle.answer_text.specs.Texts.{told_of_probe, told_in_degrees, told_of_degrees, told_of_record, told_of_listing, told_of_place, told_of_quietest}
 use Rattle.answer_length.proofs.Sizes.{size, size-append, take-most, signed-most, thousandths-most, counted-size, refused-size}
+use Rattle.refusal.specs.declared.Refusal.{Refusal}
+use Rattle.refusal.specs.Number.{number}
+use Rattle.std.specs.Prelude.{Result, Ok, Err}
 
 -- ---- `probe`
 
@@ -36,10 +36,10 @@ told-probe-size entries probes counts = probe-size _
 
 -- ---- `degrees`
 
-in-degrees-size : (told : InDegrees) (counts : List ℕ) → size (told_in_degrees told counts).texts ≤ 48
+in-degrees-size : (told : Result ℕ Refusal) (counts : List ℕ) → size (told_in_degrees told counts).texts ≤ 48
 unfolding size told_in_degrees degrees ascii
-in-degrees-size (Thousandths n) counts = omega (arith, thousandths-most n)
-in-degrees-size (Refused number) counts = omega (arith, refused-size (ascii "degrees") number)
+in-degrees-size (Ok n) counts = omega (arith, thousandths-most n)
+in-degrees-size (Err r) counts = omega (arith, refused-size (ascii "degrees") (number r))
 
 pub told-degrees-size : (numbers probes counts : List ℕ) → size (told_of_degrees numbers probes counts).texts ≤ 48
 unfolding size told_of_degrees
@@ -69,11 +69,11 @@ told-record-size m numbers n differences counts h =
 
 -- ---- `quietest`
 
-place-size : (place : Place) (values : List ℤ) (width : ℕ) (counts : List ℕ) → size (told_of_place place values width counts).texts ≤ 51
+place-size : (place : Result ℕ Refusal) (values : List ℤ) (width : ℕ) (counts : List ℕ) → size (told_of_place place values width counts).texts ≤ 51
 unfolding size told_of_place quietest ascii
-place-size (Place.At start) values width counts =
+place-size (Ok start) values width counts =
     rw size-append (omega (arith, counted-size start (ascii " "), counted-size (run_spread (take width (drop start values))) line_feed))
-place-size (Place.Refused number) values width counts = omega (arith, refused-size (ascii "quietest") number)
+place-size (Err r) values width counts = omega (arith, refused-size (ascii "quietest") (number r))
 
 pub told-quietest-size : (width : ℕ) (values : List ℤ) (counts : List ℕ) → size (told_of_quietest width values counts).texts ≤ 51
 unfolding told_of_quietest

@@ -25,6 +25,7 @@ use Rattle.item_calls.specs.Lines.{WithFlash}
 use Rattle.item_calls.specs.Buffer.{buffer_size}
 use Rattle.answer_text.specs.Texts.{told_of_transaction, told_of_bus, told_of_set, told_of_single, told_of_stretch, told_of_delivery}
 use Rattle.answer_length.proofs.Sizes.{size, size-append, cond-size, take-most, decimal-most, decimal-word, refusal-size}
+use Rattle.refusal.specs.Number.{number}
 
 -- ---- transactions
 
@@ -65,7 +66,7 @@ started-size false false = omega arith
 
 bus-answer-size : (answer : Answer) → size (bus_answer answer) ≤ 40
 unfolding size bus_answer
-bus-answer-size (Refused number) = refusal-size number
+bus-answer-size (Refused r) = refusal-size (number r)
 bus-answer-size (Accepted flight temperature) = omega (arith, started-size flight temperature)
 bus-answer-size (Ticked flight temperature) = omega arith
 bus-answer-size (Stretched flight temperature) = omega arith
@@ -118,7 +119,7 @@ told-set-size a ws s = set-size _
 
 delivery-answer-size : (answer : Answer) → size (delivery_answer answer) ≤ 40
 unfolding size delivery_answer ascii
-delivery-answer-size (Refused number) = refusal-size number
+delivery-answer-size (Refused r) = refusal-size (number r)
 delivery-answer-size (Accepted flight temperature) = omega arith
 delivery-answer-size (Ticked flight temperature) = omega arith
 delivery-answer-size (Stretched flight temperature) = omega arith
@@ -154,7 +155,7 @@ ticked-size flight temperature =
 
 single-size : (answer : Answer) → size (single answer) ≤ 83
 unfolding size single ascii
-single-size (Refused number) = omega arith
+single-size (Refused r) = omega arith
 single-size (Accepted flight temperature) = omega arith
 single-size (Ticked flight temperature) = cond-size (quiet flight temperature) (ascii "tick 1\n" ∷ []) _ 83 (omega arith) (ticked-size flight temperature)
 single-size (Stretched flight temperature) = omega arith
@@ -201,7 +202,7 @@ named-size flight temperature done =
 
 stretched-size : (answer : Answer) (n : ℕ) → size (stretched answer n) ≤ 469
 unfolding size stretched ascii
-stretched-size (Refused number) n = omega (arith, refusal-size number)
+stretched-size (Refused r) n = omega (arith, refusal-size (number r))
 stretched-size (Accepted flight temperature) n = omega arith
 stretched-size (Ticked flight temperature) n = omega arith
 stretched-size (Stretched flight temperature) n = omega (arith, decimal-most n, named-size flight temperature 0)

@@ -19,7 +19,7 @@ use Rattle.answer_length.proofs.Calls.{named-size, told-single-size}
 
 stretch-size : (answer : Answer) (before : ℕ) → size (stretch_reports answer before) ≤ 448
 unfolding size stretch_reports
-stretch-size (Refused number) before = omega arith
+stretch-size (Refused r) before = omega arith
 stretch-size (Accepted flight temperature) before = omega arith
 stretch-size (Ticked flight temperature) before = omega arith
 stretch-size (Stretched flight temperature) before = cond-size (eqb (next_named flight temperature 0) no_tick) [] _ 448 (omega arith) (named-size flight temperature before)

@@ -11,9 +11,6 @@ use lib.Seq.{set_comm, set-get_or, get_or-set_same, get_or-set_other, get_or-tak
 use Rattle.unit.proofs.Cases.{by-ltb, by_eqb}
 use Rattle.numeral.specs.Place.{no_room}
 use Rattle.device.specs.declared.Model.{Model}
-use Rattle.thermometer.specs.declared.InDegrees.{InDegrees}
-use Rattle.thermometer.specs.declared.InDegrees.TheVariants.{Thousandths, Refused}
-use Rattle.quietest.specs.declared.Place.{Place}
 use Rattle.difference.specs.Difference.{signed_of}
 use Rattle.listing.specs.Listing.{capture_digits, lines, last_above}
 use Rattle.listing.proofs.Meaning.{Fit}
@@ -27,6 +24,8 @@ use Rattle.answer_text.specs.Texts.{Told, on_page, HasRoom, silent, answered, as
 use Rattle.answer_text.proofs.Page.{silent-page, called-page}
 use Rattle.answer_text.proofs.Aside.{Aside, first-left, silent-aside, answered-aside}
 use Rattle.answer_text.proofs.Listing.{listing-page}
+use Rattle.refusal.specs.declared.Refusal.{Refusal}
+use Rattle.std.specs.Prelude.{Result, Ok, Err}
 
 -- texts put where a later count was set before
 set-page : (texts : Texts) (place v : ℕ) (l : Log) → (0 ≡ place → ⊥)
@@ -62,18 +61,18 @@ module _ (ws : List ℕ) (differences : List ℤ) where
 
 -- ---- `degrees`
 
-in-degrees-page : (d : InDegrees) (l : Log) → degrees_told d l ≡ on_page (told_in_degrees d l.counts) l
+in-degrees-page : (d : Result ℕ Refusal) (l : Log) → degrees_told d l ≡ on_page (told_in_degrees d l.counts) l
 unfolding degrees_told told_in_degrees
-in-degrees-page (Thousandths n) l = called-page 0 _ l.counts l refl
-in-degrees-page (Refused number) l = called-page 1 _ l.counts l refl
+in-degrees-page (Ok n) l = called-page 0 _ l.counts l refl
+in-degrees-page (Err r) l = called-page 1 _ l.counts l refl
 
-in-degrees-aside : (d : InDegrees) (counts : List ℕ) (place : ℕ) → Aside counts place (told_in_degrees d counts) (told_in_degrees d (set counts 0 place))
+in-degrees-aside : (d : Result ℕ Refusal) (counts : List ℕ) (place : ℕ) → Aside counts place (told_in_degrees d counts) (told_in_degrees d (set counts 0 place))
 unfolding told_in_degrees
-in-degrees-aside (Thousandths n) counts place = answered-aside 0 _ counts place
-in-degrees-aside (Refused number) counts place = answered-aside 1 _ counts place
+in-degrees-aside (Ok n) counts place = answered-aside 0 _ counts place
+in-degrees-aside (Err r) counts place = answered-aside 1 _ counts place
 
 module _ (numbers probes : List ℕ) where
-  abbrev found : List ℕ → InDegrees
+  abbrev found : List ℕ → Result ℕ Refusal
   found counts = degrees_of (take (get_or counts 11 0) probes) (get_or numbers 0 0) (get_or numbers 1 0)
 
   degrees-page : (l : Log) → degrees_line numbers probes l ≡ on_page (told_of_degrees numbers probes l.counts) l
@@ -95,16 +94,16 @@ module _ (numbers probes : List ℕ) where
 
 -- ---- `quietest`
 
-place-page : (p : Place) (values : List ℤ) (width : ℕ) (l : Log) → quietest_told p values width l ≡ on_page (told_of_place p values width l.counts) l
+place-page : (p : Result ℕ Refusal) (values : List ℤ) (width : ℕ) (l : Log) → quietest_told p values width l ≡ on_page (told_of_place p values width l.counts) l
 unfolding quietest_told told_of_place
-place-page (Place.At start) values width l = called-page 0 _ l.counts l refl
-place-page (Place.Refused number) values width l = called-page 1 _ l.counts l refl
+place-page (Ok start) values width l = called-page 0 _ l.counts l refl
+place-page (Err r) values width l = called-page 1 _ l.counts l refl
 
-place-aside : (p : Place) (values : List ℤ) (width : ℕ) (counts : List ℕ) (place : ℕ)
+place-aside : (p : Result ℕ Refusal) (values : List ℤ) (width : ℕ) (counts : List ℕ) (place : ℕ)
     → Aside counts place (told_of_place p values width counts) (told_of_place p values width (set counts 0 place))
 unfolding told_of_place
-place-aside (Place.At start) values width counts place = answered-aside 0 _ counts place
-place-aside (Place.Refused number) values width counts place = answered-aside 1 _ counts place
+place-aside (Ok start) values width counts place = answered-aside 0 _ counts place
+place-aside (Err r) values width counts place = answered-aside 1 _ counts place
 
 module _ (width : ℕ) (differences : List ℤ) where
   quietest-page : (l : Log) → quietest_line width differences l ≡ on_page (told_of_quietest width (recorded differences l.counts) l.counts) l

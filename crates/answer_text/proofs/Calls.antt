@@ -43,7 +43,7 @@ item-aside (c ∷ cs) place = record { same = refl; long = rw (length-set, lengt
 
 start-set : (answer : Answer) (counts : List ℕ) (place : ℕ) → start_moment answer (set counts 0 place) ≡ set (start_moment answer counts) 0 place
 unfolding start_moment
-start-set (Refused number) counts place = refl
+start-set (Refused r) counts place = refl
 start-set (Accepted true temperature) counts place = set_comm counts 0 9 place 0 (λ e. omega arith)
 start-set (Accepted false true) counts place = set_comm counts 0 9 place 0 (λ e. omega arith)
 start-set (Accepted false false) counts place = refl
@@ -54,7 +54,7 @@ start-set Failed counts place = refl
 
 start-long : (answer : Answer) (counts : List ℕ) → length (start_moment answer counts) ≡ length counts
 unfolding start_moment
-start-long (Refused number) counts = refl
+start-long (Refused r) counts = refl
 start-long (Accepted true temperature) counts = length-set counts 9 0
 start-long (Accepted false true) counts = length-set counts 9 0
 start-long (Accepted false false) counts = refl

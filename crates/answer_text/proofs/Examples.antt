@@ -12,9 +12,7 @@ use Rattle.device.specs.declared.Model.{Model}
 use Rattle.device.specs.Model.{is_sound}
 use Rattle.device.specs.Call.{Call, verdict, refused as turned_away}
 use Rattle.device.specs.Reply.{number_in, buffer_of, reply_by, reply, output_by, output}
-use Rattle.thermometer.specs.declared.InDegrees.TheVariants.{Thousandths, Refused}
 use Rattle.thermometer.specs.Degrees.{degrees_by}
-use Rattle.quietest.specs.declared.Place.{Place}
 use Rattle.difference.specs.Difference.{signed_of}
 use Rattle.quietest.specs.Quietest.{larger, smaller, extreme, spread, run_spread}
 use Rattle.listing.specs.Listing.{sign, right_justified, line, lines, last_above}
@@ -27,6 +25,9 @@ use Rattle.item_questions.specs.Answers.{differing}
 use Rattle.item_analysis.specs.Kept.{kept_one, kept_each}
 use Rattle.item_analysis.specs.Lines.{ItemKept, degrees_of, record_words}
 use Rattle.answer_text.specs.Texts.{on_page, told_of_transaction, told_of_bus, told_of_head, end_texts, told_of_part, told_of_ticks, told_of_tick, told_of_at, told_of_expect, told_of_frames, told_of_probe, told_in_degrees, told_of_degrees, told_of_record, told_of_listing, told_of_place, recorded, analysis_told, is_listing}
+use Rattle.refusal.specs.declared.Refusal.{Refusal}
+use Rattle.refusal.specs.Number.{number}
+use Rattle.std.specs.Prelude.{Ok, Err}
 
 -- Where the answers end, the calls, the moment, the differences in the record, and the ticks that are left.
 abbrev counts : ℕ → ℕ → ℕ → ℕ → ℕ → List ℕ
@@ -80,7 +81,7 @@ abbrev tallied : ℕ → ℕ → ℕ → ℕ → ℕ → List ℕ
 tallied calls refused wanted differ entries = 20 ∷ 21 ∷ 22 ∷ calls ∷ refused ∷ 25 ∷ 26 ∷ wanted ∷ differ ∷ 29 ∷ 30 ∷ entries ∷ 32 ∷ []
 
 -- A transaction that is refused with number 2, and a buffer of two bytes: they are EEh before it and after it.
-refused-bus : (m : Model) (flash answers : List ℕ) → verdict m (Call.transaction (0x91 ∷ []) (0xEE ∷ 0xEE ∷ []) flash) ≡ turned_away 2
+refused-bus : (m : Model) (flash answers : List ℕ) → verdict m (Call.transaction (0x91 ∷ []) (0xEE ∷ 0xEE ∷ []) flash) ≡ turned_away Refusal.Opcode
     → let told = told_of_bus (0x91 ∷ []) 2 record { model = m; flash = flash; log = record { counts = tallied 8 3 5 6 1; answers = answers } } in
     (joined told.texts ≡ ascii "bus no 2 opcode out EEEE\n") × (told.counts ≡ tallied 9 4 5 6 1)
 unfolding told_of_bus told_of_transaction reply reply_by output output_by buffer_of refusals number_in start_moment call_counted added bus bus_answer output_buffer refusal refusal_word refusal_words hex_bytes decimal decimal_width width_from digits glyph joined ascii
@@ -120,8 +121,8 @@ unfolding told_of_probe kept_each kept_one probe counted decimal decimal_width w
 a-probe = (refl, refl)
 
 -- A temperature, and one that is off the table: each is a call, and the second is refused.
-a-temperature : (joined (told_in_degrees (Thousandths 21500) (tallied 8 3 5 6 1)).texts ≡ ascii "degrees 21.500\n") × ((told_in_degrees (Thousandths 21500) (tallied 8 3 5 6 1)).counts ≡ tallied 9 3 5 6 1)
-    × (joined (told_in_degrees (Refused 13) (tallied 8 3 5 6 1)).texts ≡ ascii "degrees no 13 off the table\n") × ((told_in_degrees (Refused 13) (tallied 8 3 5 6 1)).counts ≡ tallied 9 4 5 6 1)
+a-temperature : (joined (told_in_degrees (Ok 21500) (tallied 8 3 5 6 1)).texts ≡ ascii "degrees 21.500\n") × ((told_in_degrees (Ok 21500) (tallied 8 3 5 6 1)).counts ≡ tallied 9 3 5 6 1)
+    × (joined (told_in_degrees (Err Refusal.OffTable) (tallied 8 3 5 6 1)).texts ≡ ascii "degrees no 13 off the table\n") × ((told_in_degrees (Err Refusal.OffTable) (tallied 8 3 5 6 1)).counts ≡ tallied 9 4 5 6 1)
 unfolding told_in_degrees call_counted added degrees thousandths refused refusal refusal_word refusal_words decimal decimal_width width_from digits glyph joined ascii
 a-temperature = (refl, refl, refl, refl)
 
@@ -136,8 +137,8 @@ two-recorded : recorded (pos 5 ∷ pos 6 ∷ pos 7 ∷ []) (counts 3 1 0 2 0) �
 two-recorded = refl
 
 -- A run of two from the second difference on, and a width that is refused
-a-run : (joined (told_of_place (Place.At 1) (pos 5 ∷ pos 9 ∷ pos 7 ∷ []) 2 (tallied 8 3 5 6 1)).texts ≡ ascii "quietest 1 2\n") × ((told_of_place (Place.At 1) (pos 5 ∷ pos 9 ∷ pos 7 ∷ []) 2 (tallied 8 3 5 6 1)).counts ≡ tallied 9 3 5 6 1)
-    × (joined (told_of_place (Place.Refused 18) [] 2 (tallied 8 3 5 6 1)).texts ≡ ascii "quietest no 18 width\n") × ((told_of_place (Place.Refused 18) [] 2 (tallied 8 3 5 6 1)).counts ≡ tallied 9 4 5 6 1)
+a-run : (joined (told_of_place (Ok 1) (pos 5 ∷ pos 9 ∷ pos 7 ∷ []) 2 (tallied 8 3 5 6 1)).texts ≡ ascii "quietest 1 2\n") × ((told_of_place (Ok 1) (pos 5 ∷ pos 9 ∷ pos 7 ∷ []) 2 (tallied 8 3 5 6 1)).counts ≡ tallied 9 3 5 6 1)
+    × (joined (told_of_place (Err Refusal.Width) [] 2 (tallied 8 3 5 6 1)).texts ≡ ascii "quietest no 18 width\n") × ((told_of_place (Err Refusal.Width) [] 2 (tallied 8 3 5 6 1)).counts ≡ tallied 9 4 5 6 1)
 unfolding told_of_place run_spread spread extreme larger smaller call_counted added quietest counted refused refusal refusal_word refusal_words decimal decimal_width width_from digits glyph joined ascii
 a-run = (refl, refl, refl, refl)
 

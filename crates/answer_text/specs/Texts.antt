@@ -9,9 +9,6 @@ use Rattle.device.specs.declared.Answer.{Answer}
 use Rattle.device.specs.Model.{is_sound}
 use Rattle.device.specs.Call.{Call}
 use Rattle.device.specs.Reply.{reply, output}
-use Rattle.thermometer.specs.declared.InDegrees.{InDegrees}
-use Rattle.thermometer.specs.declared.InDegrees.TheVariants.{Thousandths, Refused}
-use Rattle.quietest.specs.declared.Place.{Place}
 use Rattle.quietest.specs.Quietest.{quietest_place, run_spread}
 use Rattle.difference.specs.Difference.{signed_of}
 use Rattle.listing.specs.Listing.{capture_digits, lines, last_above}
@@ -26,6 +23,9 @@ use Rattle.item_calls.specs.Buffer.{buffer_size}
 use Rattle.item_questions.specs.Answers.{interrupt, awaited, registers, differing, expectation}
 use Rattle.item_analysis.specs.Kept.{kept_each}
 use Rattle.item_analysis.specs.Lines.{ItemKept, degrees_of, record_words, width_of}
+use Rattle.refusal.specs.declared.Refusal.{Refusal}
+use Rattle.refusal.specs.Number.{number}
+use Rattle.std.specs.Prelude.{Result, Ok, Err}
 
 -- What a line tells: the texts of its answer, and the counts after it, but for the first, which is left as it was.
 pub record Told : Type 0 where
@@ -209,9 +209,9 @@ told_of_probe entries probes counts =
     asked (probe table.used) (set counts 11 table.used)
 
 -- "`degrees D.DDD`, `degrees no 13 off the table` or `degrees no 14 bad table`"
-unfoldable pub told_in_degrees : InDegrees → List ℕ → Told
-told_in_degrees (Thousandths n) counts = answered 0 (degrees n) counts
-told_in_degrees (Refused number) counts = answered 1 (degrees_refused number) counts
+unfoldable pub told_in_degrees : Result ℕ Refusal → List ℕ → Told
+told_in_degrees (Ok n) counts = answered 0 (degrees n) counts
+told_in_degrees (Err r) counts = answered 1 (degrees_refused (number r)) counts
 
 -- "the temperature of a probe's word A and its 1,000 Ω reference's word B", the line's two numbers
 unfoldable pub told_of_degrees : List ℕ → List ℕ → List ℕ → Told
@@ -233,9 +233,9 @@ told_of_listing d first values used counts =
     (answered 0 (listing_head used ++ (lines d first values ∷ [])) counts)
 
 -- "`quietest START SPREAD`, START from 0, SPREAD the largest less the smallest; or `quietest no 18 width`"
-unfoldable pub told_of_place : Place → List ℤ → ℕ → List ℕ → Told
-told_of_place (Place.At start) values width counts = answered 0 (quietest start (run_spread (take width (drop start values)))) counts
-told_of_place (Place.Refused number) values width counts = answered 1 (quietest_refused number) counts
+unfoldable pub told_of_place : Result ℕ Refusal → List ℤ → ℕ → List ℕ → Told
+told_of_place (Ok start) values width counts = answered 0 (quietest start (run_spread (take width (drop start values)))) counts
+told_of_place (Err r) values width counts = answered 1 (quietest_refused (number r)) counts
 
 -- "the run of W neighbours in the record that differ least, the earliest of equals"
 unfoldable pub told_of_quietest : ℕ → List ℤ → List ℕ → Told

@@ -24,13 +24,6 @@ pub same_test : (t : Bool) (a b : List ℕ) → (t ≡ true → a ≡ b) → (a 
 same_test true a b f g = sym (rw (f refl) (same_self b))
 same_test false a b f g = by-test (same_bytes a b) (λ e. g (same-equal a b e) ∙ sym e) (λ e. sym e)
 
--- A test that is known picks its side.
-pub here : {A : Type 0} {test t : Bool} {a : A} (b : A) → test ≡ t → test ≡ true → a ≡ cond t a b
-here b e h = rw (← e, h)
-
-pub below : {A : Type 0} {test t : Bool} (a : A) {b r : A} → test ≡ t → test ≡ false → r ≡ b → r ≡ cond t a b
-below a e h rest = rw (← e, h) rest
-
 -- ---- all words
 
 -- Behind the word that closes the options none is needed.

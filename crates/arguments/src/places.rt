@@ -6,6 +6,7 @@ ghost use Rattle.arguments.specs.Arguments.{is_several};
 use crate::{Found, Options, Reading};
 
 // What the words that were read ask for, where there are n arguments, the program's name among them.
+#[tactic(auto, unfolding(crate::specs::Reading::asked))]
 pub fn asked(r: Reading, n: usize) -> Options
     ensures { result ≡ Reading·asked r n }
 {
@@ -15,8 +16,8 @@ pub fn asked(r: Reading, n: usize) -> Options
         check: found.check,
         total: found.total,
         list: list_place(found),
-        first: first,
-        files: from_to(first, n),
+        first,
+        files: n.saturating_sub(first),
     }
 }
 
@@ -33,16 +34,11 @@ fn list_place(f: Found) -> usize
 }
 
 // Whether headings and a summary are asked for.
+#[tactic(auto, unfolding(crate::specs::Arguments::is_several))]
 pub fn is_several(o: Options) -> bool
     ensures { result ≡ is_several o }
 {
-    if o.check {
-        return true;
-    }
-    if o.list != 0 {
-        return true;
-    }
-    1 < o.files
+    o.check || o.list != 0 || 1 < o.files
 }
 
 // The place at which `--files` stands, if it is there.
@@ -57,10 +53,4 @@ fn taken_by(there: bool, words: usize) -> usize
     ensures { (result ≡ taken there words) × (result ≤ words) }
 {
     if there { words } else { 0 }
-}
-
-fn from_to(first: usize, n: usize) -> usize
-    ensures { result ≡ n - first }
-{
-    if first < n { n - first } else { 0 }
 }

@@ -20,7 +20,7 @@ pub fn begin() -> Reading
     };
     Reading {
         stage: Stage::Check,
-        found: found,
+        found,
     }
 }
 
@@ -28,25 +28,15 @@ pub fn begin() -> Reading
 pub fn is_open(r: Reading) -> bool
     ensures { result ≡ is_open r }
 {
-    let stage = r.stage;
-    match stage {
-        Stage::Check => true,
-        Stage::Of => true,
-        Stage::Total => true,
-        Stage::Files => true,
-        Stage::Name => true,
-        Stage::Dashes => true,
-        Stage::Closed => false,
-    }
+    !matches!(r.stage, Stage::Closed)
 }
 
 // Reads the next word.
 pub fn next(r: Reading, word: &[u8]) -> Reading
     ensures { result ≡ next_read r word.now }
 {
-    let stage = r.stage;
     let found = r.found;
-    match stage {
+    match r.stage {
         Stage::Check => read_check(found, word),
         Stage::Of => read_of(found, word),
         Stage::Total => read_total(found, word),
@@ -57,29 +47,27 @@ pub fn next(r: Reading, word: &[u8]) -> Reading
     }
 }
 
+#[tactic(auto, unfolding(crate::specs::Reading::check_read, numeral::specs::Ascii::ascii))]
 fn read_check(f: Found, word: &[u8]) -> Reading
     ensures { result ≡ check_read f word.now }
 {
     if is_word(word, b"--check") {
-        let mut found = f;
-        found.check = true;
         return Reading {
             stage: Stage::Of,
-            found: found,
+            found: Found { check: true, ..f },
         };
     }
     read_of(f, word)
 }
 
+#[tactic(auto, unfolding(crate::specs::Reading::of_read, numeral::specs::Ascii::ascii))]
 fn read_of(f: Found, word: &[u8]) -> Reading
     ensures { result ≡ of_read f word.now }
 {
     if is_word(word, b"--of") {
-        let mut found = f;
-        found.told = true;
         return Reading {
             stage: Stage::Total,
-            found: found,
+            found: Found { told: true, ..f },
         };
     }
     read_files(f, word)
@@ -88,23 +76,23 @@ fn read_of(f: Found, word: &[u8]) -> Reading
 fn read_total(f: Found, word: &[u8]) -> Reading
     ensures { result ≡ total_read f word.now }
 {
-    let mut found = f;
-    found.total = number_of(word);
     Reading {
         stage: Stage::Files,
-        found: found,
+        found: Found {
+            total: number_of(word),
+            ..f
+        },
     }
 }
 
+#[tactic(auto, unfolding(crate::specs::Reading::files_read, numeral::specs::Ascii::ascii))]
 fn read_files(f: Found, word: &[u8]) -> Reading
     ensures { result ≡ files_read f word.now }
 {
     if is_word(word, b"--files") {
-        let mut found = f;
-        found.listed = true;
         return Reading {
             stage: Stage::Name,
-            found: found,
+            found: Found { listed: true, ..f },
         };
     }
     read_dashes(f, word)
@@ -119,14 +107,16 @@ fn read_name(f: Found) -> Reading
     }
 }
 
+#[tactic(auto, unfolding(numeral::specs::Ascii::ascii))]
 fn read_dashes(f: Found, word: &[u8]) -> Reading
     ensures { result ≡ dashes_read f word.now }
 {
-    let mut found = f;
-    found.ended = is_word(word, b"--");
     Reading {
         stage: Stage::Closed,
-        found: found,
+        found: Found {
+            ended: is_word(word, b"--"),
+            ..f
+        },
     }
 }
 

@@ -5,7 +5,7 @@ ghost use Rattle.std.specs.Prelude.{◌≡◌, true, ◌≤◌, ◌+◌, ◌*◌
 ghost use Rattle.device.specs.Model.{is_sound};
 ghost use Rattle.device.specs.Call.{Call};
 ghost use Rattle.device.specs.Reply.{reply, output, memory};
-ghost use Rattle.device.specs.Parts.{command_reply, write_reply, read_reply, read_output, refusal_number, read_fits, frame_fits, flash_frame_reply, flash_frame_output, flash_frame_memory, words_reply};
+ghost use Rattle.device.specs.Parts.{command_reply, write_reply, read_reply, read_output, refusal_of, read_fits, frame_fits, flash_frame_reply, flash_frame_output, flash_frame_memory, words_reply};
 
 use command::{
     before_initialize, command_busy, command_unset, run_model, starts_flight, starts_temperature,
@@ -13,9 +13,9 @@ use command::{
 use device::{Model, Reply};
 use flash_access::flash_reply;
 use frame::Decoded;
-use model::refusal::{BUSY, CALENDAR, NO_FRAME, NOT_INITIALISED, SET_UP};
 use model::reply::{accept, refuse};
 use model::state::is_busy;
+use refusal::Refusal;
 use registers::read::{fill_words, read_model};
 use registers::write::{write_invalid, write_model};
 
@@ -23,13 +23,13 @@ fn command_reply(m: Model, op: u32) -> Reply
     ensures { result ≡ command_reply m op }
 {
     if command_busy(m, op) {
-        return refuse(m, BUSY);
+        return refuse(m, Refusal::Busy);
     }
     if before_initialize(m, op) {
-        return refuse(m, NOT_INITIALISED);
+        return refuse(m, Refusal::NotInitialised);
     }
     if command_unset(m, op) {
-        return refuse(m, SET_UP);
+        return refuse(m, Refusal::SetUp);
     }
     accept(run_model(m, op), starts_flight(op), starts_temperature(op))
 }
@@ -39,20 +39,20 @@ fn write_reply(m: Model, words: &[u8], op: u32, n: usize) -> Reply
     ensures { result ≡ write_reply m words.now op n }
 {
     if is_busy(m) {
-        return refuse(m, BUSY);
+        return refuse(m, Refusal::Busy);
     }
     if write_invalid(m, words, op, n) {
-        return refuse(m, CALENDAR);
+        return refuse(m, Refusal::Calendar);
     }
     accept(write_model(m, words, op, n), false, false)
 }
 
-fn refusal_number(d: Decoded) -> u32
-    ensures { result ≡ refusal_number d }
+fn refusal_of(d: Decoded) -> Refusal
+    ensures { result ≡ refusal_of d }
 {
     match d {
-        Decoded::Refusal(number) => number,
-        _ => 2,
+        Decoded::Refused(refusal) => refusal,
+        _ => Refusal::Opcode,
     }
 }
 
@@ -62,7 +62,7 @@ fn read_reply(m: Model, d: Decoded, out: &mut [u8]) -> Reply
     ensures { (result ≡ read_reply m d) × (out.new ≡ read_output m d out.old) }
 {
     let Decoded::Read(op, n) = d else {
-        return refuse(m, refusal_number(d));
+        return refuse(m, refusal_of(d));
     };
     fill_words(m, op, n, out);
     accept(read_model(m, op, n), false, false)
@@ -96,7 +96,7 @@ pub fn sound_transaction(m: Model, frame: &[u8], out: &mut [u8], mem: &mut [u8])
     ensures { (result ≡ reply m (Call.transaction frame.now out.old mem.old)) × (out.new ≡ output m (Call.transaction frame.now out.old mem.old)) × (mem.new ≡ memory m (Call.transaction frame.now out.old mem.old)) }
 {
     if frame.len() == 0 {
-        return refuse(m, NO_FRAME);
+        return refuse(m, Refusal::NoFrame);
     }
     let d = frame::decode_frame(frame, out.len());
     let Decoded::Command(op) = d else {

@@ -11,6 +11,7 @@ use Rattle.layout.specs.Code.{code_of, words_of}
 use Rattle.call_list.specs.declared.Entry.{Entry}
 use Rattle.call_list.specs.declared.Place.{Place}
 use Rattle.call_list.specs.CallList.{entry_at, entry_fits, call_fits, call_of, output_after, flash_after, place_after, answers_after, Run, beginning, step_by, step, fits, runs}
+use Rattle.refusal.specs.declared.Refusal.{Refusal}
 
 abbrev entry : ℕ → ℕ → ℕ → Entry
 entry kind first second = record { kind = kind; first = first; second = second }
@@ -92,7 +93,7 @@ flash-left m c = (refl, refl)
 abbrev blank : List ℕ
 blank = 9 ∷ 9 ∷ 9 ∷ 9 ∷ 9 ∷ 9 ∷ 9 ∷ 9 ∷ 9 ∷ 9 ∷ 9 ∷ []
 
-told : (answers_after (Answer.Refused 6) 5 blank ≡ 9 ∷ 9 ∷ 9 ∷ 9 ∷ 9 ∷ 6 ∷ 9 ∷ 9 ∷ 9 ∷ 9 ∷ 9 ∷ [])
+told : (answers_after (Answer.Refused Refusal.Busy) 5 blank ≡ 9 ∷ 9 ∷ 9 ∷ 9 ∷ 9 ∷ 6 ∷ 9 ∷ 9 ∷ 9 ∷ 9 ∷ 9 ∷ [])
     × (answers_after (Answer.Accepted true false) 0 blank ≡ 0xFFFFFFFF ∷ 1 ∷ 0 ∷ 9 ∷ 9 ∷ 9 ∷ 9 ∷ 9 ∷ 9 ∷ 9 ∷ 9 ∷ [])
     × (answers_after Answer.Failed 5 blank ≡ 9 ∷ 9 ∷ 9 ∷ 9 ∷ 9 ∷ 0xFFFFFFFE ∷ 9 ∷ 9 ∷ 9 ∷ 9 ∷ 9 ∷ [])
 unfolding answers_after code_of words_of

@@ -1,8 +1,8 @@
 -- What the definitions of `Close` come to, place by place. Assumes nothing.
-use Prim.Native.Nat.{ℕ, suc, ◌+◌, ◌-◌, ◌≤◌, ◌<◌}
+use Prim.Native.Nat.{ℕ, ◌+◌, ◌-◌, ◌≤◌, ◌<◌}
 use mathlib.Core.Path.{◌≡◌, refl, sym, ap, ◌∙◌}
 use mathlib.Core.Bool.{Bool, true, false, cond}
-use mathlib.Core.List.{List, [], ◌∷◌, ◌++◌, append_assoc, append-nil}
+use mathlib.Core.List.{List, [], ◌∷◌, ◌++◌, append_assoc}
 use native.Mathlib.Decide.{dec_le}
 use native.Mathlib.Numerals.{add-one}
 use native.Mathlib.Omega.{arith}
@@ -11,6 +11,8 @@ use lib.ListN.{length, get_or, set, take, drop, length-append, length-take, drop
 use lib.Seq.{drop-cons, drop-drop, take_at, drop_at, take-append-le, take-take, length-take-le}
 use borrow.Rule.Slice.PartMut.{put_mid, Post-is}
 use Rattle.std.proofs.lemmas.List.{drop-take}
+use Rattle.std.specs.Cmp.Lexicographic.{pointwise}
+use Rattle.unit.proofs.Cases.{by_eqb}
 use borrow.Author.Tests.{eq-eqb, ne_eqb, le-leb, lt-leb}
 use Rattle.numeral.specs.Place.{no_room, overwrite, next_place, written, Placed, put_each, joined}
 use Rattle.numeral.proofs.PlaceLaws.{length-overwrite, put-each}
@@ -38,32 +40,29 @@ module _ (c : ℕ) (bytes : List ℕ) (i : ℕ) where
   unfolding place_of
   place_none h = rw (drop_of_length-le bytes h)
 
--- ---- the words wanted, byte by byte
+-- ---- the words wanted, and what stands behind them
 
-module _ (wanted bytes : List ℕ) (i : ℕ) where
-  pub starts-goes-on : i < length wanted → i < length bytes → get_or bytes i 0 ≡ get_or wanted i 0
-      → starts_with (drop (i + 1) wanted) (drop (i + 1) bytes) ≡ starts_with (drop i wanted) (drop i bytes)
-  unfolding starts_with
-  starts-goes-on hw hb e =
-      rw (add-one i, drop-cons wanted i 0 hw, drop-cons bytes i 0 hb, eq-eqb (get_or bytes i 0) (get_or wanted i 0) e)
+starts-is : (wanted bytes : List ℕ)
+    → starts_with wanted bytes ≡ cond (pointwise eqb wanted (take (length wanted) bytes)) (starts_with [] (drop (length wanted) bytes)) false
+unfolding starts_with
+starts-is [] bytes = refl
+starts-is (w ∷ ws) [] = refl
+starts-is (w ∷ ws) (c ∷ cs) = by_eqb c w
+    (λ same e. rw (e, eq-eqb w c (sym same)) (starts-is ws cs))
+    (λ other e. rw (e, ne_eqb w c (λ same. other (sym same))))
 
-  pub starts-differs : i < length wanted → i < length bytes → (get_or bytes i 0 ≡ get_or wanted i 0 → ⊥)
-      → starts_with (drop i wanted) (drop i bytes) ≡ false
-  unfolding starts_with
-  starts-differs hw hb e =
-      rw (drop-cons wanted i 0 hw, drop-cons bytes i 0 hb, ne_eqb (get_or bytes i 0) (get_or wanted i 0) e)
+module _ (wanted bytes : List ℕ) where
+  pub starts-not : pointwise eqb wanted (take (length wanted) bytes) ≡ false → starts_with wanted bytes ≡ false
+  starts-not e = rw (starts-is wanted bytes, e)
 
-  pub starts-short : i < length wanted → length bytes ≤ i → starts_with (drop i wanted) (drop i bytes) ≡ false
+  pub starts-all : pointwise eqb wanted (take (length wanted) bytes) ≡ true → length bytes ≤ length wanted → starts_with wanted bytes ≡ true
   unfolding starts_with
-  starts-short hw hb = rw (drop-cons wanted i 0 hw, drop_of_length-le bytes hb)
+  starts-all e h = rw (starts-is wanted bytes, e, drop_of_length-le bytes h)
 
-  pub starts-all : length wanted ≤ i → length bytes ≤ i → starts_with (drop i wanted) (drop i bytes) ≡ true
+  pub starts-stops : pointwise eqb wanted (take (length wanted) bytes) ≡ true → length wanted < length bytes
+      → starts_with wanted bytes ≡ leb (get_or bytes (length wanted) 0) 32
   unfolding starts_with
-  starts-all hw hb = rw (drop_of_length-le wanted hw, drop_of_length-le bytes hb)
-
-  pub starts-stops : length wanted ≤ i → i < length bytes → starts_with (drop i wanted) (drop i bytes) ≡ leb (get_or bytes i 0) 32
-  unfolding starts_with
-  starts-stops hw hb = rw (drop_of_length-le wanted hw, drop-cons bytes i 0 hb)
+  starts-stops e h = rw (starts-is wanted bytes, e, drop-cons bytes (length wanted) 0 h)
 
 -- ---- two neighbouring parts exchanged
 

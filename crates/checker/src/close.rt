@@ -133,34 +133,25 @@ fn begins(bytes: &[u8], wanted: &[u8]) -> bool
 fn starts(bytes: &[u8], wanted: &[u8]) -> bool
     ensures { result ≡ starts_with wanted.now bytes.now }
 {
-    let mut i = 0;
-    while i < wanted.len() {
-        if bytes.len() <= i {
-            return false;
-        }
-        if bytes[i] != wanted[i] {
-            return false;
-        }
-        i += 1;
+    if !bytes.starts_with(wanted) {
+        return false;
     }
-    if bytes.len() <= i {
+    if bytes.len() <= wanted.len() {
         return true;
     }
-    bytes[i] <= 32
+    bytes[wanted.len()] <= 32
 }
 
 // The place of the first byte c, or the end.
 fn place_of(bytes: &[u8], c: u8) -> usize
     ensures { result ≡ place_of c bytes.now }
 {
-    let mut i = 0;
-    while i < bytes.len() {
-        if bytes[i] == c {
+    for (i, byte) in bytes.iter().enumerate() {
+        if *byte == c {
             return i;
         }
-        i += 1;
     }
-    i
+    bytes.len()
 }
 
 // The end of the answer's first line.
@@ -177,8 +168,7 @@ fn first_end(counts: &[usize; 22], answers: &[u8]) -> usize
 fn no_later(body: usize, place: usize, used: usize) -> usize
     ensures { result ≡ min (body + place) used }
 {
-    let end = more(body, place);
-    if end < used { end } else { used }
+    more(body, place).min(used)
 }
 
 // Puts ` expected ` and the words behind the answer's first line.

@@ -9,10 +9,7 @@ use calendar::Clock;
 fn reaches(before: u32, after: u32, target: u32) -> bool
     ensures { result ≡ reaches before after target }
 {
-    if before == after {
-        return false;
-    }
-    after == target
+    before != after && after == target
 }
 
 // Whether the tick from `before` to `after` rings the alarm of word `w` in this mode (AM).
@@ -21,17 +18,10 @@ pub fn alarm_rings(before: Clock, after: Clock, w: u32, mode: u32) -> bool
 {
     let minute = reaches(before.minute, after.minute, minute_in(w));
     let alarm_hour = hour_in(w);
-    if mode == 1 {
-        return minute;
+    match mode {
+        1 => minute,
+        2 => reaches(before.hour, after.hour, alarm_hour),
+        3 => after.hour == alarm_hour && minute,
+        _ => false,
     }
-    if mode == 2 {
-        return reaches(before.hour, after.hour, alarm_hour);
-    }
-    if mode == 3 {
-        if after.hour == alarm_hour {
-            return minute;
-        }
-        return false;
-    }
-    false
 }

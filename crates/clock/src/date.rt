@@ -14,78 +14,33 @@ pub fn leap(year: u32) -> bool
 pub fn month_length(year: u32, month: u32) -> u32
     ensures { result ≡ month_length year month }
 {
-    if month == 2 {
-        if leap(year) {
-            return 29;
-        }
-        return 28;
+    match month {
+        2 if leap(year) => 29,
+        2 => 28,
+        4 | 6 | 9 | 11 => 30,
+        _ => 31,
     }
-    if month == 4 {
-        return 30;
-    }
-    if month == 6 {
-        return 30;
-    }
-    if month == 9 {
-        return 30;
-    }
-    if month == 11 {
-        return 30;
-    }
-    31
 }
 
 pub fn date_fits(c: Clock) -> bool
     ensures { result ≡ date_fits c }
 {
-    if 99 < c.year {
-        return false;
-    }
-    if c.month < 1 {
-        return false;
-    }
-    if 12 < c.month {
-        return false;
-    }
-    if c.date < 1 {
-        return false;
-    }
-    let length = month_length(c.year, c.month);
-    if length < c.date {
-        return false;
-    }
-    if c.weekday < 1 {
-        return false;
-    }
-    if 7 < c.weekday {
-        return false;
-    }
-    true
+    c.year <= 99
+        && (1..=12).contains(&c.month)
+        && (1..=month_length(c.year, c.month)).contains(&c.date)
+        && (1..=7).contains(&c.weekday)
 }
 
 pub fn time_fits(c: Clock) -> bool
     ensures { result ≡ time_fits c }
 {
-    let t = c.ticks;
-    if 23 < c.hour {
-        return false;
-    }
-    if 59 < c.minute {
-        return false;
-    }
-    if 59 < c.second {
-        return false;
-    }
-    if 32767 < t.0 {
-        return false;
-    }
-    true
+    c.hour <= 23 && c.minute <= 59 && c.second <= 59 && c.ticks.0 <= 32767
 }
 
 pub fn clock_valid(c: Clock) -> bool
     ensures { result ≡ clock_valid c }
 {
-    if date_fits(c) { time_fits(c) } else { false }
+    date_fits(c) && time_fits(c)
 }
 
 // The clock of a fresh model.

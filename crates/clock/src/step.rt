@@ -9,39 +9,46 @@ use unit::Ticks;
 fn next_year(c: Clock) -> Clock
     ensures { result ≡ next_year c }
 {
-    let mut n = c;
     if 99 <= c.year {
-        n.year = 0;
-        return n;
+        Clock { year: 0, ..c }
+    } else {
+        Clock {
+            year: c.year + 1,
+            ..c
+        }
     }
-    n.year = c.year + 1;
-    n
 }
 
 fn next_month(c: Clock) -> Clock
     ensures { result ≡ next_month c }
 {
-    let mut n = c;
     if 12 <= c.month {
-        n.month = 1;
-        return next_year(n);
+        next_year(Clock { month: 1, ..c })
+    } else {
+        Clock {
+            month: c.month + 1,
+            ..c
+        }
     }
-    n.month = c.month + 1;
-    n
 }
 
 fn next_date(c: Clock) -> Clock
     ensures { result ≡ next_date c }
 {
-    let mut n = c;
-    n.weekday = next_weekday(c.weekday);
-    let length = month_length(c.year, c.month);
-    if length <= c.date {
-        n.date = 1;
-        return next_month(n);
+    let weekday = next_weekday(c.weekday);
+    if month_length(c.year, c.month) <= c.date {
+        next_month(Clock {
+            date: 1,
+            weekday,
+            ..c
+        })
+    } else {
+        Clock {
+            date: c.date + 1,
+            weekday,
+            ..c
+        }
     }
-    n.date = c.date + 1;
-    n
 }
 
 fn next_weekday(weekday: u32) -> u32
@@ -53,50 +60,54 @@ fn next_weekday(weekday: u32) -> u32
 fn next_hour(c: Clock) -> Clock
     ensures { result ≡ next_hour c }
 {
-    let mut n = c;
     if 23 <= c.hour {
-        n.hour = 0;
-        return next_date(n);
+        next_date(Clock { hour: 0, ..c })
+    } else {
+        Clock {
+            hour: c.hour + 1,
+            ..c
+        }
     }
-    n.hour = c.hour + 1;
-    n
 }
 
 fn next_minute(c: Clock) -> Clock
     ensures { result ≡ next_minute c }
 {
-    let mut n = c;
     if 59 <= c.minute {
-        n.minute = 0;
-        return next_hour(n);
+        next_hour(Clock { minute: 0, ..c })
+    } else {
+        Clock {
+            minute: c.minute + 1,
+            ..c
+        }
     }
-    n.minute = c.minute + 1;
-    n
 }
 
 fn next_second(c: Clock) -> Clock
     ensures { result ≡ next_second c }
 {
-    let mut n = c;
     if 59 <= c.second {
-        n.second = 0;
-        return next_minute(n);
+        next_minute(Clock { second: 0, ..c })
+    } else {
+        Clock {
+            second: c.second + 1,
+            ..c
+        }
     }
-    n.second = c.second + 1;
-    n
 }
 
 pub fn tick_clock(c: Clock) -> Clock
     ensures { result ≡ tick_clock c }
 {
-    let t = c.ticks;
-    let mut n = c;
-    if 32767 <= t.0 {
-        let zero = Ticks(0);
-        n.ticks = zero;
-        return next_second(n);
+    if 32767 <= c.ticks.0 {
+        next_second(Clock {
+            ticks: Ticks(0),
+            ..c
+        })
+    } else {
+        Clock {
+            ticks: Ticks(c.ticks.0 + 1),
+            ..c
+        }
     }
-    let later = Ticks(t.0 + 1);
-    n.ticks = later;
-    n
 }

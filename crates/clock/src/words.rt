@@ -17,15 +17,13 @@ pub fn bcd(n: u32) -> u8
 pub fn hundredths_of(t: Ticks) -> u32
     ensures { result ≡ hundredths_of t }
 {
-    ((t.0 as u64) * 100 / 32768) as u32
+    (u64::from(t.0) * 100 / 32768) as u32
 }
 
 pub fn word30(c: Clock) -> u32
     ensures { result ≡ word30 c }
 {
-    let t = c.ticks;
-    let parts = hundredths_of(t);
-    (bcd(parts) as u32) * 256 + (bcd(c.second) as u32)
+    u32::from(bcd(hundredths_of(c.ticks))) * 256 + u32::from(bcd(c.second))
 }
 
 // The hour that a clock of twelve hours shows.
@@ -39,32 +37,33 @@ fn twelve_hour(hour: u32) -> u32
 fn hour_digits(twelve: bool, hour: u32) -> u32
     ensures { (result ≡ hour_digits twelve hour) × (result < 512) }
 {
-    if twelve {
-        let digits = bcd(twelve_hour(hour)) as u32;
-        if 12 <= hour {
-            return 0x60 + digits;
-        }
-        return 0x40 + digits;
+    if !twelve {
+        return u32::from(bcd(hour));
     }
-    bcd(hour) as u32
+    let digits = u32::from(bcd(twelve_hour(hour)));
+    if 12 <= hour {
+        0x60 + digits
+    } else {
+        0x40 + digits
+    }
 }
 
 pub fn word31(c: Clock) -> u32
     ensures { result ≡ word31 c }
 {
-    (bcd(c.minute) as u32) * 256 + hour_digits(c.twelve, c.hour)
+    u32::from(bcd(c.minute)) * 256 + hour_digits(c.twelve, c.hour)
 }
 
 pub fn word32(c: Clock) -> u32
     ensures { result ≡ word32 c }
 {
-    c.weekday % 8 * 256 + (bcd(c.date) as u32)
+    c.weekday % 8 * 256 + u32::from(bcd(c.date))
 }
 
 pub fn word33(c: Clock) -> u32
     ensures { result ≡ word33 c }
 {
-    (bcd(c.month) as u32) * 256 + (bcd(c.year) as u32)
+    u32::from(bcd(c.month)) * 256 + u32::from(bcd(c.year))
 }
 
 pub fn minute_in(w: u32) -> u32
@@ -85,9 +84,10 @@ fn hour_named(w: u32) -> u32
     ensures { result ≡ hour_named w }
 {
     if twelve_in(w) {
-        return w / 16 % 2 * 10 + w % 16;
+        w / 16 % 2 * 10 + w % 16
+    } else {
+        w / 16 % 4 * 10 + w % 16
     }
-    w / 16 % 4 * 10 + w % 16
 }
 
 // The hour meant.
@@ -95,13 +95,13 @@ pub fn hour_in(w: u32) -> u32
     ensures { result ≡ hour_in w }
 {
     let named = hour_named(w);
-    if twelve_in(w) {
-        if w / 32 % 2 == 1 {
-            return named % 12 + 12;
-        }
-        return named % 12;
+    if !twelve_in(w) {
+        named
+    } else if w / 32 % 2 == 1 {
+        named % 12 + 12
+    } else {
+        named % 12
     }
-    named
 }
 
 // The ticks at which a second first reads the hundredths of a word of 30h.
@@ -115,19 +115,16 @@ pub fn ticks_in(w: u32) -> Ticks
 pub fn clock_from(w30: u32, w31: u32, w32: u32, w33: u32, ticks: Ticks) -> Clock
     ensures { result ≡ clock_from w30 w31 w32 w33 ticks }
 {
-    let minute = minute_in(w31);
-    let hour = hour_in(w31);
-    let twelve = twelve_in(w31);
     Clock {
         year: w33 / 16 % 16 * 10 + w33 % 16,
         month: w33 / 4096 % 2 * 10 + w33 / 256 % 16,
         date: w32 / 16 % 4 * 10 + w32 % 16,
         weekday: w32 / 256 % 8,
-        hour,
-        minute,
+        hour: hour_in(w31),
+        minute: minute_in(w31),
         second: w30 / 16 % 8 * 10 + w30 % 16,
         ticks,
-        twelve,
+        twelve: twelve_in(w31),
     }
 }
 
@@ -135,13 +132,7 @@ pub fn clock_from(w30: u32, w31: u32, w32: u32, w33: u32, ticks: Ticks) -> Clock
 fn time_digits(w: u32) -> bool
     ensures { result ≡ time_digits w }
 {
-    if 9 < w / 256 % 16 {
-        return false;
-    }
-    if 9 < w % 16 {
-        return false;
-    }
-    true
+    w / 256 % 16 <= 9 && w % 16 <= 9
 }
 
 // Whether the hour is one of the word's form.
@@ -150,68 +141,38 @@ fn hour_fits(w: u32) -> bool
 {
     let named = hour_named(w);
     if twelve_in(w) {
-        if named < 1 {
-            return false;
-        }
-        if 12 < named {
-            return false;
-        }
-        return true;
+        (1..=12).contains(&named)
+    } else {
+        named <= 23
     }
-    if 23 < named {
-        return false;
-    }
-    true
 }
 
 pub fn digits_fit(w30: u32, w31: u32, w32: u32, w33: u32) -> bool
     ensures { result ≡ digits_fit w30 w31 w32 w33 }
 {
-    if 9 < w30 / 4096 % 16 {
-        return false;
-    }
-    if 9 < w30 / 256 % 16 {
-        return false;
-    }
-    if 9 < w30 % 16 {
-        return false;
-    }
-    if 9 < w32 % 16 {
-        return false;
-    }
-    if 9 < w33 / 256 % 16 {
-        return false;
-    }
-    if 9 < w33 / 16 % 16 {
-        return false;
-    }
-    if 9 < w33 % 16 {
-        return false;
-    }
-    time_digits(w31)
+    let digits = [
+        w30 / 4096 % 16,
+        w30 / 256 % 16,
+        w30 % 16,
+        w32 % 16,
+        w33 / 256 % 16,
+        w33 / 16 % 16,
+        w33 % 16,
+    ];
+    digits.iter().all(|digit| *digit <= 9) && time_digits(w31)
 }
 
 // Whether the four words give a valid clock at these ticks.
 pub fn words_valid(w30: u32, w31: u32, w32: u32, w33: u32, ticks: Ticks) -> bool
     ensures { result ≡ words_valid w30 w31 w32 w33 ticks }
 {
-    if digits_fit(w30, w31, w32, w33) {
-        if hour_fits(w31) {
-            return clock_valid(clock_from(w30, w31, w32, w33, ticks));
-        }
-        return false;
-    }
-    false
+    digits_fit(w30, w31, w32, w33)
+        && hour_fits(w31)
+        && clock_valid(clock_from(w30, w31, w32, w33, ticks))
 }
 
 pub fn alarm_valid(w: u32) -> bool
     ensures { result ≡ alarm_valid w }
 {
-    if time_digits(w) {
-        if 59 < minute_in(w) {
-            return false;
-        }
-        return hour_fits(w);
-    }
-    false
+    time_digits(w) && minute_in(w) <= 59 && hour_fits(w)
 }

@@ -1,8 +1,7 @@
 // The commands: what stands in their way, and the model after each.
 #![tactic(auto)]
 
-ghost use Rattle.std.specs.Prelude.{◌≡◌, eqb};
-ghost use Rattle.unit.specs.Choice.{negate};
+ghost use Rattle.std.specs.Prelude.{◌≡◌};
 ghost use Rattle.device.specs.Bus.{must_be_idle, starts_flight, starts_temperature, is_event, command_busy, before_initialize, command_unset, flight_started, flight_event, temperature_event, started_event, initialised_model, halted_model, run_model, event_flight, event_side_unset, event_temperature, flight_side_unset, single_started, supplied, unsupplied, temperature_side_unset};
 
 use device::{Flight, Model, Temperature};
@@ -17,121 +16,74 @@ use unit::Quanta;
 fn must_be_idle(op: u32) -> bool
     ensures { result ≡ must_be_idle op }
 {
-    if op == RESET {
-        return false;
-    }
-    if op == HALT { false } else { true }
+    op != RESET && op != HALT
 }
 
 pub fn starts_flight(op: u32) -> bool
     ensures { result ≡ starts_flight op }
 {
-    if op < TEMPERATURE {
-        return true;
-    }
-    if op == EVTMG1 {
-        return true;
-    }
-    if op == EVTMG2 { true } else { false }
+    op < TEMPERATURE || op == EVTMG1 || op == EVTMG2
 }
 
 pub fn starts_temperature(op: u32) -> bool
     ensures { result ≡ starts_temperature op }
 {
-    if op == TEMPERATURE {
-        return true;
-    }
-    if op == EVTMG1 {
-        return true;
-    }
-    if op == EVTMG3 { true } else { false }
+    op == TEMPERATURE || op == EVTMG1 || op == EVTMG3
 }
 
 fn is_event(op: u32) -> bool
     ensures { result ≡ is_event op }
 {
-    if op < EVTMG1 {
-        return false;
-    }
-    if EVTMG3 < op { false } else { true }
+    (EVTMG1..=EVTMG3).contains(&op)
 }
 
 pub fn command_busy(m: Model, op: u32) -> bool
     ensures { result ≡ command_busy m op }
 {
-    if must_be_idle(op) { is_busy(m) } else { false }
+    must_be_idle(op) && is_busy(m)
 }
 
 pub fn before_initialize(m: Model, op: u32) -> bool
     ensures { result ≡ before_initialize m op }
 {
-    if m.initialised {
-        return false;
-    }
-    if starts_flight(op) {
-        return true;
-    }
-    starts_temperature(op)
+    !m.initialised && (starts_flight(op) || starts_temperature(op))
 }
 
 fn flight_side_unset(setup: [u16; 16], op: u32) -> bool
     ensures { result ≡ flight_side_unset setup op }
 {
-    if starts_flight(op) {
-        return setup::flight_unset(setup);
-    }
-    false
+    starts_flight(op) && setup::flight_unset(setup)
 }
 
 fn temperature_side_unset(setup: [u16; 16], op: u32) -> bool
     ensures { result ≡ temperature_side_unset setup op }
 {
-    if starts_temperature(op) {
-        return setup::temperature_unset(setup);
-    }
-    false
+    starts_temperature(op) && setup::temperature_unset(setup)
 }
 
 fn event_side_unset(setup: [u16; 16], op: u32) -> bool
     ensures { result ≡ event_side_unset setup op }
 {
-    if is_event(op) {
-        return setup::clock_stands(setup);
-    }
-    false
+    is_event(op) && setup::clock_stands(setup)
 }
 
 pub fn command_unset(m: Model, op: u32) -> bool
     ensures { result ≡ command_unset m op }
 {
-    let setup = m.setup;
-    if event_side_unset(setup, op) {
-        return true;
-    }
-    if flight_side_unset(setup, op) {
-        return true;
-    }
-    temperature_side_unset(setup, op)
-}
-
-fn differs(a: u32, b: u32) -> bool
-    ensures { result ≡ negate (eqb a b) }
-{
-    if a == b { false } else { true }
+    event_side_unset(m.setup, op)
+        || flight_side_unset(m.setup, op)
+        || temperature_side_unset(m.setup, op)
 }
 
 fn flight_started(f: Flight, op: u32) -> Flight
     ensures { result ≡ flight_started f op }
 {
-    let k = f.schedule;
-    let schedule = start_single(k);
-    let up = differs(op, TOF_DOWN);
-    let down = differs(op, TOF_UP);
-    let mut n = f;
-    n.schedule = schedule;
-    n.up = up;
-    n.down = down;
-    n
+    Flight {
+        schedule: start_single(f.schedule),
+        up: op != TOF_DOWN,
+        down: op != TOF_UP,
+        ..f
+    }
 }
 
 fn flight_event(f: Flight, setup: [u16; 16]) -> Flight
@@ -140,14 +92,13 @@ fn flight_event(f: Flight, setup: [u16; 16]) -> Flight
     let period = setup::difference_period(setup);
     let planned = setup::difference_count(setup);
     let continuous = setup::event_continuous(setup);
-    let schedule = start_event(period, planned, continuous);
-    let sum = Quanta(0);
-    let mut n = f;
-    n.schedule = schedule;
-    n.up = true;
-    n.down = true;
-    n.sum = sum;
-    n
+    Flight {
+        schedule: start_event(period, planned, continuous),
+        up: true,
+        down: true,
+        sum: Quanta(0),
+        ..f
+    }
 }
 
 fn temperature_event(t: Temperature, setup: [u16; 16]) -> Temperature
@@ -156,139 +107,122 @@ fn temperature_event(t: Temperature, setup: [u16; 16]) -> Temperature
     let period = setup::temperature_period(setup);
     let planned = setup::temperature_count(setup);
     let continuous = setup::event_continuous(setup);
-    let schedule = start_event(period, planned, continuous);
-    let zero = Quanta(0);
-    let sums = [zero, zero, zero, zero];
-    let mut n = t;
-    n.schedule = schedule;
-    n.sums = sums;
-    n
+    Temperature {
+        schedule: start_event(period, planned, continuous),
+        sums: [Quanta(0); 4],
+        ..t
+    }
 }
 
 fn event_flight(m: Model, op: u32) -> Flight
     ensures { result ≡ event_flight m op }
 {
-    let setup = m.setup;
-    let flight = m.flight;
     if starts_flight(op) {
-        return flight_event(flight, setup);
+        flight_event(m.flight, m.setup)
+    } else {
+        m.flight
     }
-    flight
 }
 
 fn event_temperature(m: Model, op: u32) -> Temperature
     ensures { result ≡ event_temperature m op }
 {
-    let setup = m.setup;
-    let temperature = m.temperature;
     if starts_temperature(op) {
-        return temperature_event(temperature, setup);
+        temperature_event(m.temperature, m.setup)
+    } else {
+        m.temperature
     }
-    temperature
 }
 
 fn started_event(m: Model, op: u32) -> Model
     ensures { result ≡ started_event m op }
 {
-    let flight = event_flight(m, op);
-    let temperature = event_temperature(m, op);
-    let mut next = m;
-    next.flight = flight;
-    next.temperature = temperature;
-    next
+    Model {
+        flight: event_flight(m, op),
+        temperature: event_temperature(m, op),
+        ..m
+    }
 }
 
 fn initialised_model(m: Model) -> Model
     ensures { result ≡ initialised_model m }
 {
-    let old = m.status;
-    let status = joined(old, init_bit());
-    let mut next = m;
-    next.status = status;
-    next.initialised = true;
-    next
+    Model {
+        status: joined(m.status, init_bit()),
+        initialised: true,
+        ..m
+    }
 }
 
 fn halted_model(m: Model) -> Model
     ensures { result ≡ halted_model m }
 {
-    let old = m.status;
-    let mut flight = m.flight;
-    let mut temperature = m.temperature;
-    let f = halt_schedule(flight.schedule);
-    let t = halt_schedule(temperature.schedule);
-    flight.schedule = f;
-    temperature.schedule = t;
-    let status = joined(old, halt_bit());
-    let mut next = m;
-    next.status = status;
-    next.flight = flight;
-    next.temperature = temperature;
-    next
+    Model {
+        status: joined(m.status, halt_bit()),
+        flight: Flight {
+            schedule: halt_schedule(m.flight.schedule),
+            ..m.flight
+        },
+        temperature: Temperature {
+            schedule: halt_schedule(m.temperature.schedule),
+            ..m.temperature
+        },
+        ..m
+    }
 }
 
 // A measurement that is no part of an event starts.
 pub fn single_started(m: Model, op: u32) -> Model
     ensures { result ≡ single_started m op }
 {
-    let mut next = m;
     if op == TEMPERATURE {
-        let mut temperature = m.temperature;
-        let k = start_single(temperature.schedule);
-        temperature.schedule = k;
-        next.temperature = temperature;
-        return next;
+        Model {
+            temperature: Temperature {
+                schedule: start_single(m.temperature.schedule),
+                ..m.temperature
+            },
+            ..m
+        }
+    } else {
+        Model {
+            flight: flight_started(m.flight, op),
+            ..m
+        }
     }
-    let old = m.flight;
-    let flight = flight_started(old, op);
-    next.flight = flight;
-    next
 }
 
 // The regulator of the user flash is switched on, and off.
 fn supplied(m: Model) -> Model
     ensures { result ≡ supplied m }
 {
-    let old = m.status;
-    let status = joined(old, ldo_bit());
-    let mut next = m;
-    next.status = status;
-    next.regulator = true;
-    next
+    Model {
+        status: joined(m.status, ldo_bit()),
+        regulator: true,
+        ..m
+    }
 }
 
 fn unsupplied(m: Model) -> Model
     ensures { result ≡ unsupplied m }
 {
-    let old = m.status;
-    let status = without_ldo(old);
-    let mut next = m;
-    next.status = status;
-    next.regulator = false;
-    next
+    Model {
+        status: without_ldo(m.status),
+        regulator: false,
+        ..m
+    }
 }
 
 // The model after an accepted command.
 pub fn run_model(m: Model, op: u32) -> Model
     ensures { result ≡ run_model m op }
 {
-    if op == RESET {
-        return fresh_with(no_bits());
+    match op {
+        RESET => fresh_with(no_bits()),
+        INITIALIZE => initialised_model(m),
+        HALT => halted_model(m),
+        LDO_ON => supplied(m),
+        LDO_OFF => unsupplied(m),
+        _ if is_event(op) => started_event(m, op),
+        _ => single_started(m, op),
     }
-    if op == INITIALIZE {
-        return initialised_model(m);
-    }
-    if op == HALT {
-        return halted_model(m);
-    }
-    if op == LDO_ON {
-        return supplied(m);
-    }
-    if op == LDO_OFF {
-        return unsupplied(m);
-    }
-    if is_event(op) {
-        return started_event(m, op);
-    }
-    single_started(m, op)
 }

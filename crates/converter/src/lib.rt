@@ -8,10 +8,10 @@ ghost use Rattle.device.specs.Reply.{Replied, Transacted};
 
 use bus::sound_transaction;
 use device::{Model, Reply};
-use model::refusal::NOT_SOUND;
 use model::reply::refuse;
 use model::state::{fresh_with, is_sound};
 pub use question::{flight_awaited, interrupt_pending, peek, regulator_on, temperature_awaited};
+use refusal::Refusal;
 pub use run_state::{flight_left, flight_place, initialised, temperature_left, temperature_place};
 use sound_calls::{sound_flight_delivery, sound_stretch, sound_temperature_delivery, sound_tick};
 use status::por_bit;
@@ -30,7 +30,7 @@ pub fn transaction(m: Model, frame: &[u8], out: &mut [u8], mem: &mut [u8]) -> Re
     if is_sound(m) {
         return sound_transaction(m, frame, out, mem);
     }
-    refuse(m, NOT_SOUND)
+    refuse(m, Refusal::NotSound)
 }
 
 // One period of the 32,768 Hz clock.
@@ -40,7 +40,7 @@ pub fn tick(m: Model) -> Reply
     if is_sound(m) {
         return sound_tick(m);
     }
-    refuse(m, NOT_SOUND)
+    refuse(m, Refusal::NotSound)
 }
 
 // n such periods at once, at most 16,384.
@@ -50,7 +50,7 @@ pub fn stretch(m: Model, n: Ticks) -> Reply
     if is_sound(m) {
         return sound_stretch(m, n);
     }
-    refuse(m, NOT_SOUND)
+    refuse(m, Refusal::NotSound)
 }
 
 // The hit words of an awaited flight measurement: the up list and the down list.
@@ -60,7 +60,7 @@ pub fn flight_delivery(m: Model, up: &[u32], down: &[u32]) -> Reply
     if is_sound(m) {
         return sound_flight_delivery(m, up, down);
     }
-    refuse(m, NOT_SOUND)
+    refuse(m, Refusal::NotSound)
 }
 
 // The words of an awaited temperature measurement, T1 to T4.
@@ -70,5 +70,5 @@ pub fn temperature_delivery(m: Model, words: &[u32]) -> Reply
     if is_sound(m) {
         return sound_temperature_delivery(m, words);
     }
-    refuse(m, NOT_SOUND)
+    refuse(m, Refusal::NotSound)
 }

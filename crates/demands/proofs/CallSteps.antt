@@ -29,13 +29,14 @@ use Rattle.device.specs.Reply.{any_late, any_open, port_fault}
 use Rattle.device.specs.Reply.{number_in, accepted_answer, accepted_model, refuse, reply_by, reply}
 use Rattle.device.specs.Parts.{accept}
 use Rattle.device.specs.History.{after, log}
+use Rattle.refusal.specs.declared.Refusal.{Refusal}
 use Rattle.demands.specs.EventHistory.{is_refusal, last_given, may_follow, reads_status}
 use Rattle.demands.specs.Claim.{ticks_moved}
 use Rattle.device.proofs.Table.{NoneHolds, none-holds, accepted-number}
 use Rattle.device.proofs.Stretch.{setup-ticked, clock-ticked}
 
 pub data Step (m : Model) : Call → Reply → Type 0 where
-  refusal : (c : Call) (n : ℕ) → Step m c (refuse n m)
+  refusal : (c : Call) (r : Refusal) → Step m c (refuse r m)
   -- a read leaves all but the status
   reading :
       (f o x : List ℕ) (s : Status) →

@@ -8,13 +8,14 @@ use Rattle.demands.proofs.StatusKept.{refused-by}
 use Rattle.demands.proofs.FirstDemand.{first-demand}
 use Rattle.demands.proofs.SecondDemand.{second-demand}
 use Rattle.demands.proofs.ThirdDemand.{third-demand}
+use Rattle.refusal.specs.declared.Refusal.{Refusal}
 
 sound-claim : SoundClaim
 sound-claim =
     record {
       fresh = fresh-sound;
       kept = keeps-sound;
-      never-zero = λ cs c e. never-zero cs c ((refused-by (after fresh_model cs) c 0).0 e);
+      never-zero = λ cs c e. never-zero cs c ((refused-by (after fresh_model cs) c Refusal.NotSound).0 e);
     }
 
 pub demands : Demands

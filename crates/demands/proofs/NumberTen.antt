@@ -23,12 +23,13 @@ use Rattle.demands.specs.EventHistory.{is_delivery}
 use Rattle.demands.specs.Claim.{awaited_now}
 use Rattle.device.proofs.Table.{number-refused, number-accepted}
 use Rattle.device.proofs.Stretch.{schedule_of}
+use Rattle.refusal.specs.declared.Refusal.{Refusal}
 
 verdict-of :
     (k : Kind) (m : Model) (c : Call) →
     is_sound m ≡ true →
     is_delivery k c ≡ true →
-    verdict m c ≡ pick (is_awaited (schedule_of k m)) (pick (miscounted m c) (refused 11) accepted) (refused 10)
+    verdict m c ≡ pick (is_awaited (schedule_of k m)) (pick (miscounted m c) (refused Refusal.WordCount) accepted) (refused Refusal.NotAwaited)
 unfolding is_delivery verdict table first_of no_frame not_carried wrong_length past_registers short_output while_busy supply_off unreachable unerased bad_calendar not_initialised bad_setup not_awaited miscounted too_long
 verdict-of k m (transaction f o x) s e = cc
 verdict-of k m tick s e = cc
@@ -54,9 +55,9 @@ number_of :
 number_of k m c s d =
     let v = verdict-of k m c s d in
     by-test (is_awaited (schedule_of k m))
-    (λ a. by-test (miscounted m c) (λ b. rw (a, b) (number-refused m c 11 (rw (a, b) at v)))
+    (λ a. by-test (miscounted m c) (λ b. rw (a, b) (number-refused m c Refusal.WordCount (rw (a, b) at v)))
     (λ b. rw (a, b) (number-accepted m c (rw (a, b) at v))))
-    (λ a. rw a (number-refused m c 10 (rw a at v)))
+    (λ a. rw a (number-refused m c Refusal.NotAwaited (rw a at v)))
 
 -- so of the delivery that the claim asks with,
 pub now-means : (k : Kind) (m : Model) → is_sound m ≡ true → awaited_now k m ≡ pick (negate (is_awaited (schedule_of k m))) 0 1

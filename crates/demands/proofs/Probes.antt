@@ -16,6 +16,7 @@ use Rattle.demands.specs.Probes.{OtherProbes, same, values, buffer, OtherProbesI
 use Rattle.demands.specs.FlashRun.{lent, memory_left}
 use Rattle.demands.proofs.ProbesBlanked.{blank, model-alike, report-alike, other_rows, rows_alike}
 use Rattle.device.proofs.Sound.{keeps-sound}
+use Rattle.refusal.specs.declared.Refusal.{Refusal}
 
 -- A call of two sound models: the same number or none, and then the rest.
 sound-verdict : (m : Model) (c : Call) → is_sound m ≡ true → verdict m c ≡ first_of (other_rows m c)
@@ -36,7 +37,7 @@ pub record Alike (c d : Call) (r s : Reply) : Type 0 where
   pub models : blank r.model ≡ blank s.model
   pub reports : start_of c r.answer ≡ start_of d s.answer
 
-refused_none : (c : Call) (n : ℕ) → start_of c (Refused n) ≡ 0
+refused_none : (c : Call) (n : Refusal) → start_of c (Refused n) ≡ 0
 unfolding start_of values_in
 refused_none (transaction f o x) n = refl
 refused_none tick n = refl
@@ -131,7 +132,7 @@ through-alike m n x s t e (next c d cs ds o os) =
     (keeps-sound n (lent x d) t) a.models os))
 
 -- A model that is not sound refuses every call, and stays; so does the memory.
-unsound-refuses : (m : Model) (c : Call) → is_sound m ≡ false → reply m c ≡ refuse 0 m
+unsound-refuses : (m : Model) (c : Call) → is_sound m ≡ false → reply m c ≡ refuse Refusal.NotSound m
 unfolding reply reply_by verdict first_of table
 unsound-refuses m c s = rw s
 
@@ -151,11 +152,11 @@ unsound-through :
 unfolding flow_through
 unsound-through m x s none = refl
 unsound-through m x s (next c d cs ds o os) =
-    let a : Alike (lent x c) (lent x d) (refuse 0 m) (refuse 0 m) =
-    record { models = refl; reports = refused_none (lent x c) 0 ∙ sym (refused_none (lent x d) 0) } in
+    let a : Alike (lent x c) (lent x d) (refuse Refusal.NotSound m) (refuse Refusal.NotSound m) =
+    record { models = refl; reports = refused_none (lent x c) Refusal.NotSound ∙ sym (refused_none (lent x d) Refusal.NotSound) } in
     let e : x ≡ x = refl in
     rw (unsound-refuses m (lent x c) s, unsound-refuses m (lent x d) s, unsound-left m x c s, unsound-left m x d s, flow-alike a e)
-    (ap (λ (fs : List Flow). flow_of (lent x d) (refuse 0 m) x ∷ fs) (unsound-through m x s os))
+    (ap (λ (fs : List Flow). flow_of (lent x d) (refuse Refusal.NotSound m) x ∷ fs) (unsound-through m x s os))
 
 pub probes-leave-flow : ProbesClaim
 probes-leave-flow m x cs ds o =

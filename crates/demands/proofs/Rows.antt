@@ -37,6 +37,8 @@ use Rattle.device.proofs.RefusalMeaning.{busy-means, command-busy-means, event-m
 use Rattle.device.proofs.CallMeaning.{count-means}
 use Rattle.device.proofs.WriteMeaning.{calendar-some, judged-after}
 use Rattle.device.proofs.BusMeaning.{is-command, is-write, is_read_lem}
+use Rattle.refusal.specs.declared.Refusal.{Refusal as Answer·Refusal}
+use Rattle.refusal.specs.Number.{number}
 
 -- Tests joined and turned round, by what each of them means.
 never : (◌≡◌ {A = Bool} false true) ↔ ⊥
@@ -418,7 +420,7 @@ abbrev pub Alike : List Row → List Refusal → Type 0
 Alike [] [] = Unit {0}
 Alike [] (q ∷ qs) = ⊥
 Alike (r ∷ rs) [] = ⊥
-Alike (r ∷ rs) (q ∷ qs) = (r.number ≡ q.number) × ((r.holds ≡ true) ↔ q.When) × (r.holds ≡ false → Alike rs qs)
+Alike (r ∷ rs) (q ∷ qs) = (number r.refusal ≡ q.number) × ((r.holds ≡ true) ↔ q.When) × (r.holds ≡ false → Alike rs qs)
 
 carried : (c : Call) (f o x : List ℕ) → c ≡ transaction f o x → not_carried c ≡ false → not_carried (transaction f [] []) ≡ false
 unfolding not_carried
@@ -426,7 +428,7 @@ carried c f o x e k = rw e at k
 
 module _ (m : Model) (c : Call) where
   alike-deliveries :
-      Alike (row 10 (not_awaited m c) ∷ row 11 (miscounted m c) ∷ row 12 (too_long c) ∷ []) (drop 13 (rows m c))
+      Alike (row Answer·Refusal.NotAwaited (not_awaited m c) ∷ row Answer·Refusal.WordCount (miscounted m c) ∷ row Answer·Refusal.Span (too_long c) ∷ []) (drop 13 (rows m c))
   unfolding not_awaited miscounted too_long
   alike-deliveries = (
     refl,

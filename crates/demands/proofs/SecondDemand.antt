@@ -25,8 +25,6 @@ use Rattle.hit.proofs.Meaning.{difference-means, bits-means, mean-floor, words-f
 use Rattle.device.specs.declared.Model.{Model}
 use Rattle.device.specs.declared.Reply.{Reply}
 use Rattle.device.specs.declared.Answer.TheVariants.{Good, Failed}
-use Rattle.device.specs.declared.Told.{Told}
-use Rattle.device.specs.declared.Told.TheVariants.{Value, Refused}
 use Rattle.device.specs.Model.{is_sound}
 use Rattle.device.specs.Event.{fails}
 use Rattle.device.specs.Registers.{register_word, calendar_word, flight_word}
@@ -37,7 +35,7 @@ use Rattle.device.specs.Tick.{flight_ticked, flight_after, tick_model}
 use Rattle.device.specs.Delivery.{good_flight_model, failed_flight_model}
 use Rattle.device.specs.Call.{Call, transaction, flight, temperature, accepted, verdict, miscounted}
 use Rattle.device.specs.Reply.{any_late, port_fault, accepted_answer, accepted_model, reply, reply_by, values_in}
-use Rattle.device.specs.Question.{interrupt_pending, value_told}
+use Rattle.device.specs.Question.{interrupt_pending}
 use Rattle.device.specs.History.{differences, temperatures}
 use Rattle.device.specs.Plain.{Holds, Whole}
 use Rattle.demands.specs.Claim.{command}
@@ -67,6 +65,9 @@ use Rattle.demands.proofs.SoundMeaning.{halt-left-idle, reset-left-idle}
 use Rattle.demands.proofs.Form.{form-kept}
 use Rattle.demands.proofs.Stores.{only_store}
 use Rattle.demands.proofs.Initialised.{initialised-until-reset}
+use Rattle.refusal.specs.declared.Refusal.{Refusal}
+use Rattle.refusal.specs.Number.{value_told}
+use Rattle.std.specs.Prelude.{Result, Ok, Err}
 
 reads : ReadsClaim
 reads =
@@ -128,12 +129,12 @@ counts m s =
     record {
       flights =
           λ u d a.
-          let (f, g) = refused-by m (flight u d) 11 in
+          let (f, g) = refused-by m (flight u d) Refusal.WordCount in
           let (h, i) = flight-count m s u d a in
           rw (← hits-are m.setup) (λ e. h (f e), λ e. g (i e));
       temperatures =
           λ w a.
-          let (f, g) = refused-by m (temperature w) 11 in
+          let (f, g) = refused-by m (temperature w) Refusal.WordCount in
           let (h, i) = temperature-count m s w a in
           (λ e. h (f e), λ e. g (i e));
     }
@@ -355,13 +356,12 @@ ports m w a =
     })
 
 -- a list of one number, and what a question tells
-told-one : (m : Model) → (value_told (interrupt_pending m) ≡ 1 ∷ []) ↔ (interrupt_pending m ≡ Value 1)
-unfolding value_told
+told-one : (m : Model) → (value_told (interrupt_pending m) ≡ 1 ∷ []) ↔ (interrupt_pending m ≡ Ok 1)
 told-one m = go (interrupt_pending m)
   where
-    go : (t : Told) → (value_told t ≡ 1 ∷ []) ↔ (t ≡ Value 1)
-    go (Value v) = (λ e. ap Value (ap (λ l. get_or l 0 0) e), λ e. ap value_told e)
-    go (Refused n) = (λ e. absurd (let z : ◌≡◌ {A = ℕ} 0 1 = ap length e in omega arith), λ e. absurd (let z : ◌≡◌ {A = ℕ} 0 1 = cc in omega arith))
+    go : (t : Result ℕ Refusal) → (value_told t ≡ 1 ∷ []) ↔ (t ≡ Ok 1)
+    go (Ok v) = (λ e. ap Ok (ap (λ l. get_or l 0 0) e), λ e. ap value_told e)
+    go (Err r) = (λ e. absurd (let z : ◌≡◌ {A = ℕ} 0 1 = ap length e in omega arith), λ e. absurd (let z : ◌≡◌ {A = ℕ} 0 1 = cc in omega arith))
 
 interrupt :
     (m : Model) →

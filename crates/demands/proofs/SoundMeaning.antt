@@ -37,21 +37,23 @@ use Rattle.device.proofs.Stretch.{start-named, failure-named}
 use Rattle.device.proofs.Replies.{reply-tick}
 use Rattle.demands.proofs.CallSteps.{tick-accepted}
 use Rattle.demands.proofs.ThirdDemand.{sound-after, write-idle}
+use Rattle.refusal.specs.declared.Refusal.{Refusal}
+use Rattle.refusal.specs.Number.{number}
 
 -- "a fresh model is sound and every call keeps it so": so is every model that only the calls made,
 pub made-sound : (cs : List Call) → is_sound (after fresh_model cs) ≡ true
 made-sound cs = sound-after cs fresh_model fresh-sound
 
 -- and number 0 is never given for a call on it
-other-number : (rs : List Row) → All (λ (r : Row). (¬ (r.number ≡ 0)) ⊎ (r.holds ≡ false)) rs → ¬ (FirstRow rs 0)
+other-number : (rs : List Row) → All (λ (r : Row). (¬ (number r.refusal ≡ 0)) ⊎ (r.holds ≡ false)) rs → ¬ (FirstRow rs Refusal.NotSound)
 other-number [] a f = f
 other-number (r ∷ rs) a f =
     ⊎_elim
-    (λ h. ⊎_elim (λ n. n h.1) (λ e. let z : ◌≡◌ {A = ℕ} 0 1 = cc in omega arith) a.0)
+    (λ h. ⊎_elim (λ n. n (ap number h.1)) (λ e. let z : ◌≡◌ {A = ℕ} 0 1 = cc in omega arith) a.0)
     (λ g. other-number rs a.1 g.1)
     f
 
-sound-numbers : (m : Model) (c : Call) → is_sound m ≡ true → ¬ (FirstRow (table m c) 0)
+sound-numbers : (m : Model) (c : Call) → is_sound m ≡ true → ¬ (FirstRow (table m c) Refusal.NotSound)
 unfolding table
 sound-numbers m c s =
     other-number (table m c) (
@@ -98,11 +100,11 @@ sound-numbers m c s =
       ),
     )
 
-pub never-zero : (cs : List Call) (c : Call) → ¬ (verdict (after fresh_model cs) c ≡ refused 0)
+pub never-zero : (cs : List Call) (c : Call) → ¬ (verdict (after fresh_model cs) c ≡ refused Refusal.NotSound)
 unfolding verdict
 never-zero cs c e =
     let m : Model = after fresh_model cs in
-    sound-numbers m c (made-sound cs) ((refused-means (table m c) 0).0 e)
+    sound-numbers m c (made-sound cs) ((refused-means (table m c) Refusal.NotSound).0 e)
 
 -- the alarm of a sound model is valid, digit by digit
 pub sound-alarm : (m : Model) → is_sound m ≡ true → AlarmValid (word_of m.setup 0x35)

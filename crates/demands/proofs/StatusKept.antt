@@ -44,6 +44,9 @@ use Rattle.device.proofs.Stretch.{schedule_of}
 use Rattle.device.proofs.Replies.{reply-tick}
 use Rattle.device.proofs.RegisterMeaning.{reads-status}
 use Rattle.device.proofs.StatusMeaning.{kept, status-means}
+use Rattle.refusal.specs.declared.Refusal.{Refusal}
+use Rattle.refusal.specs.Number.{number}
+use Rattle.refusal.proofs.Number.{number-same}
 
 differ : ◌≡◌ {A = Bool} false true → ⊥
 differ e = let z : ◌≡◌ {A = ℕ} 0 1 = cc in omega arith
@@ -695,12 +698,12 @@ accepted-by m c = go (verdict m c)
     go accepted e = refl
     go (refused n) e = unfold reply_by in absurd (let z : ◌≡◌ {A = ℕ} 1 0 = ap length e in omega arith)
 
-pub refused-by : (m : Model) (c : Call) (n : ℕ) → (number_in (reply m c).answer ≡ n ∷ []) ↔ (verdict m c ≡ refused n)
-refused-by m c n = (λ e. go (verdict m c) refl e, number-refused m c n)
+pub refused-by : (m : Model) (c : Call) (r : Refusal) → (number_in (reply m c).answer ≡ number r ∷ []) ↔ (verdict m c ≡ refused r)
+refused-by m c r = (λ e. go (verdict m c) refl e, number-refused m c r)
   where
-    go : (v : Verdict) → verdict m c ≡ v → number_in (reply m c).answer ≡ n ∷ [] → verdict m c ≡ refused n
+    go : (v : Verdict) → verdict m c ≡ v → number_in (reply m c).answer ≡ number r ∷ [] → verdict m c ≡ refused r
     go accepted h e = absurd (let z : ◌≡◌ {A = ℕ} 0 1 = ap length (sym (number-accepted m c h) ∙ e) in omega arith)
-    go (refused i) h e = h ∙ ap refused (ap (λ l. get_or l 0 0) (sym (number-refused m c i h) ∙ e))
+    go (refused i) h e = h ∙ ap refused (number-same i r (ap (λ l. get_or l 0 0) (sym (number-refused m c i h) ∙ e)))
 
 pub bits-claim : (m : Model) (c : Call) → Accepts m c → ((n : ℕ) → ¬ (c ≡ stretch n)) → BitsClaim m c (reply m c).model
 bits-claim m c e z = let v = accepted-by m c e in rw (accepted-left m c v) (call-claim m c v z)

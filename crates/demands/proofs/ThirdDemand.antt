@@ -54,6 +54,8 @@ use Rattle.demands.proofs.Others.{Quiet, OtherHeld, other-claim}
 use Rattle.demands.proofs.EventBits.{BitsHeld, status-bits}
 use Rattle.demands.proofs.EventHeld.{Held, all_held}
 use Rattle.demands.proofs.SetupTold.{setup-told}
+use Rattle.refusal.specs.declared.Refusal.{Refusal}
+use Rattle.refusal.specs.Number.{number}
 
 after-ticks : (a b : ℕ) (c : Clock) → after_ticks a (after_ticks b c) ≡ after_ticks (b + a) c
 unfolding after_ticks
@@ -88,7 +90,7 @@ accepted-by m c e = go (verdict m c) refl
     go : (v : Verdict) → verdict m c ≡ v → verdict m c ≡ accepted
     go accepted f = f
     go (refused n) f =
-        let t : n ∷ [] ≡ [] = sym (number-refused m c n f) ∙ e in
+        let t : number n ∷ [] ≡ [] = sym (number-refused m c n f) ∙ e in
         let z : ◌≡◌ {A = ℕ} 0 1 = cc in
         absurd (omega arith)
 
@@ -236,20 +238,20 @@ write-verdict :
     0x30 ≤ a →
     a ≤ 0x43 →
     verdict m (transaction (a ∷ high ∷ low ∷ []) o x)
-    ≡ pick (is_busy m) (refused 6) (pick (write_invalid (high ∷ low ∷ []) a 1 m) (refused 7) accepted)
+    ≡ pick (is_busy m) (refused Refusal.Busy) (pick (write_invalid (high ∷ low ∷ []) a 1 m) (refused Refusal.Calendar) accepted)
 unfolding verdict first_of table no_frame not_carried wrong_length past_registers short_output while_busy supply_off unreachable unerased bad_calendar not_initialised bad_setup not_awaited miscounted too_long is_command is_write not_whole past_end
 write-verdict m a high low o x s from to =
     rw (s, lt-ltb 0x0D a (omega arith), le-leb 0x30 a from, le-leb a 0x43 to, le-ltb 0x44 (a + 1) (omega arith))
 
 write-busy : (m : Model) → is_sound m ≡ true → is_busy m ≡ true → StillBusy m
 write-busy m s b a high low o x from to =
-    number-refused m _ 6 (rw b at (write-verdict m a high low o x s from to))
+    number-refused m _ Refusal.Busy (rw b at (write-verdict m a high low o x s from to))
 
 pub write-idle : (m : Model) → is_sound m ≡ true → is_busy m ≡ false → NotBusy m
 write-idle m s b a high low o x from to =
     let v = rw b at (write-verdict m a high low o x s from to) in
     by-test (write_invalid (high ∷ low ∷ []) a 1 m)
-    (λ e. rw (number-refused m _ 7 (rw e at v)) (λ t. let z : ◌≡◌ {A = ℕ} 6 7 = cc in omega arith))
+    (λ e. rw (number-refused m _ Refusal.Calendar (rw e at v)) (λ t. let z : ◌≡◌ {A = ℕ} 6 7 = cc in omega arith))
     (λ e. rw (number-accepted m _ (rw e at v)) (λ t. let z : ◌≡◌ {A = ℕ} 0 1 = cc in omega arith))
 
 -- an event runs while fewer than N are settled, and no longer

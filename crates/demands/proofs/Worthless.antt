@@ -5,7 +5,7 @@ use mathlib.Core.Bool.{Bool, true}
 use mathlib.Core.List.{List, [], ◌∷◌, map}
 use mathlib.Core.Logic.{⊎_elim}
 use mathlib.Core.Path.{◌≡◌, refl, ap, sym, ◌∙◌}
-use lib.ListN.{get_or}
+use lib.ListN.{get_or, length}
 use Rattle.calendar.specs.Calendar.{leap, month_length, date_fits, time_fits, clock_valid, start, tick_clock}
 use Rattle.calendar.specs.Words.{bcd, hundredths_of, word30, word31, word32, word33, hour_digits, minute_in, twelve_in, hour_named, hour_in, ticks_in, clock_from, time_digits, hour_fits, digits_fit, words_valid, alarm_valid}
 use Rattle.setup.specs.Setup.{factory, alarm_word, hit_count, flight_unset, temperature_unset, clock_stands}
@@ -24,6 +24,8 @@ use Rattle.device.specs.Call.{Call, transaction, tick, flight, verdict, table, f
 use Rattle.device.specs.Call.{no_frame, not_carried, wrong_length, past_registers, short_output, while_busy, supply_off, unreachable, unerased, bad_calendar, not_initialised, bad_setup, not_awaited, miscounted, too_long}
 use Rattle.device.specs.Reply.{accepted_answer, accepted_model, accepted_output, reply, reply_by, number_in, output, output_by}
 use Rattle.demands.specs.FirstDemand.{Machine, FirstDemand}
+use Rattle.refusal.specs.Number.{number}
+use Rattle.refusal.specs.declared.Refusal.{Refusal}
 use Rattle.demands.specs.Worthless.{giving, frames, commands, writes, deliveries, still, zeroed, Same, WorthlessClaim}
 use Rattle.device.proofs.Table.{number-accepted}
 use Rattle.demands.proofs.FirstDemand.{first-demand}
@@ -58,14 +60,14 @@ one M d m c =
 
 -- A number for a call that the definitions accept
 giving-fails :
-    (n : ℕ) (test : Call → Bool) (m : Model) (c : Call) →
+    (r : Refusal) (test : Call → Bool) (m : Model) (c : Call) →
     test c ≡ true →
     verdict m c ≡ accepted →
-    ¬ FirstDemand (giving n test)
+    ¬ FirstDemand (giving r test)
 unfolding number_in
-giving-fails n test m c t v d =
-    let e : n ∷ [] ≡ [] = (rw t at (one (giving n test) d m c).number) ∙ number-accepted m c v in
-    let z : ◌≡◌ {A = ℕ} 0 1 = cc in
+giving-fails r test m c t v d =
+    let e : number r ∷ [] ≡ [] = (rw t at (one (giving r test) d m c).number) ∙ number-accepted m c v in
+    let z : ◌≡◌ {A = ℕ} 1 0 = ap length e in
     omega arith
 
 -- Initialize and a write of 38h are accepted on a fresh model,
@@ -121,11 +123,11 @@ unfolding is_command is_write
 worthless =
     record {
       one = one;
-      two = giving-fails 2 frames fresh_model _ refl initialises;
-      eight = giving-fails 8 commands fresh_model _ refl initialises;
-      nine = giving-fails 9 commands fresh_model _ refl initialises;
-      seven = giving-fails 7 writes fresh_model _ refl writes-38;
-      ten = giving-fails 10 deliveries _ _ refl delivers;
+      two = giving-fails Refusal.Opcode frames fresh_model _ refl initialises;
+      eight = giving-fails Refusal.NotInitialised commands fresh_model _ refl initialises;
+      nine = giving-fails Refusal.SetUp commands fresh_model _ refl initialises;
+      seven = giving-fails Refusal.Calendar writes fresh_model _ refl writes-38;
+      ten = giving-fails Refusal.NotAwaited deliveries _ _ refl delivers;
       still = still-fails;
       zeroed = zeroed-fails;
     }

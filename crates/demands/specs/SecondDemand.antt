@@ -17,7 +17,7 @@ use Rattle.device.specs.Stretch.{model_ticked}
 use Rattle.device.specs.Bus.{run_model}
 use Rattle.device.specs.Call.{Call, transaction, tick, flight, temperature, stretch, not_carried, not_awaited}
 use Rattle.device.specs.Reply.{accepted_answer, reply, output, number_in, values_in, flag}
-use Rattle.device.specs.Question.{interrupt_pending, value_told}
+use Rattle.device.specs.Question.{interrupt_pending}
 use Rattle.device.specs.History.{after, Entry, log, Kind, differences, temperatures, by_kind}
 use Rattle.demands.specs.EventHistory.{only_reads, runs, is_delivery}
 use Rattle.device.specs.Plain.{words_at, repeated, fresh_words, Holds, Whole, LeftOut, After, CalendarAfter, eosc_of, Command, Write, Read, Flash, single_ticks}
@@ -27,6 +27,7 @@ use Rattle.demands.specs.Initialised.{InitialisedClaim}
 use Rattle.demands.specs.Terms.{Accepts, OtherStored, hits_of, least_late, least_open, Some}
 use Rattle.demands.specs.Terms.{Direction, by_direction, measured, results_at, single, undelivered, failed_in, Settles}
 use Rattle.demands.specs.Terms.{Set, own_bit, event_bit, Clears, Sets}
+use Rattle.refusal.specs.Number.{value_told}
 
 -- "Register reads": words coming out over the bus.
 pub record ReadsClaim : Type 0 where

@@ -3,15 +3,16 @@
 use Rattle.std.specs.Prelude.{ℕ, Bool, true, false, map, ◌≡◌}
 use Rattle.device.specs.Base.{pick, is_command, is_write, is_read}
 use Rattle.device.specs.declared.Model.{Model}
+use Rattle.refusal.specs.declared.Refusal.{Refusal}
 use Rattle.device.specs.Call.{Call, opcode, on_frame, on_delivery, on_time}
 use Rattle.device.specs.Reply.{refuse, reply, number_in, values_in, buffer_of, output, memory_of, memory}
 use Rattle.demands.specs.FirstDemand.{Machine, FirstDemand}
 
--- gives this number to the calls that the test names, and does with the others as the definitions say
-abbrev pub giving : ℕ → (Call → Bool) → Machine
-giving n test =
+-- refuses so the calls that the test names, and does with the others as the definitions say
+abbrev pub giving : Refusal → (Call → Bool) → Machine
+giving r test =
     record {
-      reply = λ m c. pick (test c) (refuse n m) (reply m c);
+      reply = λ m c. pick (test c) (refuse r m) (reply m c);
       output = λ m c. pick (test c) (buffer_of c) (output m c);
       memory = λ m c. pick (test c) (memory_of c) (memory m c);
     }
@@ -58,11 +59,11 @@ pub record WorthlessClaim : Type 0 where
   -- whatever meets the first demand does with every call on every model as the definitions say
   pub one : (M : Machine) → FirstDemand M → (m : Model) (c : Call) → Same M m c
   -- "number 2 to every frame"; so for 8 or 9 to every command and 7 to every write
-  pub two : ¬ FirstDemand (giving 2 frames)
-  pub eight : ¬ FirstDemand (giving 8 commands)
-  pub nine : ¬ FirstDemand (giving 9 commands)
-  pub seven : ¬ FirstDemand (giving 7 writes)
+  pub two : ¬ FirstDemand (giving Refusal.Opcode frames)
+  pub eight : ¬ FirstDemand (giving Refusal.NotInitialised commands)
+  pub nine : ¬ FirstDemand (giving Refusal.SetUp commands)
+  pub seven : ¬ FirstDemand (giving Refusal.Calendar writes)
   -- "says not awaited right after a start"
-  pub ten : ¬ FirstDemand (giving 10 deliveries)
+  pub ten : ¬ FirstDemand (giving Refusal.NotAwaited deliveries)
   pub still : ¬ FirstDemand still
   pub zeroed : ¬ FirstDemand zeroed

@@ -12,7 +12,6 @@ use Rattle.frame.specs.Frame.{is_command, is_write, is_flash}
 use Rattle.device.specs.declared.Schedule.{Schedule}
 use Rattle.device.specs.declared.Model.{Model}
 use Rattle.device.specs.declared.Answer.TheVariants.{Good, Failed}
-use Rattle.device.specs.declared.Told.TheVariants.{Value}
 use Rattle.device.specs.Event.{is_awaited, begins, fails}
 use Rattle.device.specs.Model.{is_sound}
 use Rattle.device.specs.Registers.{register_word}
@@ -21,7 +20,9 @@ use Rattle.device.specs.Stretch.{stretch_report, last_tick}
 use Rattle.device.specs.Bus.{starts_flight, starts_temperature}
 use Rattle.device.specs.Call.{transaction, tick, flight, temperature, stretch, opcode, accepted, verdict}
 use Rattle.device.specs.Reply.{any_late, port_fault, accepted_answer, reply, reply_by, flag, values_in}
-use Rattle.device.specs.Question.{number_told, value_told, interrupt_pending, awaited_told, regulator_on, peek}
+use Rattle.device.specs.Question.{interrupt_pending, awaited_told, regulator_on, peek}
+use Rattle.refusal.specs.Number.{number, number_told, value_told}
+use Rattle.std.specs.Prelude.{Result, Ok, Err}
 
 -- "An accepted transaction answers the kinds that it started, none for a read, a write or another command."
 pub command-says :
@@ -88,8 +89,7 @@ pub temperature-says :
 unfolding reply reply_by accepted_answer values_in
 temperature-says m w v = rw v (delivered (port_fault m w))
 
-told : (t : Bool) → value_told (pick t (Value 1) (Value 0)) ≡ flag t ∷ []
-unfolding value_told
+told : (t : Bool) → value_told (pick t (Ok 1) (Ok 0)) ≡ flag t ∷ []
 told true = refl
 told false = refl
 
@@ -101,24 +101,24 @@ pub unsound-told :
     (number_told (awaited_told m k) ≡ 0 ∷ []) ×
     (number_told (regulator_on m) ≡ 0 ∷ []) ×
     (number_told (peek m a) ≡ 0 ∷ [])
-unfolding interrupt_pending awaited_told regulator_on peek number_told
+unfolding interrupt_pending awaited_told regulator_on peek
 unsound-told m k a s = rw s (refl, refl, refl, refl)
 
 -- of a sound one: whether a kind is awaited, whether the regulator is on,
 pub awaited-says : (m : Model) (k : Schedule) → is_sound m ≡ true → value_told (awaited_told m k) ≡ flag (is_awaited k) ∷ []
-unfolding awaited_told value_told
+unfolding awaited_told
 awaited-says m k s = rw s (told (is_awaited k))
 
 pub regulator-says : (m : Model) → is_sound m ≡ true → value_told (regulator_on m) ≡ flag m.regulator ∷ []
-unfolding regulator_on value_told
+unfolding regulator_on
 regulator-says m s = rw s (told m.regulator)
 
 -- and the word at a read address, B0h to FFh; another one is number 4
 pub peek-says : (m : Model) (a : ℕ) → is_sound m ≡ true → 0xB0 ≤ a → a ≤ 0xFF → value_told (peek m a) ≡ register_word m a ∷ []
-unfolding peek value_told
+unfolding peek
 peek-says m a s h i = rw (s, le-ltb a 0xB0 h, le-ltb 0xFF a i)
 
 pub peek-refused : (m : Model) (a : ℕ) → is_sound m ≡ true → (a < 0xB0) ⊎ (0xFF < a) → number_told (peek m a) ≡ 4 ∷ []
-unfolding peek number_told
+unfolding peek
 peek-refused m a s o =
     ⊎_elim (λ (h : a < 0xB0). rw (s, lt-ltb a 0xB0 h)) (λ (h : 0xFF < a). rw (s, le-ltb a 0xB0 (omega arith), lt-ltb 0xFF a h)) o

@@ -16,7 +16,6 @@ use Rattle.device.specs.declared.Schedule.{Schedule}
 use Rattle.device.specs.declared.Flight.{Flight}
 use Rattle.device.specs.declared.Temperature.{Temperature}
 use Rattle.device.specs.declared.Model.{Model}
-use Rattle.device.specs.declared.Told.TheVariants.{Value}
 use Rattle.device.specs.Event.{is_awaited, begins_group, fails as expires, tick_schedule, settled_after, good_after, settle}
 use Rattle.device.specs.declared.Status.{Status}
 use Rattle.device.specs.Status.{no_bits, joined, alarm_bit, flight_bits, temperature_bits}
@@ -31,6 +30,8 @@ use Rattle.device.specs.Call.{flight, temperature, refused, verdict, table, firs
 use Rattle.device.specs.Question.{awaited_told}
 use Rattle.device.specs.Call.{no_frame, not_carried, wrong_length, past_registers, short_output, while_busy, supply_off, unreachable, unerased, bad_calendar}
 use Rattle.device.specs.Call.{not_initialised, bad_setup, not_awaited, miscounted, too_long}
+use Rattle.refusal.specs.declared.Refusal.{Refusal}
+use Rattle.std.specs.Prelude.{Result, Ok, Err}
 
 -- "an up list and a down list, each of H words ..; the unmeasured direction's list is empty"
 same-means : (measured : Bool) (hits given : ℕ) → (same_count measured hits given ≡ true) ↔ (given ≡ pick measured hits 0)
@@ -71,7 +72,7 @@ pub awaited-flight :
     (m : Model) →
     is_sound m ≡ true →
     (u d : List ℕ) →
-    (awaited_told m m.flight.schedule ≡ Value 0) ↔ (verdict m (flight u d) ≡ refused 10)
+    (awaited_told m m.flight.schedule ≡ Ok 0) ↔ (verdict m (flight u d) ≡ refused Refusal.NotAwaited)
 unfolding awaited_told verdict table first_of no_frame not_carried wrong_length past_registers short_output while_busy supply_off unreachable unerased bad_calendar not_initialised bad_setup not_awaited miscounted too_long
 awaited-flight m s u d =
     rw s
@@ -85,7 +86,7 @@ pub awaited-temperature :
     (m : Model) →
     is_sound m ≡ true →
     (w : List ℕ) →
-    (awaited_told m m.temperature.schedule ≡ Value 0) ↔ (verdict m (temperature w) ≡ refused 10)
+    (awaited_told m m.temperature.schedule ≡ Ok 0) ↔ (verdict m (temperature w) ≡ refused Refusal.NotAwaited)
 unfolding awaited_told verdict table first_of no_frame not_carried wrong_length past_registers short_output while_busy supply_off unreachable unerased bad_calendar not_initialised bad_setup not_awaited miscounted too_long
 awaited-temperature m s w =
     rw s
@@ -100,7 +101,7 @@ module _ (m : Model) (s : is_sound m ≡ true) where
   pub flight-count :
       (u d : List ℕ) →
       not_awaited m (flight u d) ≡ false →
-      (verdict m (flight u d) ≡ refused 11)
+      (verdict m (flight u d) ≡ refused Refusal.WordCount)
       ↔ (¬ ((length u ≡ pick m.flight.up (hit_count m.setup) 0) × (length d ≡ pick m.flight.down (hit_count m.setup) 0)))
   unfolding verdict table first_of no_frame not_carried wrong_length past_registers short_output while_busy supply_off unreachable unerased bad_calendar not_initialised bad_setup not_awaited miscounted too_long
   flight-count u d =
@@ -115,7 +116,7 @@ module _ (m : Model) (s : is_sound m ≡ true) where
       differ e = let z : ◌≡◌ {A = ℕ} 0 1 = cc in omega arith
 
   pub temperature-count :
-      (w : List ℕ) → not_awaited m (temperature w) ≡ false → (verdict m (temperature w) ≡ refused 11) ↔ (¬ (length w ≡ 4))
+      (w : List ℕ) → not_awaited m (temperature w) ≡ false → (verdict m (temperature w) ≡ refused Refusal.WordCount) ↔ (¬ (length w ≡ 4))
   unfolding verdict table first_of no_frame not_carried wrong_length past_registers short_output while_busy supply_off unreachable unerased bad_calendar not_initialised bad_setup not_awaited miscounted too_long
   temperature-count w =
       rw s
@@ -125,7 +126,7 @@ module _ (m : Model) (s : is_sound m ≡ true) where
       (λ h c. rw (a, c) (λ _. (λ x. h, λ n. refl))))
       (λ a. rw a (λ x. let z : ◌≡◌ {A = ℕ} 0 1 = cc in absurd (omega arith))))
 
-pub awaited-one : (m : Model) (k : Schedule) → is_sound m ≡ true → (awaited_told m k ≡ Value 1) ↔ (0 < k.left.0)
+pub awaited-one : (m : Model) (k : Schedule) → is_sound m ≡ true → (awaited_told m k ≡ Ok 1) ↔ (0 < k.left.0)
 unfolding awaited_told is_awaited
 awaited-one m k s =
     rw s

@@ -16,7 +16,6 @@ use Rattle.flash.specs.Flash.{flash_word, flash_written, flash_erased, address_r
 use Rattle.flash.proofs.Bytes.{written-high, written_low, written-kept, erased-block, kept-blocks, first-written}
 use Rattle.device.specs.declared.Status.{Status}
 use Rattle.device.specs.declared.Model.{Model}
-use Rattle.device.specs.declared.Told.TheVariants.{Value}
 use Rattle.device.specs.Status.{joined, ldo_bit, flash_bit, without_ldo}
 use Rattle.device.specs.Model.{is_sound, is_busy, fresh_model, fresh_with, reset_model}
 use Rattle.device.specs.FlashFrame.{flash_address, flash_data, flash_unreachable, flash_unerased, flash_model, flash_output, flash_memory}
@@ -29,6 +28,8 @@ use Rattle.device.specs.Reply.{reply, reply_by, accepted_answer, accepted_model,
 use Rattle.flash.proofs.Refusal.{address-accepted, erase-accepted}
 use Rattle.device.proofs.Table.{none-holds}
 use Rattle.device.proofs.StatusMeaning.{kept}
+use Rattle.refusal.specs.declared.Refusal.{Refusal}
+use Rattle.std.specs.Prelude.{Result, Ok, Err}
 
 -- a status with the two bits given, and the others as they were
 abbrev pub other_bits : Status → Bool → Bool → Status
@@ -89,7 +90,7 @@ module _ (m : Model) where
   unfolding fresh_model fresh_with run_model reset_model initialised_model halted_model
   regulator-kept = (refl, refl, refl, refl)
 
-  pub regulator-told : is_sound m ≡ true → (regulator_on m ≡ Value 1) ↔ (m.regulator ≡ true)
+  pub regulator-told : is_sound m ≡ true → (regulator_on m ≡ Ok 1) ↔ (m.regulator ≡ true)
   unfolding regulator_on
   regulator-told s =
       rw s
@@ -135,11 +136,11 @@ module _ (m : Model) where
 module _ (m : Model) (s : is_sound m ≡ true) (high low first second : ℕ) (o x : List ℕ) where
   pub write-verdict :
       verdict m (transaction (0x10 ∷ high ∷ low ∷ first ∷ second ∷ []) o x)
-      ≡ pick (is_busy m) (refused 6)
+      ≡ pick (is_busy m) (refused Refusal.Busy)
       (pick m.regulator
-      (pick (address_refused (length x) (high * 256 + low)) (refused 16)
-      (pick (not_erased x (high * 256 + low)) (refused 17) accepted))
-      (refused 15))
+      (pick (address_refused (length x) (high * 256 + low)) (refused Refusal.FlashAddress)
+      (pick (not_erased x (high * 256 + low)) (refused Refusal.NotErased) accepted))
+      (refused Refusal.SupplyOff))
   unfolding verdict table first_of no_frame not_carried wrong_length past_registers short_output while_busy supply_off unreachable unerased bad_calendar not_initialised bad_setup not_awaited miscounted too_long is_command is_write is_flash flash_further flash_unreachable flash_unerased flash_address word_at
   write-verdict =
       rw s
@@ -151,9 +152,9 @@ module _ (m : Model) (s : is_sound m ≡ true) (high low first second : ℕ) (o 
 
   pub read-verdict :
       verdict m (transaction (0x90 ∷ high ∷ low ∷ first ∷ second ∷ []) o x)
-      ≡ pick (ltb (length o) 2) (refused 5)
-      (pick (is_busy m) (refused 6)
-      (pick m.regulator (pick (address_refused (length x) (high * 256 + low)) (refused 16) accepted) (refused 15)))
+      ≡ pick (ltb (length o) 2) (refused Refusal.ShortOutput)
+      (pick (is_busy m) (refused Refusal.Busy)
+      (pick m.regulator (pick (address_refused (length x) (high * 256 + low)) (refused Refusal.FlashAddress) accepted) (refused Refusal.SupplyOff)))
   unfolding verdict table first_of no_frame not_carried wrong_length past_registers short_output while_busy supply_off unreachable unerased bad_calendar not_initialised bad_setup not_awaited miscounted too_long is_command is_write is_flash flash_further flash_unreachable flash_unerased flash_address word_at
   read-verdict =
       rw s
@@ -165,8 +166,8 @@ module _ (m : Model) (s : is_sound m ≡ true) (high low first second : ℕ) (o 
 
   pub erase-verdict :
       verdict m (transaction (0x13 ∷ high ∷ low ∷ []) o x)
-      ≡ pick (is_busy m) (refused 6)
-      (pick m.regulator (pick (erase_refused (length x) (high * 256 + low)) (refused 16) accepted) (refused 15))
+      ≡ pick (is_busy m) (refused Refusal.Busy)
+      (pick m.regulator (pick (erase_refused (length x) (high * 256 + low)) (refused Refusal.FlashAddress) accepted) (refused Refusal.SupplyOff))
   unfolding verdict table first_of no_frame not_carried wrong_length past_registers short_output while_busy supply_off unreachable unerased bad_calendar not_initialised bad_setup not_awaited miscounted too_long is_command is_write is_flash flash_further flash_unreachable flash_unerased flash_address word_at
   erase-verdict =
       rw s
@@ -180,7 +181,7 @@ pub flash-length :
     is_flash (opcode f) ≡ true →
     ¬ (length f ≡ 0) →
     ¬ (length f ≡ pick (eqb (opcode f) 0x13) 3 5) →
-    verdict m (transaction f o x) ≡ refused 3
+    verdict m (transaction f o x) ≡ refused Refusal.FrameLength
 unfolding verdict table first_of no_frame not_carried wrong_length flash_further
 flash-length m f o x s u some n =
     let (c, w, _) = flash-alone (opcode f) u in
@@ -272,7 +273,7 @@ pub ldo-verdict :
     (m : Model) (o x : List ℕ) →
     is_sound m ≡ true →
     map (λ (op : ℕ). verdict m (transaction (op ∷ []) o x)) (0x0C ∷ 0x0D ∷ [])
-    ≡ pick (is_busy m) (refused 6) accepted ∷ pick (is_busy m) (refused 6) accepted ∷ []
+    ≡ pick (is_busy m) (refused Refusal.Busy) accepted ∷ pick (is_busy m) (refused Refusal.Busy) accepted ∷ []
 unfolding verdict table first_of no_frame not_carried wrong_length past_registers short_output while_busy supply_off unreachable unerased bad_calendar not_initialised bad_setup not_awaited miscounted too_long is_command command_busy must_be_idle before_initialize command_unset event_side_unset flight_side_unset temperature_side_unset starts_flight starts_temperature is_event
 ldo-verdict m o x s =
     rw s
@@ -281,7 +282,7 @@ ldo-verdict m o x s =
 pub ldo-length :
     (m : Model) (b : ℕ) (rest o x : List ℕ) →
     is_sound m ≡ true →
-    map (λ (op : ℕ). verdict m (transaction (op ∷ b ∷ rest) o x)) (0x0C ∷ 0x0D ∷ []) ≡ refused 3 ∷ refused 3 ∷ []
+    map (λ (op : ℕ). verdict m (transaction (op ∷ b ∷ rest) o x)) (0x0C ∷ 0x0D ∷ []) ≡ refused Refusal.FrameLength ∷ refused Refusal.FrameLength ∷ []
 unfolding verdict table first_of no_frame not_carried wrong_length is_command
 ldo-length m b rest o x s =
     rw (s, ne_eqb (length (0x0C ∷ b ∷ rest) - 1) 0 (λ e. omega arith), ne_eqb (length (0x0C ∷ b ∷ rest)) 0 (λ e. omega arith))

@@ -21,6 +21,7 @@ use Rattle.device.specs.Parts.{flight_reply, temperature_reply}
 use Rattle.device.specs.Call.{no_frame, not_carried, wrong_length, past_registers, short_output, while_busy, supply_off, unreachable, unerased, bad_calendar}
 use Rattle.device.specs.Call.{not_initialised, bad_setup, not_awaited, miscounted, too_long}
 use Rattle.device.specs.Reply.{accepted_answer, accepted_model}
+use Rattle.refusal.specs.declared.Refusal.{Refusal}
 
 -- The replies of a sound model to the calls that are no transactions.
 module _ (m : Model) (s : is_sound m ≡ true) where
@@ -36,7 +37,7 @@ module _ (m : Model) (s : is_sound m ≡ true) where
   pub reply-stretch :
       (n : ℕ) →
       reply m (stretch n)
-      ≡ pick (ltb 16384 n) (refuse 12 m)
+      ≡ pick (ltb 16384 n) (refuse Refusal.Span m)
       (record {
         answer = Stretched (progress m n).flight (progress m n).temperature;
         model = (progress m n).model;
@@ -48,8 +49,8 @@ module _ (m : Model) (s : is_sound m ≡ true) where
       (u d : List ℕ) →
       reply m (flight u d)
       ≡ pick (is_awaited m.flight.schedule)
-      (pick (flight_miscounted m.flight (hit_count m.setup) (length u) (length d)) (refuse 11 m) (flight_reply m u d))
-      (refuse 10 m)
+      (pick (flight_miscounted m.flight (hit_count m.setup) (length u) (length d)) (refuse Refusal.WordCount m) (flight_reply m u d))
+      (refuse Refusal.NotAwaited m)
   unfolding reply reply_by verdict table first_of no_frame not_carried wrong_length past_registers short_output while_busy supply_off unreachable unerased bad_calendar not_initialised bad_setup not_awaited miscounted too_long flight_reply
   reply-flight u d =
       by-test (is_awaited m.flight.schedule)
@@ -62,8 +63,8 @@ module _ (m : Model) (s : is_sound m ≡ true) where
       (w : List ℕ) →
       reply m (temperature w)
       ≡ pick (is_awaited m.temperature.schedule)
-      (pick (eqb (length w) 4) (temperature_reply m w) (refuse 11 m))
-      (refuse 10 m)
+      (pick (eqb (length w) 4) (temperature_reply m w) (refuse Refusal.WordCount m))
+      (refuse Refusal.NotAwaited m)
   unfolding reply reply_by verdict table first_of no_frame not_carried wrong_length past_registers short_output while_busy supply_off unreachable unerased bad_calendar not_initialised bad_setup not_awaited miscounted too_long temperature_reply
   reply-temperature w =
       by-test (is_awaited m.temperature.schedule)

@@ -52,6 +52,7 @@ use Rattle.device.specs.Event.{counts_sound, wait_sound, balance_sound, schedule
 use Rattle.device.specs.Event.{begins_group, left_after, wait_after, started_after, settled_after, good_after, fails, start_single, start_event}
 use Rattle.device.specs.Event.{tick_schedule, settle, halt_schedule}
 use Rattle.device.proofs.TickCases.{by-begins, by-group, no-group, one_less}
+use Rattle.refusal.specs.declared.Refusal.{Refusal}
 
 -- a start to come: the period, the wait for it, and the ticks that the awaited one has left
 pub record Spaced (left wait period : ℕ) : Type 0 where
@@ -775,7 +776,7 @@ unfolding flash_model
 flash-bounds m op b =
     chosen Bounds (eqb op 0x90) b (record { clock = b.clock; alarm = b.alarm; flight = b.flight; temperature = b.temperature })
 
--- A delivered list that row 11 lets pass has at most H words.
+-- A delivered list that row Refusal.WordCount lets pass has at most H words.
 same_count_lem : (measured : Bool) (hits given : ℕ) → same_count measured hits given ≡ true → given ≤ hits
 unfolding same_count
 same_count_lem true hits given e = omega (arith, eqb-true given hits e)

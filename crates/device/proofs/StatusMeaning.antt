@@ -11,7 +11,6 @@ use Rattle.setup.specs.Setup.{word_of, interrupt_enabled}
 use Rattle.device.specs.declared.Schedule.{Schedule}
 use Rattle.device.specs.declared.Status.{Status}
 use Rattle.device.specs.declared.Model.{Model}
-use Rattle.device.specs.declared.Told.TheVariants.{Value}
 use Rattle.device.specs.Event.{fails as expires, in_event, is_last, halt_schedule}
 use Rattle.device.specs.Status.{no_bits, joined, status_word, sets_own_bit, flight_bits, temperature_bits, alarm_bit, init_bit, halt_bit}
 use Rattle.device.specs.Model.{is_sound}
@@ -19,6 +18,7 @@ use Rattle.device.specs.Tick.{tick_rings, tick_status, tick_model}
 use Rattle.device.specs.Bus.{initialised_model, halted_model}
 use Rattle.device.specs.Question.{interrupt_pending}
 use Rattle.device.specs.Reply.{flag}
+use Rattle.std.specs.Prelude.{Result, Ok, Err}
 
 bit_below : (b : Bool) → flag b < 2
 bit_below true = omega arith
@@ -220,7 +220,7 @@ halt-keeps m =
 -- "The INT answer is yes exactly when INT_EN (bit 9 of 42h) is 1 and the status is not 0."
 pub interrupt-yes :
     (m : Model) →
-    (interrupt_pending m ≡ Value 1)
+    (interrupt_pending m ≡ Ok 1)
     ↔ ((is_sound m ≡ true) × (word_of m.setup 0x42 / 512 % 2 ≡ 1) × (¬ (status_word m.status ≡ 0)))
 unfolding interrupt_pending interrupt_enabled
 interrupt-yes m =
@@ -239,7 +239,7 @@ interrupt-yes m =
 pub interrupt-no :
     (m : Model) →
     is_sound m ≡ true →
-    (interrupt_pending m ≡ Value 0) ↔ (¬ ((word_of m.setup 0x42 / 512 % 2 ≡ 1) × (¬ (status_word m.status ≡ 0))))
+    (interrupt_pending m ≡ Ok 0) ↔ (¬ ((word_of m.setup 0x42 / 512 % 2 ≡ 1) × (¬ (status_word m.status ≡ 0))))
 unfolding interrupt_pending interrupt_enabled
 interrupt-no m s =
     rw s

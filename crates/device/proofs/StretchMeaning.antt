@@ -19,6 +19,7 @@ use Rattle.device.specs.Plain.{single_ticks}
 use Rattle.device.proofs.Sound.{keeps-sound}
 use Rattle.device.proofs.Replies.{reply-tick, reply-stretch}
 use Rattle.device.proofs.Stretch.{ticked-later}
+use Rattle.refusal.specs.declared.Refusal.{Refusal}
 
 -- "with the same end as n single ticks"
 after-singles : (n : ℕ) (m : Model) → is_sound m ≡ true → after m (single_ticks n) ≡ model_ticked n m
@@ -39,7 +40,7 @@ unfolding progress
 same_end n m s l = rw (reply-stretch m s n, le-ltb 16384 n l) (sym (after-singles n m s))
 
 -- "number 12, span, for a larger n, after number 0"
-pub span-refused : (n : ℕ) (m : Model) → is_sound m ≡ true → 16384 < n → reply m (stretch n) ≡ refuse 12 m
+pub span-refused : (n : ℕ) (m : Model) → is_sound m ≡ true → 16384 < n → reply m (stretch n) ≡ refuse Refusal.Span m
 span-refused n m s l = rw (reply-stretch m s n, lt-ltb 16384 n l)
 
 -- A tick that is named is one of the n, and does what the test asks; where none is named, none does.

@@ -11,6 +11,8 @@ use Rattle.hit.specs.Mean.{All}
 use Rattle.device.specs.declared.Model.{Model}
 use Rattle.device.specs.declared.Reply.{Reply}
 use Rattle.device.specs.Model.{is_sound}
+use Rattle.refusal.specs.declared.Refusal.{Refusal}
+use Rattle.refusal.specs.Number.{number}
 use Rattle.device.specs.Call.{Call, Row, Verdict, accepted, refused, verdict, first_of, table}
 use Rattle.device.specs.Reply.{reply, reply_by, output, output_by, buffer_of, memory, memory_by, memory_of}
 use Rattle.device.specs.Call.{no_frame, not_carried, wrong_length, past_registers, short_output, while_busy, supply_off, unreachable, unerased, bad_calendar}
@@ -29,16 +31,16 @@ pub negated : (b : Bool) → negate b ≡ false → b ≡ true
 negated true e = refl
 negated false e = sym e
 
--- the first row that holds has this number; no row holds
-abbrev pub FirstRow : List Row → ℕ → Type 0
+-- the first row that holds has this refusal; no row holds
+abbrev pub FirstRow : List Row → Refusal → Type 0
 FirstRow [] n = ⊥
-FirstRow (r ∷ rs) n = ((r.holds ≡ true) × (r.number ≡ n)) ⊎ ((r.holds ≡ false) × FirstRow rs n)
+FirstRow (r ∷ rs) n = ((r.holds ≡ true) × (r.refusal ≡ n)) ⊎ ((r.holds ≡ false) × FirstRow rs n)
 
 abbrev pub NoRow : List Row → Type 0
 NoRow rs = All (λ (r : Row). r.holds ≡ false) rs
 
 -- "the first whose condition holds is given"
-pub refused-means : (rs : List Row) (n : ℕ) → (first_of rs ≡ refused n) ↔ FirstRow rs n
+pub refused-means : (rs : List Row) (n : Refusal) → (first_of rs ≡ refused n) ↔ FirstRow rs n
 unfolding first_of
 refused-means [] n = (λ e. let z : ◌≡◌ {A = ℕ} 0 1 = cc in absurd (omega arith), absurd)
 refused-means (r ∷ rs) n =
@@ -98,18 +100,18 @@ none-holds m c e =
     }
 
 -- "A refusal answers its number; model and output buffer keep every value."
-pub refused-same : (m : Model) (c : Call) (n : ℕ) → verdict m c ≡ refused n → (reply m c).model ≡ m
+pub refused-same : (m : Model) (c : Call) (r : Refusal) → verdict m c ≡ refused r → (reply m c).model ≡ m
 unfolding reply reply_by
-refused-same m c n e = rw e
+refused-same m c r e = rw e
 
-pub refused-buffer : (m : Model) (c : Call) (n : ℕ) → verdict m c ≡ refused n → output m c ≡ buffer_of c
+pub refused-buffer : (m : Model) (c : Call) (r : Refusal) → verdict m c ≡ refused r → output m c ≡ buffer_of c
 unfolding output output_by
-refused-buffer m c n e = rw e
+refused-buffer m c r e = rw e
 
 -- "a refusal or any other frame leaves the whole memory as it was" (Note 8)
-pub refused-memory : (m : Model) (c : Call) (n : ℕ) → verdict m c ≡ refused n → memory m c ≡ memory_of c
+pub refused-memory : (m : Model) (c : Call) (r : Refusal) → verdict m c ≡ refused r → memory m c ≡ memory_of c
 unfolding memory memory_by
-refused-memory m c n e = rw e
+refused-memory m c r e = rw e
 
 -- "A refusal answers its number": the number in the answer is the verdict's.
 pub accepted-number : (m : Model) (c : Call) → number_in (accepted_answer m c) ≡ []
@@ -123,9 +125,9 @@ accepted-number m (flight u d) = picked (λ a. number_in a ≡ []) (any_late m u
 accepted-number m (temperature w) = picked (λ a. number_in a ≡ []) (port_fault m w) (λ _. refl) (λ _. refl)
 accepted-number m (stretch n) = refl
 
-pub number-refused : (m : Model) (c : Call) (n : ℕ) → verdict m c ≡ refused n → number_in (reply m c).answer ≡ n ∷ []
+pub number-refused : (m : Model) (c : Call) (r : Refusal) → verdict m c ≡ refused r → number_in (reply m c).answer ≡ number r ∷ []
 unfolding reply reply_by number_in
-number-refused m c n e = rw e
+number-refused m c r e = rw e
 
 pub number-accepted : (m : Model) (c : Call) → verdict m c ≡ accepted → number_in (reply m c).answer ≡ []
 unfolding reply reply_by
@@ -137,4 +139,4 @@ replied m c e = record { number = ap (λ (s : Reply). number_in s.answer) e ∙ 
   where
     by-verdict : (v : Verdict) → verdict m c ≡ v → number_in (reply m c).answer ≡ number_of v
     by-verdict accepted e = unfold number_of in number-accepted m c e
-    by-verdict (refused n) e = unfold number_of in number-refused m c n e
+    by-verdict (refused r) e = unfold number_of in number-refused m c r e

@@ -24,10 +24,11 @@ pub use Rattle.flash.specs.Flash.{flash_word, flash_written, flash_erased, first
 pub use Rattle.flash.specs.Operation.{Operation, write, erase, last_word}
 pub use Rattle.calendar.specs.declared.Clock.{Clock}
 pub use Rattle.frame.specs.declared.Decoded.{Decoded}
-pub use Rattle.frame.specs.declared.Decoded.TheVariants.{Command, Read, Write, Flash, Refusal}
+pub use Rattle.frame.specs.declared.Decoded.TheVariants.{Command, Read, Write, Flash, Refused}
 pub use Rattle.device.specs.declared.Answer.TheVariants.{Accepted, Ticked, Stretched, Good, Failed}
-pub use Rattle.device.specs.declared.Told.{Told}
-pub use Rattle.device.specs.declared.Told.TheVariants.{Value}
+pub use Rattle.std.specs.Prelude.{Result, Ok, Err}
+pub use Rattle.refusal.specs.declared.Refusal.{Refusal}
+pub use Rattle.refusal.specs.Number.{number, number_told, value_told}
 pub use Rattle.hit.specs.Difference.{difference_mean, port_mean, difference_word, biased}
 pub use Rattle.hit.specs.Limit.{late_from, open_from, any_from, any_fault}
 pub use Rattle.std.specs.Int.{w32}

@@ -8,6 +8,7 @@ use Rattle.device.specs.Write.{write_invalid}
 use Rattle.device.specs.Delivery.{flight_miscounted}
 use Rattle.device.specs.FlashFrame.{flash_address, flash_unreachable, flash_unerased}
 use Rattle.device.specs.Bus.{command_busy, before_initialize, command_unset}
+use Rattle.refusal.specs.declared.Refusal.{Refusal}
 
 -- The calls that a list may hold: a transaction has its frame, and the output buffer and the user flash before it.
 pub data Call : Type 0 where
@@ -132,42 +133,42 @@ miscounted m c =
 unfoldable pub too_long : Call → Bool
 too_long c = on_time c false false (λ n. ltb 16384 n)
 
--- The table: a number and whether its condition holds. Numbers 15 to 17 stand "after number 6, in this order" (Note 8).
+-- The table: a refusal and whether its condition holds. Numbers 15 to 17 stand "after number 6, in this order" (Note 8).
 pub record Row : Type 0 where
-  pub number : ℕ
+  pub refusal : Refusal
   pub holds : Bool
 
-abbrev pub row : ℕ → Bool → Row
-row n b = record { number = n; holds = b }
+abbrev pub row : Refusal → Bool → Row
+row r b = record { refusal = r; holds = b }
 
 unfoldable pub table : Model → Call → List Row
 table m c =
-    row 0 (negate (is_sound m)) ∷
-    row 1 (no_frame c) ∷
-    row 2 (not_carried c) ∷
-    row 3 (wrong_length c) ∷
-    row 4 (past_registers c) ∷
-    row 5 (short_output c) ∷
-    row 6 (while_busy m c) ∷
-    row 15 (supply_off m c) ∷
-    row 16 (unreachable c) ∷
-    row 17 (unerased c) ∷
-    row 7 (bad_calendar m c) ∷
-    row 8 (not_initialised m c) ∷
-    row 9 (bad_setup m c) ∷
-    row 10 (not_awaited m c) ∷
-    row 11 (miscounted m c) ∷
-    row 12 (too_long c) ∷
+    row Refusal.NotSound (negate (is_sound m)) ∷
+    row Refusal.NoFrame (no_frame c) ∷
+    row Refusal.Opcode (not_carried c) ∷
+    row Refusal.FrameLength (wrong_length c) ∷
+    row Refusal.Address (past_registers c) ∷
+    row Refusal.ShortOutput (short_output c) ∷
+    row Refusal.Busy (while_busy m c) ∷
+    row Refusal.SupplyOff (supply_off m c) ∷
+    row Refusal.FlashAddress (unreachable c) ∷
+    row Refusal.NotErased (unerased c) ∷
+    row Refusal.Calendar (bad_calendar m c) ∷
+    row Refusal.NotInitialised (not_initialised m c) ∷
+    row Refusal.SetUp (bad_setup m c) ∷
+    row Refusal.NotAwaited (not_awaited m c) ∷
+    row Refusal.WordCount (miscounted m c) ∷
+    row Refusal.Span (too_long c) ∷
     []
 
 -- "Checked in this order: the first whose condition holds is given, none when none holds."
 pub data Verdict : Type 0 where
   accepted : Verdict
-  refused : ℕ → Verdict
+  refused : Refusal → Verdict
 
 unfoldable pub first_of : List Row → Verdict
 first_of [] = accepted
-first_of (r ∷ rs) = pick r.holds (refused r.number) (first_of rs)
+first_of (r ∷ rs) = pick r.holds (refused r.refusal) (first_of rs)
 
 unfoldable pub verdict : Model → Call → Verdict
 verdict m c = first_of (table m c)

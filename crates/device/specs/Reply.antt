@@ -13,6 +13,8 @@ use Rattle.device.specs.Delivery.{good_flight_model, failed_flight_model, good_t
 use Rattle.device.specs.FlashFrame.{flash_model, flash_output, flash_memory}
 use Rattle.device.specs.Bus.{starts_flight, starts_temperature, run_model, read_model}
 use Rattle.device.specs.Call.{Call, opcode, words, by_sort, Verdict, verdict, transaction, tick, flight, temperature, stretch, accepted, refused}
+use Rattle.refusal.specs.declared.Refusal.{Refusal}
+use Rattle.refusal.specs.Number.{number}
 
 -- What an accepted call answers: "An accepted transaction answers the kinds that it started, none for a read, a write or
 -- another command." "A delivery's answer says good or failed; a tick's answer says for each kind whether one started and
@@ -69,19 +71,19 @@ accepted_memory (temperature w) = []
 accepted_memory (stretch n) = []
 
 -- "A refusal answers its number; model and output buffer keep every value."
-abbrev pub refuse : ℕ → Model → Reply
-refuse n m = record { answer = Refused n; model = m }
+abbrev pub refuse : Refusal → Model → Reply
+refuse r m = record { answer = Refused r; model = m }
 
 unfoldable pub reply_by : Verdict → Model → Call → Reply
 reply_by accepted m c = record { answer = accepted_answer m c; model = accepted_model m c }
-reply_by (refused n) m c = refuse n m
+reply_by (refused r) m c = refuse r m
 
 unfoldable pub reply : Model → Call → Reply
 reply m c = reply_by (verdict m c) m c
 
 -- The number of an answer in 01's terms, where it is a refusal.
 unfoldable pub number_in : Answer → List ℕ
-number_in (Refused n) = n ∷ []
+number_in (Refused r) = number r ∷ []
 number_in (Accepted f t) = []
 number_in (Ticked f t) = []
 number_in (Stretched f t) = []
@@ -96,7 +98,7 @@ flag b = pick b 1 0
 -- measurement, of a tick whether a flight one started, one failed, a temperature one started, one failed in it, of a stretch the
 -- ticks in which they did, of a delivery whether it is good.
 unfoldable pub values_in : Answer → List ℕ
-values_in (Refused n) = []
+values_in (Refused r) = []
 values_in (Accepted f t) = flag f ∷ flag t ∷ []
 values_in (Ticked f t) = flag f.started ∷ flag f.failed ∷ flag t.started ∷ flag t.failed ∷ []
 values_in (Stretched f t) = f.started.0 ∷ f.failed.0 ∷ t.started.0 ∷ t.failed.0 ∷ []
@@ -106,7 +108,7 @@ values_in Failed = 0 ∷ []
 -- The number that a verdict gives.
 unfoldable pub number_of : Verdict → List ℕ
 number_of accepted = []
-number_of (refused n) = n ∷ []
+number_of (refused r) = number r ∷ []
 
 -- What each call states of its reply `r`: its number is the table's, its values are the definitions', and so is all of it.
 pub record Replied (m : Model) (c : Call) (r : Reply) : Type 0 where
@@ -123,7 +125,7 @@ buffer_of (stretch n) = []
 
 unfoldable pub output_by : Verdict → Model → Call → List ℕ
 output_by accepted m c = accepted_output m c
-output_by (refused n) m c = buffer_of c
+output_by (refused r) m c = buffer_of c
 
 unfoldable pub output : Model → Call → List ℕ
 output m c = output_by (verdict m c) m c
@@ -137,7 +139,7 @@ memory_of (stretch n) = []
 
 unfoldable pub memory_by : Verdict → Call → List ℕ
 memory_by accepted c = accepted_memory c
-memory_by (refused n) c = memory_of c
+memory_by (refused r) c = memory_of c
 
 unfoldable pub memory : Model → Call → List ℕ
 memory m c = memory_by (verdict m c) c

@@ -3,6 +3,7 @@
 #![tactic(auto)]
 
 use calendar::Clock;
+use refusal::Refusal;
 use unit::{Quanta, Ticks};
 
 // The measurements of one kind: the one awaited, and the event.
@@ -91,8 +92,7 @@ pub struct StretchReport {
 
 #[derive(Clone, Copy)]
 pub enum Answer {
-    // The number of the refusal.
-    Refused(u32),
+    Refused(Refusal),
     // A transaction, with the kinds that it started: flight, temperature.
     Accepted(bool, bool),
     // A tick: flight, temperature.
@@ -117,11 +117,4 @@ pub struct Progress {
     pub done: Ticks,
     pub flight: StretchReport,
     pub temperature: StretchReport,
-}
-
-// The answer of a question that changes nothing.
-#[derive(Clone, Copy)]
-pub enum Told {
-    Refused(u32),
-    Value(u32),
 }

@@ -15,9 +15,5 @@ pub fn joined(high: u32, low: u32) -> u32
 pub fn signed(word: u32) -> i32
     ensures { result ≡ signed_of word }
 {
-    if word < 2147483648 {
-        word as i32
-    } else {
-        -1 - (4294967295 - word) as i32
-    }
+    word.cast_signed()
 }

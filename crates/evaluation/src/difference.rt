@@ -32,7 +32,7 @@ pub fn difference_mean(sum: Quanta, n: u32) -> u32
     if n == 0 {
         return 0;
     }
-    let mean = sum.0 / (n as u64);
+    let mean = sum.0 / u64::from(n);
     ((mean % WORDS + BIAS) % WORDS) as u32
 }
 
@@ -43,5 +43,5 @@ pub fn port_mean(sum: Quanta, n: u32) -> u32
     if n == 0 {
         return 0;
     }
-    (sum.0 / (n as u64) % WORDS) as u32
+    (sum.0 / u64::from(n) % WORDS) as u32
 }

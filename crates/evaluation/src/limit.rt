@@ -2,7 +2,7 @@
 ghost use Rattle.std.specs.Prelude.{◌≡◌};
 ghost use Rattle.hit.specs.Limit.{late_from, open_from, short_below, any_from, any_below};
 
-use unit::{Quanta, wide};
+use unit::Quanta;
 
 // The least word that is no hit, 2^31.
 const NO_HIT: u64 = 2147483648;
@@ -17,7 +17,7 @@ const SHORT: u64 = 32 * 65536;
 pub fn late_from(timeout: u32) -> Quanta
     ensures { result ≡ late_from timeout }
 {
-    let bound = setup::timeout_row(timeout) as u64 * MICROSECOND;
+    let bound = u64::from(setup::timeout_row(timeout)) * MICROSECOND;
     if NO_HIT < bound {
         return Quanta(NO_HIT);
     }
@@ -28,7 +28,7 @@ pub fn late_from(timeout: u32) -> Quanta
 pub fn open_from(cycle: u32) -> Quanta
     ensures { result ≡ open_from cycle }
 {
-    Quanta((512 * (cycle as u64 + 1) - 8) * 65536)
+    Quanta((512 * (u64::from(cycle) + 1) - 8) * 65536)
 }
 
 // The least word that is no short.
@@ -42,26 +42,12 @@ pub fn short_below() -> Quanta
 pub fn any_from(limit: Quanta, words: &[u32]) -> bool
     ensures { result ≡ any_from limit words.now }
 {
-    let mut i = 0;
-    while i < words.len() {
-        if limit.0 <= wide(words[i]) {
-            return true;
-        }
-        i += 1;
-    }
-    false
+    words.iter().any(|w| limit.0 <= u64::from(*w))
 }
 
 // Whether a word is below the limit.
 pub fn any_below(limit: Quanta, words: &[u32]) -> bool
     ensures { result ≡ any_below limit words.now }
 {
-    let mut i = 0;
-    while i < words.len() {
-        if wide(words[i]) < limit.0 {
-            return true;
-        }
-        i += 1;
-    }
-    false
+    words.iter().any(|w| u64::from(*w) < limit.0)
 }

@@ -4,7 +4,8 @@ ghost use Rattle.unit.specs.Choice.{pick};
 ghost use Rattle.hit.specs.Words.{word_or_zero, six_words, four_words, six_total, average, filled, failed_pairs, failed_ports, no_quanta, plus, plus_each, port_pair, port_pairs};
 
 use crate::limit::short_below;
-use unit::{Quanta, wide};
+use std::array::from_fn;
+use unit::Quanta;
 
 // FFFFh FFFFh, the pair of a register that failed or is open.
 const FAILED: u32 = 0xffffffff;
@@ -12,43 +13,28 @@ const FAILED: u32 = 0xffffffff;
 fn word_or_zero(words: &[u32], i: usize) -> u32
     ensures { result ≡ word_or_zero words.now i }
 {
-    if i < words.len() { words[i] } else { 0 }
+    words.get(i).copied().unwrap_or(0)
 }
 
 // The hits of a direction; places past the list hold 0.
 pub fn six_words(words: &[u32]) -> [u32; 6]
     ensures { result ≡ six_words words.now }
 {
-    let a = word_or_zero(words, 0);
-    let b = word_or_zero(words, 1);
-    let c = word_or_zero(words, 2);
-    let d = word_or_zero(words, 3);
-    let e = word_or_zero(words, 4);
-    let f = word_or_zero(words, 5);
-    [a, b, c, d, e, f]
+    from_fn(|i| word_or_zero(words, i))
 }
 
 // The ports T1 to T4.
 pub fn four_words(words: &[u32]) -> [u32; 4]
     ensures { result ≡ four_words words.now }
 {
-    let a = word_or_zero(words, 0);
-    let b = word_or_zero(words, 1);
-    let c = word_or_zero(words, 2);
-    let d = word_or_zero(words, 3);
-    [a, b, c, d]
+    from_fn(|i| word_or_zero(words, i))
 }
 
 // The sum of the hits of a direction.
 fn six_total(hits: [u32; 6]) -> Quanta
     ensures { result.0 ≡ six_total hits }
 {
-    let a = wide(hits[0]);
-    let b = wide(hits[1]);
-    let c = wide(hits[2]);
-    let d = wide(hits[3]);
-    let e = wide(hits[4]);
-    let f = wide(hits[5]);
+    let [a, b, c, d, e, f] = hits.map(u64::from);
     Quanta(a + b + c + d + e + f)
 }
 
@@ -58,7 +44,7 @@ pub fn average(hits: [u32; 6], n: u32) -> Quanta
     ensures { (result ≡ average hits n) × (result.0 < 2147483648) }
 {
     let total = six_total(hits);
-    Quanta(total.0 / (n as u64))
+    Quanta(total.0 / u64::from(n))
 }
 
 pub fn choose_pairs(test: bool, yes: [u32; 7], no: [u32; 7]) -> [u32; 7]
@@ -80,44 +66,41 @@ pub fn filled(hits: [u32; 6], mean: Quanta) -> [u32; 7]
 pub fn failed_pairs() -> [u32; 7]
     ensures { result ≡ failed_pairs }
 {
-    [FAILED, FAILED, FAILED, FAILED, FAILED, FAILED, FAILED]
+    [FAILED; 7]
 }
 
 // A port's pair: FFFFh FFFFh where the word is open, 0000h 0000h where it is short.
 pub fn port_pair(limit: Quanta, word: u32) -> u32
     ensures { result ≡ port_pair limit word }
 {
+    let quanta = u64::from(word);
     let short = short_below();
-    if limit.0 <= word as u64 {
-        return FAILED;
+    if limit.0 <= quanta {
+        FAILED
+    } else if quanta < short.0 {
+        0
+    } else {
+        word
     }
-    if (word as u64) < short.0 {
-        return 0;
-    }
-    word
 }
 
 pub fn port_pairs(limit: Quanta, w: [u32; 4]) -> [u32; 4]
     ensures { result ≡ port_pairs limit w }
 {
-    let a = port_pair(limit, w[0]);
-    let b = port_pair(limit, w[1]);
-    let c = port_pair(limit, w[2]);
-    let d = port_pair(limit, w[3]);
-    [a, b, c, d]
+    w.map(|word| port_pair(limit, word))
 }
 
 pub fn failed_ports() -> [u32; 4]
     ensures { result ≡ failed_ports }
 {
-    [FAILED, FAILED, FAILED, FAILED]
+    [FAILED; 4]
 }
 
 fn plus(sum: Quanta, word: u32) -> Quanta
     requires { sum.0 ≤ 1099511627776 }
     ensures { result ≡ plus sum word }
 {
-    Quanta(sum.0 + word as u64)
+    Quanta(sum.0 + u64::from(word))
 }
 
 // The sums of the ports, each with its word more.
@@ -125,9 +108,5 @@ pub fn plus_each(sums: [Quanta; 4], w: [u32; 4]) -> [Quanta; 4]
     requires { ((get_or sums 0 no_quanta).0 ≤ 1099511627776) × ((get_or sums 1 no_quanta).0 ≤ 1099511627776) × ((get_or sums 2 no_quanta).0 ≤ 1099511627776) × ((get_or sums 3 no_quanta).0 ≤ 1099511627776) }
     ensures { result ≡ plus_each sums w }
 {
-    let a = plus(sums[0], w[0]);
-    let b = plus(sums[1], w[1]);
-    let c = plus(sums[2], w[2]);
-    let d = plus(sums[3], w[3]);
-    [a, b, c, d]
+    from_fn(|i| plus(sums[i], w[i]))
 }

@@ -22,9 +22,8 @@ pub struct Taken {
 pub fn take_name(part: &[u8], at: usize, path: &mut [u8], length: usize) -> Taken
     ensures { NameTaken (drop at part.now) path.old length path.new result.whole (drop result.at part.now) result.length }
 {
-    let mut i = at;
     let mut n = length;
-    while i < part.len() {
+    for i in at..part.len() {
         let b = part[i];
         if ends_name(b, n) {
             return Taken {
@@ -34,28 +33,25 @@ pub fn take_name(part: &[u8], at: usize, path: &mut [u8], length: usize) -> Take
             };
         }
         n = add_byte(path, n, b);
-        i += 1;
     }
     Taken {
-        at: i,
+        at: part.len(),
         length: n,
         whole: false,
     }
 }
 
+#[tactic(auto, unfolding(crate::specs::Names::ends_name))]
 fn ends_name(b: u8, n: usize) -> bool
     ensures { result ≡ ends_name b n }
 {
-    if b == 10 {
-        return 0 < n;
-    }
-    false
+    b == b'\n' && 0 < n
 }
 
 fn add_byte(path: &mut [u8], n: usize, b: u8) -> usize
     ensures { (result ≡ cond (eqb b 10) n (held_count path.old n)) × (path.new ≡ cond (eqb b 10) path.old (held_bytes path.old n b)) }
 {
-    if b == 10 {
+    if b == b'\n' {
         return n;
     }
     hold_byte(path, n, b)

@@ -17,17 +17,17 @@ use Rattle.file_replay.specs.Files as files
 use Rattle.file_replay.specs.Files.{Turn, file_of, files_of, turn_places, places, ListTurns, Named, Gathered, Summed}
 use Rattle.file_replay.proofs.Along.{Along, along-next, along-over}
 
--- The turns that were taken, and how many are left.
-pub record SoFar (o : Options) (before now : Collection) (left : ℕ) (source : Source) (bytes path : List ℕ) : Type 0 where
+-- The turns that were taken, n of them.
+pub record SoFar (o : Options) (before now : Collection) (n : ℕ) (source : Source) (bytes path : List ℕ) : Type 0 where
   pub turns : List (Turn o.check)
   pub all : now ≡ collected (files_of turns) before
-  pub counted : length turns + left ≡ 18446744073709551615
+  pub counted : length turns ≡ n
   pub along : Along o turns source bytes path
 
 pub no-turn : (o : Options) {s : Source} {bytes path : List ℕ} → Along o [] s bytes path → {t : Tally} → t ≡ none → (l₁ l₂ l₃ l₄ l₅ : List ℕ)
-    → SoFar o (collection none l₁ l₂ l₃ l₄ l₅) (collection t l₁ l₂ l₃ l₄ l₅) 18446744073709551615 s bytes path
+    → SoFar o (collection none l₁ l₂ l₃ l₄ l₅) (collection t l₁ l₂ l₃ l₄ l₅) 0 s bytes path
 unfolding collected files_of
-no-turn o first empty l₁ l₂ l₃ l₄ l₅ = rw empty (record { turns = []; all = refl; counted = omega arith; along = first })
+no-turn o first empty l₁ l₂ l₃ l₄ l₅ = rw empty (record { turns = []; all = refl; counted = refl; along = first })
 
 files-then : {check : Bool} (ts : List (Turn check)) (t : Turn check) → files_of (ts ++ (t ∷ [])) ≡ files_of ts ++ (file_of t ∷ [])
 unfolding files_of
@@ -35,11 +35,11 @@ files-then [] t = refl
 files-then (u ∷ ts) t = ap (λ (fs : List File). file_of u ∷ fs) (files-then ts t)
 
 -- The next turn adds its file, and no other.
-pub next-turn : {o : Options} {b c c' : Collection} {left left' : ℕ} {s' : Source} {room : ℕ} {bytes bytes' path' : List ℕ} (t : Turn o.check)
-    → room ≡ 4096 → SoFar o b c left t.source bytes t.path → left ≡ left' + 1 → {name : List ℕ} → name ≡ (file_of t).name → c' ≡ after t.came name c
+pub next-turn : {o : Options} {b c c' : Collection} {n : ℕ} {s' : Source} {room : ℕ} {bytes bytes' path' : List ℕ} (t : Turn o.check)
+    → room ≡ 4096 → SoFar o b c n t.source bytes t.path → {name : List ℕ} → name ≡ (file_of t).name → c' ≡ after t.came name c
     → (t.source.listed ≡ false → NextArgument t.source.next t.source.left s')
-    → (t.source.listed ≡ true → FromList room t.source.next t.source.left [] bytes s' bytes' path') → SoFar o b c' left' s' bytes' path'
-next-turn {o} {b} {c} {c'} {left} {left'} {s'} t long s one {name} same e none more =
+    → (t.source.listed ≡ true → FromList room t.source.next t.source.left [] bytes s' bytes' path') → SoFar o b c' (n + 1) s' bytes' path'
+next-turn {o} {b} {c} {c'} {n} {s'} t long s {name} same e none more =
     record {
       turns = s.turns ++ (t ∷ []);
       all = rw files-then (rw (one_more_lem (files_of s.turns) (file_of t) b, ← s.all, ← same) e);
@@ -47,8 +47,8 @@ next-turn {o} {b} {c} {c'} {left} {left'} {s'} t long s one {name} same e none m
       along = along-next t s.along none (λ h. rw long at (more h));
     }
 
-pub whole_run : {o : Options} {b c : Collection} {left : ℕ} {source : Source} {bytes path : List ℕ} → SoFar o b c left source bytes path
-    → (0 < left → is_there source ≡ false) → Gathered o b c
+pub whole_run : {o : Options} {b c : Collection} {n : ℕ} {source : Source} {bytes path : List ℕ} → SoFar o b c n source bytes path
+    → (n < 18446744073709551615 → is_there source ≡ false) → Gathered o b c
 whole_run s end =
     record {
       turns = s.turns;

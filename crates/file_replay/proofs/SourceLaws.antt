@@ -1,12 +1,10 @@
 -- Names that are sought in a list, step by step. Assumes nothing.
-use Prim.Native.Nat.{ℕ, zero, suc, ◌+◌, ◌-◌, ◌<◌, min}
-use mathlib.Core.Bool.{true, false, cond}
+use Prim.Native.Nat.{ℕ, zero, suc, min}
+use mathlib.Core.Bool.{true, false}
 use mathlib.Core.List.{List, [], ◌∷◌, ◌++◌}
 use mathlib.Core.Path.{◌≡◌, refl, ◌∙◌}
 use native.Mathlib.Omega.{arith}
-use lib.Dec.{eqb}
 use lib.ListN.{length, take, drop}
-use borrow.Author.Tests.{eq-eqb, ne_eqb}
 use Rattle.std.specs.Prelude.{Result, Ok, Err}
 use Rattle.unit.proofs.Cases.{by_eqb}
 use Rattle.line_buffer.specs.Lines.{has_line}
@@ -131,14 +129,6 @@ pub seek-over : {room next left : ℕ} {start bytes : List ℕ} {it : Source} {n
     → ¬ (it.state ≡ 0) → FromList room next left start bytes it now path
 seek-over (over f) other = f
 seek-over (on s pieces start' p b) other = absurd (other s.is)
-
--- Reads are counted down, and where none is left nothing is sought any more.
-pub fewer : (reads state state' : ℕ) → state ≡ 0 → (reads ≡ 0 → ¬ (state' ≡ 0))
-    → (reads - 1) + cond (eqb state' 0) 1 0 < reads + cond (eqb state 0) 1 0
-fewer reads state state' z done =
-    rw (eq-eqb state 0 z)
-    (by_eqb state' 0 (λ e t. rw (eq-eqb state' 0 e) (by_eqb reads 0 (λ n u. absurd (done n e)) (λ n u. omega (arith, n))))
-    (λ other t. rw (ne_eqb state' 0 other) (omega arith)))
 
 -- ---- before the first name
 

@@ -159,11 +159,12 @@ fn seek<R: System>(
 ) -> Source
     ensures { FromList (length path.old) s.next s.left [] (unused s part.old) result (unused result part.new) path.new }
 {
-    let mut reads = u64::MAX;
     let mut it = in_list(s, s.at, s.end, SEEKING, 0);
-    while is_seeking(it) {
+    for reads in (0..=u64::MAX).rev() {
         it = step(rt, it, reads, list, part, path);
-        reads = one_less(reads);
+        if !is_seeking(it) {
+            break;
+        }
     }
     it
 }
@@ -172,12 +173,6 @@ fn is_seeking(s: Source) -> bool
     ensures { result ≡ eqb s.state 0 }
 {
     s.state == SEEKING
-}
-
-fn one_less(reads: u64) -> u64
-    ensures { result ≡ reads - 1 }
-{
-    if reads == 0 { 0 } else { reads - 1 }
 }
 
 // The source with its list at other bytes.
@@ -271,23 +266,14 @@ fn list_ended<R: System>(rt: &R, s: Source, length: usize, path: &mut [u8]) -> S
     past_list(s, FOUND, length)
 }
 
-// Puts an argument into the buffer. One that is too long fills it with its first bytes, and can't be
-// opened.
-fn argument_length<R: System>(rt: &R, i: usize, path: &mut [u8]) -> usize {
-    match put_argument(rt, i, path) {
-        Ok(length) => length,
-        Err(_) => path.len(),
-    }
-}
-
-// The next argument.
+// The next argument. One that is too long fills the buffer with its first bytes, and can't be opened.
 fn argument<R: System>(rt: &R, s: Source, path: &mut [u8]) -> Source
     ensures { NextArgument s.next s.left result }
 {
     if s.left == 0 {
         return past_list(s, ENDED, 0);
     }
-    let length = argument_length(rt, s.next, path);
+    let length = put_argument(rt, s.next, path).unwrap_or(path.len());
     Source {
         listed: false,
         list: s.list,

@@ -56,8 +56,7 @@ fn replay_each<R: System>(
 
 // Replays file after file, and hands on what each came to.
 //
-// Nothing says that a list of names ends, so the loop counts its turns down, from a number that no
-// run uses up.
+// Nothing says that a list of names ends, so the turns are counted, to a number that no run comes to.
 fn gather<R: System>(
     rt: &R,
     o: Options,
@@ -75,9 +74,10 @@ fn gather<R: System>(
     let mut tally = tally::empty();
     let mut shown = progress::begin(rt, o.total);
     let mut source = names::first(rt, o, &mut list, &mut part, &mut path);
-    let mut turns = u64::MAX;
-    while turns > 0 && names::is_there(source) {
-        turns -= 1;
+    for _ in 0..u64::MAX {
+        if !names::is_there(source) {
+            break;
+        }
         let outcome = replay_named(rt, source, &list, &path, o.check);
         tally = tally::add(
             tally,

@@ -1,87 +1,39 @@
 // What a question or an analysis returns to a caller of the library: a number for its answer, and its words in a lent buffer.
 #![tactic(auto)]
 
-ghost use Rattle.std.specs.Prelude.{◌≡◌, ◌+◌, ◌≤◌, drop, length, set, take};
+ghost use Rattle.std.specs.Prelude.{◌≡◌, ◌+◌, ◌≤◌, drop, length, take};
 ghost use Rattle.layout.specs.Code.{Gives, filled};
-ghost use Rattle.device.specs.Question.{number_told, value_told};
-ghost use Rattle.thermometer.specs.Degrees.{number_read, value_read};
-ghost use Rattle.quietest.specs.Quietest.{number_found, value_found};
-ghost use Rattle.listing.specs.Listing.{number_listed, value_listed};
-ghost use Rattle.setup_frames.specs.Frames.{number_framed, values_framed};
+ghost use Rattle.refusal.specs.Number.{number_told, value_told};
+ghost use Rattle.setup_frames.specs.Frames.{values_framed};
 
-use device::Told;
-use listing::Listed;
 use outcome::{ACCEPTED, put};
-use quietest::Place;
-use setup_frames::Framed;
-use thermometer::InDegrees;
+use refusal::Refusal;
+use setup_frames::Counts;
 
-fn put_size(sizes: &mut [usize], i: usize, n: usize)
-    ensures { sizes.new ≡ set sizes.old i n }
+// An answer of one word, size or place.
+pub fn told<T: Copy>(answer: Result<T, Refusal>, words: &mut [T]) -> u32
+    ensures { Gives number_told value_told answer words.old result words.new }
 {
-    if i < sizes.len() {
-        sizes[i] = n;
+    match answer {
+        Ok(word) => {
+            put(words, 0, word);
+            ACCEPTED
+        }
+        Err(refusal) => refusal.number(),
     }
 }
 
-pub fn told(t: Told, words: &mut [u32]) -> u32
-    ensures { Gives number_told value_told t words.old result words.new }
+// The counts of set-up frames.
+pub fn framed(answer: Result<Counts, Refusal>, sizes: &mut [usize]) -> u32
+    ensures { Gives number_told values_framed answer sizes.old result sizes.new }
 {
-    match t {
-        Told::Refused(number) => number,
-        Told::Value(v) => {
-            put(words, 0, v);
+    match answer {
+        Ok(counts) => {
+            put(sizes, 0, counts.bytes);
+            put(sizes, 1, counts.frames);
             ACCEPTED
         }
-    }
-}
-
-pub fn reading(t: InDegrees, words: &mut [u32]) -> u32
-    ensures { Gives number_read value_read t words.old result words.new }
-{
-    match t {
-        InDegrees::Refused(number) => number,
-        InDegrees::Thousandths(v) => {
-            put(words, 0, v);
-            ACCEPTED
-        }
-    }
-}
-
-pub fn place(p: Place, sizes: &mut [usize]) -> u32
-    ensures { Gives number_found value_found p sizes.old result sizes.new }
-{
-    match p {
-        Place::Refused(number) => number,
-        Place::At(i) => {
-            put_size(sizes, 0, i);
-            ACCEPTED
-        }
-    }
-}
-
-pub fn listed(l: Listed, sizes: &mut [usize]) -> u32
-    ensures { Gives number_listed value_listed l sizes.old result sizes.new }
-{
-    match l {
-        Listed::Refused(number) => number,
-        Listed::Written(n) => {
-            put_size(sizes, 0, n);
-            ACCEPTED
-        }
-    }
-}
-
-pub fn framed(f: Framed, sizes: &mut [usize]) -> u32
-    ensures { Gives number_framed values_framed f sizes.old result sizes.new }
-{
-    match f {
-        Framed::Refused(number) => number,
-        Framed::Frames(bytes, frames) => {
-            put_size(sizes, 0, bytes);
-            put_size(sizes, 1, frames);
-            ACCEPTED
-        }
+        Err(refusal) => refusal.number(),
     }
 }
 
@@ -90,13 +42,6 @@ pub fn copy_run(values: &[i32], start: usize, width: usize, run: &mut [i32])
     requires { start + width ≤ length values.now }
     ensures { run.new ≡ filled run.old (take width (drop start values.now)) }
 {
-    let mut i = 0;
-    while i < width {
-        if run.len() <= i {
-            return;
-        }
-        let v = values[start + i];
-        run[i] = v;
-        i += 1;
-    }
+    let n = width.min(run.len());
+    run[..n].copy_from_slice(&values[start..start + n]);
 }

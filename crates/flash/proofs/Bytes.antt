@@ -2,10 +2,10 @@
 use Prim.Native.Nat.{ℕ, zero, suc, ◌+◌, ◌*◌, ◌/◌, ◌%◌, ◌≤◌, ◌<◌}
 use native.Mathlib.Nat.{suc-add}
 use native.Mathlib.Omega.{arith}
-use mathlib.Core.Path.{◌≡◌, refl, ap, ◌∙◌}
+use mathlib.Core.Path.{◌≡◌, refl, sym, ap, ◌∙◌}
 use mathlib.Core.Logic.{◌⊎◌, inl, inr, ⊎_elim}
 use mathlib.Core.List.{List, [], ◌∷◌, ◌++◌}
-use lib.ListN.{length, get_or, take, drop, set, length-set}
+use lib.ListN.{length, get_or, take, drop, set, replicate, length-set}
 use lib.Seq.{get_or-set_same, get_or-set_other}
 use Rattle.unit.proofs.Cases.{by-ltb, by_eqb}
 use Rattle.flash.specs.Flash.{block_size, flash_word, flash_written, erased_from, flash_erased, first_word}
@@ -86,6 +86,44 @@ erased-from-set mem start (suc n) i room from to =
     (λ e t. rw e (get_or-set_same (erased_from mem start n) (start + n) 0xFF 0 (rw length-erased-from (omega arith))))
     (λ e t. get_or-set_other (erased_from mem start n) (start + n) i 0xFF 0 e
     ∙ erased-from-set mem start n i (omega arith) from (omega arith))
+
+-- A part of the memory that is filled with FFh, n bytes from `start` on, is erased from there: by the first byte, and by those before it.
+erased-first : (x : ℕ) (mem : List ℕ) (n : ℕ) → erased_from (x ∷ mem) 0 (suc n) ≡ 0xFF ∷ erased_from mem 0 n
+unfolding erased_from
+erased-first x mem zero = refl
+erased-first x mem (suc n) =
+    let next : 0 + suc n ≡ suc (0 + n) = omega arith in
+    ap (λ (l : List ℕ). set l (0 + suc n) 0xFF) (erased-first x mem n)
+    ∙ ap (λ (k : ℕ). set (0xFF ∷ erased_from mem 0 n) k 0xFF) next
+
+erased-later : (x : ℕ) (mem : List ℕ) (start n : ℕ) → erased_from (x ∷ mem) (suc start) n ≡ x ∷ erased_from mem start n
+unfolding erased_from
+erased-later x mem start zero = refl
+erased-later x mem start (suc n) =
+    let next : suc start + n ≡ suc (start + n) = omega arith in
+    ap (λ (l : List ℕ). set l (suc start + n) 0xFF) (erased-later x mem start n)
+    ∙ ap (λ (k : ℕ). set (x ∷ erased_from mem start n) k 0xFF) next
+
+part-filled :
+    (mem : List ℕ) (start n : ℕ) →
+    start + n ≤ length mem →
+    take start mem ++ (replicate n 0xFF ++ drop n (drop start mem)) ≡ erased_from mem start n
+unfolding erased_from
+part-filled mem zero zero h = refl
+part-filled [] zero (suc n) h = absurd (omega arith)
+part-filled (x ∷ mem) zero (suc n) h =
+    ap (λ (l : List ℕ). 0xFF ∷ l) (part-filled mem zero n (omega arith)) ∙ sym (erased-first x mem n)
+part-filled [] (suc start) zero h = absurd (omega arith)
+part-filled [] (suc start) (suc n) h = absurd (omega arith)
+part-filled (x ∷ mem) (suc start) n h =
+    ap (λ (l : List ℕ). x ∷ l) (part-filled mem start n (omega arith)) ∙ sym (erased-later x mem start n)
+
+pub part-erased :
+    (mem : List ℕ) (a : ℕ) →
+    a / 256 * 256 + 256 ≤ length mem →
+    take (a / 256 * 256) mem ++ (replicate 256 0xFF ++ drop 256 (drop (a / 256 * 256) mem)) ≡ flash_erased mem a
+unfolding flash_erased
+part-erased mem a h = part-filled mem (a / block_size * block_size) block_size h
 
 pub length-erased : (mem : List ℕ) (a : ℕ) → length (flash_erased mem a) ≡ length mem
 unfolding flash_erased

@@ -4,18 +4,12 @@
 ghost use Rattle.std.specs.Prelude.{◌≡◌, ◌+◌, ◌<◌, ◌≤◌, length};
 ghost use Rattle.flash.specs.Flash.{flash_word, flash_written, flash_erased, first_word, address_refused, erase_refused, not_erased};
 
-fn byte(x: u8) -> u32
-    ensures { (result ≡ x) × (result < 256) }
-{
-    x as u32
-}
-
 // The word at an address.
 pub fn read_word(mem: &[u8], a: usize) -> u32
     requires { a + 1 < length mem.now }
     ensures { (result ≡ flash_word mem.now a) × (result < 65536) }
 {
-    byte(mem[a]) * 256 + byte(mem[a + 1])
+    u32::from(u16::from_be_bytes([mem[a], mem[a + 1]]))
 }
 
 // Fills the first two bytes with a word.
@@ -23,8 +17,9 @@ pub fn put_word(out: &mut [u8], w: u32)
     requires { 2 ≤ length out.old }
     ensures { out.new ≡ first_word out.old w }
 {
-    out[0] = (w / 256 % 256) as u8;
-    out[1] = (w % 256) as u8;
+    let [_, _, high, low] = w.to_be_bytes();
+    out[0] = high;
+    out[1] = low;
 }
 
 // Puts a word at an address.
@@ -41,34 +36,21 @@ pub fn erase_block(mem: &mut [u8], a: usize)
     ensures { mem.new ≡ flash_erased mem.old a }
 {
     let start = a / 256 * 256;
-    let mut i: usize = 0;
-    while i < 256 {
-        mem[start + i] = 0xff;
-        i += 1;
-    }
+    mem[start..start + 256].fill(0xff);
 }
 
 // Number 16 for a read or a write, given the memory's length.
 pub fn address_refused(size: usize, a: u32) -> bool
     ensures { result ≡ address_refused size a }
 {
-    if size == 8192 {
-        if a % 2 == 1 {
-            return true;
-        }
-        return 0x1fff < a;
-    }
-    true
+    size != 8192 || a % 2 == 1 || 0x1fff < a
 }
 
 // Number 16 for an erase.
 pub fn erase_refused(size: usize, a: u32) -> bool
     ensures { result ≡ erase_refused size a }
 {
-    if size == 8192 {
-        return 0x1fff < a;
-    }
-    true
+    size != 8192 || 0x1fff < a
 }
 
 // Number 17, at an address that number 16 does not refuse.
@@ -76,9 +58,5 @@ pub fn not_erased(mem: &[u8], a: usize) -> bool
     requires { a + 1 < length mem.now }
     ensures { result ≡ not_erased mem.now a }
 {
-    if read_word(mem, a) == 0xffff {
-        false
-    } else {
-        true
-    }
+    read_word(mem, a) != 0xffff
 }

@@ -1,7 +1,6 @@
 -- Forms that are filled in, in plain words and numbers. Assumes nothing.
 use Prim.Native.Nat.{ℕ}
 use Prim.Native.String.{String}
-use mathlib.Core.Bool.{true}
 use mathlib.Core.List.{List, [], ◌∷◌}
 use mathlib.Core.Path.{◌≡◌, refl}
 use Rattle.numeral.specs.Ascii.{ascii}

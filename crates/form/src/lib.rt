@@ -20,8 +20,8 @@ mod piece;
 ghost use Rattle.form.specs.Form.{PutForm};
 
 pub use pair::pair_of;
-pub use piece::value;
 use piece::{byte, put_piece, takes};
+pub use piece::{put_where, value};
 
 pub fn put_form(buf: &mut [u8], at: usize, form: &[u8], values: &[u32]) -> usize
     ensures { PutForm buf.old at form.now values.now result buf.new }
@@ -29,9 +29,8 @@ pub fn put_form(buf: &mut [u8], at: usize, form: &[u8], values: &[u32]) -> usize
     let mut place = at;
     let mut start = 0;
     let mut next = 0;
-    let mut i = 0;
-    while i < form.len() {
-        if form[i] == b'|' {
+    for (i, c) in form.iter().enumerate() {
+        if *c == b'|' {
             let piece = &form[start..i];
             place = put_piece(
                 buf,
@@ -43,7 +42,6 @@ pub fn put_form(buf: &mut [u8], at: usize, form: &[u8], values: &[u32]) -> usize
             next += takes(byte(piece, 0));
             start = i + 1;
         }
-        i += 1;
     }
     place
 }

@@ -4,15 +4,13 @@ use Prim.Native.String.{String}
 use mathlib.Core.Bool.{true, false}
 use mathlib.Core.List.{List, [], ◌∷◌}
 use mathlib.Core.Path.{◌≡◌, refl}
-use lib.IntN.{ℤ, pos, negsuc}
+use lib.IntN.{pos, negsuc}
 use Rattle.numeral.specs.Digit.{digits, glyph}
 use Rattle.numeral.specs.Place.{joined, overwrite, next_place, written, put_each}
 use Rattle.numeral.specs.Print.{width_from, decimal_width, decimal, signed_decimal, thousandths, ten_thousandths, four_decimals, nanoseconds}
 use Rattle.device.specs.declared.Model.{Model}
-use Rattle.thermometer.specs.declared.InDegrees.TheVariants.{Thousandths, Refused}
 use Rattle.thermometer.specs.Degrees.{degrees, degrees_by}
 use Rattle.difference.specs.Difference.{joined_word, signed_of}
-use Rattle.listing.specs.declared.Listed.{Listed}
 use Rattle.listing.specs.declared.Width.{Width}
 use Rattle.listing.specs.Listing.{sign, right_justified, line, line_length, lines, last_above, listing}
 use Rattle.quietest.specs.Quietest.{larger, smaller, extreme, spread, quieter, quietest_place, run_spread}
@@ -22,6 +20,9 @@ use Rattle.item_state.specs.Log.{Log, added, said, call_counted, counted, called
 use Rattle.item_state.specs.Told.{read_word}
 use Rattle.item_analysis.specs.Kept.{Kept, kept_one, kept_each}
 use Rattle.item_analysis.specs.Lines.{probe_line, degrees_of, degrees_told, degrees_line, record_line, tof_diff, record_words, width_of, listed_at, listing_told, listing_line, quietest_told, quietest_line}
+use Rattle.refusal.specs.declared.Refusal.{Refusal}
+use Rattle.refusal.specs.Number.{number}
+use Rattle.std.specs.Prelude.{Ok, Err}
 
 abbrev kept : List ℕ → ℕ → Kept ℕ
 kept values used = record { values = values; used = used }
@@ -59,8 +60,8 @@ unfolding probe_line kept_each kept_one said probe Wording·counted put_each wri
 a-probe = refl
 
 -- A temperature, and one that is off the table: each is a call, and the second is refused.
-degrees-told : (degrees_told (Thousandths 21500) (log 2 8 3 6 1 "ab................") ≡ log 17 9 3 6 1 "abdegrees 21.500\n.")
-    × (degrees_told (Refused 13) (log 2 8 3 6 1 "ab............................") ≡ log 30 9 4 6 1 "abdegrees no 13 off the table\n")
+degrees-told : (degrees_told (Ok 21500) (log 2 8 3 6 1 "ab................") ≡ log 17 9 3 6 1 "abdegrees 21.500\n.")
+    × (degrees_told (Err Refusal.OffTable) (log 2 8 3 6 1 "ab............................") ≡ log 30 9 4 6 1 "abdegrees no 13 off the table\n")
 unfolding degrees_told called counted call_counted added degrees_texts refused refusal refusal_word refusal_words put_each written next_place overwrite thousandths decimal decimal_width width_from digits glyph ascii
 degrees-told = (refl, refl)
 
@@ -87,15 +88,15 @@ unfolding width_of
 widths = (refl, refl)
 
 -- A buffer of two bytes has the place 2, behind its last byte, and no place 3.
-places : (listed_at 2 [] 0 (97 ∷ 98 ∷ []) 2 ≡ record { answer = Listed.Written 0; bytes = 97 ∷ 98 ∷ [] })
-    × (listed_at 2 [] 0 (97 ∷ 98 ∷ []) 3 ≡ record { answer = Listed.Refused 21; bytes = 97 ∷ 98 ∷ [] })
+places : (listed_at 2 [] 0 (97 ∷ 98 ∷ []) 2 ≡ record { answer = Ok 0; bytes = 97 ∷ 98 ∷ [] })
+    × (listed_at 2 [] 0 (97 ∷ 98 ∷ []) 3 ≡ record { answer = Err Refusal.ShortListing; bytes = 97 ∷ 98 ∷ [] })
 unfolding listed_at listing last_above line_length lines
 places = (refl, refl)
 
 -- 34 bytes that were written from the place 12 on, no more than the largest number, and a refusal, which is counted
-listing-told : (listing_told (Listed.Written 34) 12 (log 2 8 3 6 1 "ab") ≡ log 46 9 3 6 1 "ab")
-    × (listing_told (Listed.Written 1) 18446744073709551615 (log 2 8 3 6 1 "ab") ≡ log 18446744073709551615 9 3 6 1 "ab")
-    × (listing_told (Listed.Refused 20) 12 (log 2 8 3 6 1 "ab..............................") ≡ log 31 9 4 6 1 "ablisting no 20 capture number\n.")
+listing-told : (listing_told (Ok 34) 12 (log 2 8 3 6 1 "ab") ≡ log 46 9 3 6 1 "ab")
+    × (listing_told (Ok 1) 18446744073709551615 (log 2 8 3 6 1 "ab") ≡ log 18446744073709551615 9 3 6 1 "ab")
+    × (listing_told (Err Refusal.LastCapture) 12 (log 2 8 3 6 1 "ab..............................") ≡ log 31 9 4 6 1 "ablisting no 20 capture number\n.")
 unfolding listing_told called counted call_counted added refused refusal refusal_word refusal_words put_each written next_place overwrite decimal decimal_width width_from digits glyph ascii
 listing-told = (refl, refl, refl)
 

@@ -2,20 +2,19 @@
 -- of docs/ITEMS.md. Assumes nothing.
 use Rattle.std.specs.Prelude.{ℕ, ◌+◌, min, Bool, cond, List, [], ◌∷◌, ◌++◌, eqb, ltb, leb, ℤ, length, get_or, set, take, drop, map}
 use Rattle.device.specs.declared.Model.{Model}
-use Rattle.thermometer.specs.declared.InDegrees.{InDegrees}
-use Rattle.thermometer.specs.declared.InDegrees.TheVariants.{Thousandths, Refused}
 use Rattle.thermometer.specs.Degrees.{degrees as degrees_pt1000, degrees_by}
 use Rattle.difference.specs.Difference.{joined_word, signed_of}
-use Rattle.listing.specs.declared.Listed.{Listed}
 use Rattle.listing.specs.declared.Width.{Width}
 use Rattle.listing.specs.Listing.{capture_digits, Outcome, listing}
-use Rattle.quietest.specs.declared.Place.{Place}
 use Rattle.quietest.specs.Quietest.{quietest_place, run_spread}
 use Rattle.line.specs.declared.Content.{Content}
 use Rattle.wording.specs.Wording.{probe, degrees, degrees_refused, record_texts, listing_head, listing_refused, quietest, quietest_refused}
 use Rattle.item_state.specs.Log.{Log, put, said, counted, called}
 use Rattle.item_state.specs.Told.{read_word}
-use Rattle.item_analysis.specs.Kept.{Kept, kept_each}
+use Rattle.item_analysis.specs.Kept.{kept_each}
+use Rattle.refusal.specs.declared.Refusal.{Refusal}
+use Rattle.refusal.specs.Number.{number}
+use Rattle.std.specs.Prelude.{Result, Ok, Err}
 
 -- ---- `probe`
 
@@ -35,13 +34,13 @@ probe_line entries s =
 -- ---- `degrees`
 
 -- "by the item's table or, where it has none, by PT1000's for 0 to 180 degrees"
-unfoldable pub degrees_of : List ℕ → ℕ → ℕ → InDegrees
+unfoldable pub degrees_of : List ℕ → ℕ → ℕ → Result ℕ Refusal
 degrees_of table a b = cond (eqb (length table) 0) (degrees_pt1000 a b) (degrees_by table a b)
 
 -- "`degrees D.DDD`, `degrees no 13 off the table` or `degrees no 14 bad table`"
-unfoldable pub degrees_told : InDegrees → Log → Log
-degrees_told (Thousandths n) l = called 0 (degrees n) l
-degrees_told (Refused number) l = called 1 (degrees_refused number) l
+unfoldable pub degrees_told : Result ℕ Refusal → Log → Log
+degrees_told (Ok n) l = called 0 (degrees n) l
+degrees_told (Err r) l = called 1 (degrees_refused (number r)) l
 
 -- "the temperature of a probe's word A and its 1,000 Ω reference's word B", the line's two numbers
 unfoldable pub degrees_line : List ℕ → List ℕ → Log → Log
@@ -82,11 +81,11 @@ unfoldable pub listed_at : ℕ → List ℤ → ℕ → List ℕ → ℕ → Out
 listed_at d values first l at =
     cond (leb at (length l))
     (let o = listing d values first (drop at l) in record { answer = o.answer; bytes = take at l ++ o.bytes })
-    record { answer = Listed.Refused 21; bytes = l }
+    record { answer = Err Refusal.ShortListing; bytes = l }
 
-unfoldable pub listing_told : Listed → ℕ → Log → Log
-listing_told (Listed.Written n) at l = record { counts = counted l.counts 0 (min (at + n) 18446744073709551615); answers = l.answers }
-listing_told (Listed.Refused number) at l = called 1 (listing_refused number) l
+unfoldable pub listing_told : Result ℕ Refusal → ℕ → Log → Log
+listing_told (Ok n) at l = record { counts = counted l.counts 0 (min (at + n) 18446744073709551615); answers = l.answers }
+listing_told (Err r) at l = called 1 (listing_refused (number r)) l
 
 -- "`listing K`, then the K lines, or `listing no 20 capture number`": the lines stand behind their head; a refusal takes its place
 unfoldable pub listing_line : Bool → ℕ → List ℤ → Log → Log
@@ -99,9 +98,9 @@ listing_line old first kept l =
 -- ---- `quietest`
 
 -- "`quietest START SPREAD`, START from 0, SPREAD the largest less the smallest; or `quietest no 18 width`"
-unfoldable pub quietest_told : Place → List ℤ → ℕ → Log → Log
-quietest_told (Place.At start) values width l = called 0 (quietest start (run_spread (take width (drop start values)))) l
-quietest_told (Place.Refused number) values width l = called 1 (quietest_refused number) l
+unfoldable pub quietest_told : Result ℕ Refusal → List ℤ → ℕ → Log → Log
+quietest_told (Ok start) values width l = called 0 (quietest start (run_spread (take width (drop start values)))) l
+quietest_told (Err r) values width l = called 1 (quietest_refused (number r)) l
 
 -- "the run of W neighbours in the record that differ least, the earliest of equals"
 unfoldable pub quietest_line : ℕ → List ℤ → Log → Log

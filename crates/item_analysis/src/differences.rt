@@ -1,9 +1,10 @@
 // The record of differences.
 ghost use Rattle.std.specs.Prelude.{map, ◌≡◌};
 ghost use Rattle.difference.specs.Difference.{signed_of};
-ghost use Rattle.item_analysis.specs.Kept.{kept_one, kept_each};
+ghost use Rattle.item_analysis.specs.Kept.{kept_each};
 ghost use Rattle.item_analysis.specs.Lines.{record_line, tof_diff, record_words};
 
+use crate::kept::put;
 use device::Model;
 use item_state::counts::{RECORD, USED};
 use item_state::output::first_words;
@@ -21,8 +22,7 @@ pub fn record(
     ensures { record { differences = kept.new; log = record { counts = counts.exit.now; answers = answers.new } } ≡ record_line (record_words m numbers.now n) record { differences = kept.old; log = record { counts = counts.entry.now; answers = answers.old } } }
 {
     if n == 0 {
-        let one = [tof_diff(m)];
-        add_words(&one, kept, counts, answers);
+        add_words(&[tof_diff(m)], kept, counts, answers);
     } else {
         add_words(first_words(numbers, n), kept, counts, answers);
     }
@@ -50,21 +50,8 @@ fn store(words: &[u32], kept: &mut [i32], n: usize) -> usize
     ensures { record { values = kept.new; used = result } ≡ kept_each (map signed_of words.now) record { values = kept.old; used = n } }
 {
     let mut end = n;
-    let mut i = 0;
-    while i < words.len() {
-        end = put(kept, end, difference::signed(words[i]));
-        i += 1;
+    for word in words {
+        end = put(kept, end, difference::signed(*word));
     }
     end
-}
-
-fn put(kept: &mut [i32], at: usize, difference: i32) -> usize
-    ensures { record { values = kept.new; used = result } ≡ kept_one difference record { values = kept.old; used = at } }
-{
-    if at < kept.len() {
-        kept[at] = difference;
-        at + 1
-    } else {
-        at
-    }
 }

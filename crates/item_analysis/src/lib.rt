@@ -2,6 +2,7 @@
 #![tactic(auto)]
 
 mod differences;
+mod kept;
 mod questions;
 mod table;
 

@@ -5,8 +5,8 @@ ghost use Rattle.quietest.specs.Quietest.{quietest_place};
 ghost use Rattle.item_analysis.specs.Lines.{width_of, listed_at, listing_told, listing_line, quietest_told, quietest_line};
 
 use item_state::counts::{RECORD, USED, count, more};
-use listing::{Listed, Width};
-use quietest::Place;
+use listing::Width;
+use refusal::Refusal;
 
 // The first n differences; all where there are fewer.
 fn first_of(kept: &[i32], n: usize) -> &[i32]
@@ -24,26 +24,37 @@ pub fn listing(old: bool, first: u32, kept: &[i32], counts: &mut [usize; 22], an
     tell_listed(listed, at, counts, answers);
 }
 
-fn tell_listed(listed: Listed, at: usize, counts: &mut [usize; 22], answers: &mut [u8])
+fn tell_listed(
+    listed: Result<usize, Refusal>,
+    at: usize,
+    counts: &mut [usize; 22],
+    answers: &mut [u8],
+)
     ensures { record { counts = counts.exit.now; answers = answers.new } ≡ listing_told listed at record { counts = counts.entry.now; answers = answers.old } }
 {
     match listed {
-        Listed::Written(n) => count(counts, 0, more(at, n)),
-        Listed::Refused(number) => {
-            let used = phrase::heads::put_listing_refused(answers, counts[USED], number);
+        Ok(n) => count(counts, 0, more(at, n)),
+        Err(refusal) => {
+            let used = phrase::heads::put_listing_refused(answers, counts[USED], refusal.number());
             count(counts, 1, used);
         }
     }
 }
 
 // The lines, put into the places from `at` on.
-fn lines(old: bool, first: u32, kept: &[i32], answers: &mut [u8], at: usize) -> Listed
+fn lines(
+    old: bool,
+    first: u32,
+    kept: &[i32],
+    answers: &mut [u8],
+    at: usize,
+) -> Result<usize, Refusal>
     ensures { record { answer = result; bytes = answers.new } ≡ listed_at (capture_digits (width_of old)) kept.now first answers.old at }
 {
     if at <= answers.len() {
         return listing::write_listing_as(width_of(old), kept, first, &mut answers[at..]);
     }
-    Listed::Refused(21)
+    Err(Refusal::ShortListing)
 }
 
 fn width_of(old: bool) -> Width
@@ -61,7 +72,7 @@ pub fn quietest(width: usize, kept: &[i32], counts: &mut [usize; 22], answers: &
 }
 
 fn tell_quietest(
-    place: Place,
+    place: Result<usize, Refusal>,
     values: &[i32],
     width: usize,
     counts: &mut [usize; 22],
@@ -71,14 +82,14 @@ fn tell_quietest(
     ensures { record { counts = counts.exit.now; answers = answers.new } ≡ quietest_told place values.now width record { counts = counts.entry.now; answers = answers.old } }
 {
     match place {
-        Place::At(start) => {
+        Ok(start) => {
             let mut number = 0u32;
             let spread = quietest::run_spread(quietest::quietest(values, width, &mut number));
             let used = phrase::kept::put_quietest(answers, counts[USED], start as u64, spread);
             count(counts, 0, used);
         }
-        Place::Refused(number) => {
-            let used = phrase::heads::put_quietest_refused(answers, counts[USED], number);
+        Err(refusal) => {
+            let used = phrase::heads::put_quietest_refused(answers, counts[USED], refusal.number());
             count(counts, 1, used);
         }
     }

@@ -1,11 +1,12 @@
 // The probe table.
 ghost use Rattle.std.specs.Prelude.{◌≡◌, take};
-ghost use Rattle.item_analysis.specs.Kept.{kept_one, kept_each};
+ghost use Rattle.item_analysis.specs.Kept.{kept_each};
 ghost use Rattle.item_analysis.specs.Lines.{probe_line, degrees_of, degrees_told, degrees_line};
 
+use crate::kept::put;
 use item_state::counts::{PROBES, USED, count};
 use item_state::output::first_words;
-use thermometer::InDegrees;
+use refusal::Refusal;
 
 // The line `probe`: the first n numbers.
 pub fn probe(
@@ -27,23 +28,10 @@ fn add(entries: &[u32], probes: &mut [u32], n: usize) -> usize
     ensures { record { values = probes.new; used = result } ≡ kept_each entries.now record { values = probes.old; used = n } }
 {
     let mut end = n;
-    let mut i = 0;
-    while i < entries.len() {
-        end = put(probes, end, entries[i]);
-        i += 1;
+    for entry in entries {
+        end = put(probes, end, *entry);
     }
     end
-}
-
-fn put(probes: &mut [u32], at: usize, entry: u32) -> usize
-    ensures { record { values = probes.new; used = result } ≡ kept_one entry record { values = probes.old; used = at } }
-{
-    if at < probes.len() {
-        probes[at] = entry;
-        at + 1
-    } else {
-        at
-    }
 }
 
 // The line `degrees`.
@@ -58,26 +46,27 @@ pub fn degrees(words: &[u32], probes: &[u32], counts: &mut [usize; 22], answers:
 }
 
 // By the item's own table, or PT1000's where it has none.
-fn reading(table: &[u32], probe: u32, reference: u32) -> InDegrees
+#[tactic(auto, unfolding(crate::specs::Lines::degrees_of))]
+fn reading(table: &[u32], probe: u32, reference: u32) -> Result<u32, Refusal>
     ensures { result ≡ degrees_of table.now probe reference }
 {
-    if table.len() == 0 {
+    if table.is_empty() {
         thermometer::degrees(probe, reference)
     } else {
         thermometer::degrees_by(table, probe, reference)
     }
 }
 
-fn put_reading(reading: InDegrees, counts: &mut [usize; 22], answers: &mut [u8])
+fn put_reading(reading: Result<u32, Refusal>, counts: &mut [usize; 22], answers: &mut [u8])
     ensures { record { counts = counts.exit.now; answers = answers.new } ≡ degrees_told reading record { counts = counts.entry.now; answers = answers.old } }
 {
     match reading {
-        InDegrees::Thousandths(n) => {
+        Ok(n) => {
             let used = phrase::kept::put_degrees(answers, counts[USED], n);
             count(counts, 0, used);
         }
-        InDegrees::Refused(number) => {
-            let used = phrase::heads::put_degrees_refused(answers, counts[USED], number);
+        Err(refusal) => {
+            let used = phrase::heads::put_degrees_refused(answers, counts[USED], refusal.number());
             count(counts, 1, used);
         }
     }

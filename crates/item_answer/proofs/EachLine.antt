@@ -11,9 +11,6 @@ use Rattle.device.specs.declared.Model.{Model}
 use Rattle.device.specs.Call.{Call as ChipCall}
 use Rattle.device.specs.Reply.{reply}
 use Rattle.register_words.specs.Words.{EachBelow, CallFits}
-use Rattle.thermometer.specs.declared.InDegrees.{InDegrees}
-use Rattle.thermometer.specs.declared.InDegrees.TheVariants.{Thousandths, Refused}
-use Rattle.quietest.specs.declared.Place.{Place}
 use Rattle.quietest.specs.Quietest.{quietest_place}
 use Rattle.listing.specs.declared.Width.{Width}
 use Rattle.listing.specs.Listing.{capture_digits, last_above}
@@ -24,6 +21,10 @@ use Rattle.item_line.specs.OwnBounds.{Below, Quanta, CallBound, KeepBound, LineB
 use Rattle.item_line.proofs.Bounds.{signed-small, line-bound}
 use Rattle.item_answer.specs.Answer.{Item, fresh_item, with_model, Result, told, fault, is_refusal, transacted, transaction_told, bus_told, word_bytes, set_told, ticked, ticks_told, at_result, stretch_told, delivery_told, frames_told, degrees_told, degrees_of, listing_told, quietest_told, call_result, ask_told, probe_result, added, record_result, keep_result}
 use Rattle.item_answer.specs.Step.{bad_step, compared_step, told_step, result_step, line_step, step}
+use Rattle.refusal.specs.declared.Refusal.{Refusal}
+use Rattle.refusal.specs.Number.{number}
+use Rattle.std.specs.Prelude.{Ok, Err}
+use Rattle.std.specs.Prelude.{Result as ResultOf}
 
 abbrev with_probes : Item → List ℕ → Item
 with_probes i ns = record { model = i.model; flash = i.flash; recorded = i.recorded; probes = i.probes ++ ns; moment = i.moment }
@@ -92,15 +93,15 @@ module _ (P : Item → Type 0) (keeps : Keeps P) where
       by-test (is_refusal (reply i.model (ChipCall.stretch n)).answer) (λ e. rw e p)
       (λ e. rw e (keeps.time _ (i.moment + n) (keeps.call i (ChipCall.stretch n) tt p)))
 
-  degrees-keeps : (d : InDegrees) (i : Item) → P i → P (degrees_told d i).item
+  degrees-keeps : (d : ResultOf ℕ Refusal) (i : Item) → P i → P (degrees_told d i).item
   unfolding degrees_told
-  degrees-keeps (Thousandths n) i p = p
-  degrees-keeps (Refused number) i p = p
+  degrees-keeps (Ok n) i p = p
+  degrees-keeps (Err r) i p = p
 
-  quietest-keeps : (width : ℕ) (place : Place) (i : Item) → P i → P (quietest_told width place i).item
+  quietest-keeps : (width : ℕ) (place : ResultOf ℕ Refusal) (i : Item) → P i → P (quietest_told width place i).item
   unfolding quietest_told
-  quietest-keeps width (Place.At start) i p = p
-  quietest-keeps width (Place.Refused number) i p = p
+  quietest-keeps width (Ok start) i p = p
+  quietest-keeps width (Err r) i p = p
 
   listing-keeps : (width : Width) (first : ℕ) (i : Item) → P i → P (listing_told width first i).item
   unfolding listing_told

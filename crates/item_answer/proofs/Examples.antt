@@ -29,7 +29,7 @@ use Rattle.device.specs.Bus.{before_initialize, command_busy, command_unset, eve
 use Rattle.device.specs.Call.{bad_calendar, bad_setup, first_of, miscounted, no_frame, not_awaited, not_carried, not_initialised, past_registers, short_output, supply_off, table as device_table, too_long, unerased, unreachable, verdict as device_verdict, while_busy, wrong_length}
 use Rattle.device.specs.Delivery.{failed_flight_model, flight_miscounted, flight_status, good_flight_model, same_count}
 use Rattle.device.specs.FlashFrame.{flash_address, flash_data, flash_memory, flash_model, flash_output, flash_unerased, flash_unreachable}
-use Rattle.device.specs.Question.{interrupt_pending, value_told}
+use Rattle.device.specs.Question.{interrupt_pending}
 use Rattle.device.specs.Registers.{calendar_word, fill_words, flight_word, half, register_word, temperature_word}
 use Rattle.device.specs.Reply.{accepted_answer, accepted_memory, accepted_model, accepted_output, any_late, buffer_of, memory, memory_by, memory_of, number_in, output, output_by, reply, reply_by}
 use Rattle.device.specs.Results.{failed_difference, failed_flight, good_difference, good_flight, good_sum}
@@ -48,6 +48,8 @@ use Rattle.listing.specs.Listing.{last_above, line, lines, right_justified, sign
 use Rattle.difference.specs.Difference.{joined_word, signed_of}
 use Rattle.item_line.specs.Reading.{address, addressed, are_digits as item_line_are_digits, before_mark, behind_mark, bus_line, bytes_line, capital, counted, decimal as item_line_decimal, degrees_line, each, flight_line, flight_parts, four_digits, hex, is_digit, is_wanted, item_line, line_of, listing_line, one, parted, probe_line, quanta as item_line_quanta, read_by, record_line, set_line, size, table as item_line_table, temperature_line, wanted, wanted_line, without_comment, worded, words_line}
 use Rattle.item_page.specs.Row.{refusal, refusal_words}
+use Rattle.refusal.specs.declared.Refusal.{Refusal}
+use Rattle.refusal.specs.Number.{number}
 
 -- texts in quotes
 abbrev texts : List String → List Text
@@ -303,7 +305,7 @@ scripts =
 
 -- ---- words
 
-answers-of-the-chip : map answer_text (Refused 6 ∷ Accepted false false ∷ Accepted true false ∷ Accepted false true ∷ Accepted true true ∷ Good ∷ Failed ∷ []) ≡ texts ("no 6 busy" ∷ "ok -" ∷ "ok flight" ∷ "ok temperature" ∷ "ok flight+temperature" ∷ "good" ∷ "failed" ∷ [])
+answers-of-the-chip : map answer_text (Refused Refusal.Busy ∷ Accepted false false ∷ Accepted true false ∷ Accepted false true ∷ Accepted true true ∷ Good ∷ Failed ∷ []) ≡ texts ("no 6 busy" ∷ "ok -" ∷ "ok flight" ∷ "ok temperature" ∷ "ok flight+temperature" ∷ "good" ∷ "failed" ∷ [])
 unfolding ascii digits glyph numeral_decimal decimal_width width_from refusal refusal_words answer_text started
 answers-of-the-chip = refl
 
@@ -357,34 +359,5 @@ lines-answered :
     (map (λ s. written 1 s.0 s.1) scripts ≡ map (λ s. expected s.0) scripts)
     × (map (λ row. six (step 1 (ascii row.0) fresh_item).adds) count_rows ≡ map (λ row. row.1) count_rows)
     × (map (λ row. outcome_bits (outcome (step 1 (ascii row.0) fresh_item))) outcome_rows ≡ map (λ row. row.1) outcome_rows)
-unfolding alarm_rings clock_valid date_fits month_length start tick_clock time_fits alarm_valid bcd clock_from digits_fit hour_digits hour_fits
-    hour_in hour_named hundredths_of minute_in time_digits twelve_in word30 word31 word32 word33 words_valid alarm_mode alarm_word clock_stands
-    factory flight_unset hit_count interrupt_enabled timeout flash_further is_command is_flash is_read is_write not_whole past_end word_at
-    difference_mean difference_word port_mean any_from any_word late_from average failed_pairs filled six_total six_words word_or_zero
-    address_refused beyond first_word flash_word flash_written not_erased odd_address wrong_size before_initialize command_busy command_unset
-    event_side_unset flight_side_unset flight_started initialised_model is_event must_be_idle read_model run_model single_started starts_flight
-    starts_temperature supplied temperature_side_unset bad_calendar bad_setup first_of miscounted no_frame not_awaited not_carried not_initialised
-    past_registers short_output supply_off device_table too_long unerased unreachable device_verdict while_busy wrong_length failed_flight_model
-    flight_miscounted flight_status good_flight_model same_count balance_sound begins begins_group counts_sound fails good_after in_event
-    is_awaited is_last left_after no_schedule schedule_sound settle settled_after start_single started_after starts_left tick_schedule wait_after
-    wait_sound flash_address flash_data flash_memory flash_model flash_output flash_unerased flash_unreachable flight_sound fresh_model fresh_with
-    is_busy is_sound kind_busy no_flight no_temperature sum_fits temperature_sound interrupt_pending value_told calendar_word fill_words flight_word
-    half register_word temperature_word accepted_answer accepted_memory accepted_model accepted_output any_late buffer_of memory memory_by
-    memory_of number_in output output_by reply reply_by failed_difference failed_flight good_difference good_flight good_sum alarm_bit flash_bit
-    flight_bits init_bit device_joined ldo_bit no_bits por_bit sets_own_bit status_word temperature_bits last_tick model_ticked schedule_ticked
-    stretch_report clock_ticked flight_after flight_ticked report_of sum_after sums_after temperature_after tick_model tick_rings tick_status
-    clock_after covers setup_after ticks_after with_word write_invalid write_model device_written bytes_of differs differs_before frame_at frames
-    frames_from run_length setup_frames_starts degrees_by degrees_over interpolated off_table resistance thermometer_thousandths thousandths_from
-    entries entry is_accepted is_rising none_above pt1000 extreme larger quieter quietest_place smaller spread ascii numeral_are_digits
-    digit_of digits glyph value_of numeral_decimal decimal_width four_decimals hex_bytes nanoseconds ten_thousandths numeral_thousandths
-    width_from negated read_decimal read_hex read_signed value_in last_above line lines right_justified sign joined_word signed_of begin_with
-    begun_before ended ended_each fits is_blank same spaced spaced_each text_where without_return words words_after address addressed
-    item_line_are_digits before_mark behind_mark bus_line bytes_line capital counted item_line_decimal degrees_line each flight_line flight_parts
-    four_digits hex is_digit is_wanted item_line line_of listing_line one parted probe_line item_line_quanta read_by record_line set_line size
-    item_line_table temperature_line wanted wanted_line without_comment worded words_line refusal refusal_words added ask_told at_result
-    awaited_text bus_told call_result degrees_of degrees_told delivery_told frame_size frames_told fresh_item int_text is_refusal keep_result
-    listing_told probe_result quietest_told read_words record_result set_told size_of starts stretch_told ticked ticks_told transacted
-    transaction_told word_bytes agrees bad_step compared_step disagrees expectations expected_text expects line_step outcome outcome_bits
-    result_step step told_step answer_text difference differences fault_line fault_text frame_line joined output_text quanta register_line
-    register_lines registers item_answer_report reports reports_at reports_to shown shown_byte started verdict words_of written
+unfolding alarm_rings clock_valid date_fits month_length start tick_clock time_fits alarm_valid bcd clock_from digits_fit hour_digits hour_fits hour_in hour_named hundredths_of minute_in time_digits twelve_in word30 word31 word32 word33 words_valid alarm_mode alarm_word clock_stands factory flight_unset hit_count interrupt_enabled timeout flash_further is_command is_flash is_read is_write not_whole past_end word_at difference_mean difference_word port_mean any_from any_word late_from average failed_pairs filled six_total six_words word_or_zero address_refused beyond first_word flash_word flash_written not_erased odd_address wrong_size before_initialize command_busy command_unset event_side_unset flight_side_unset flight_started initialised_model is_event must_be_idle read_model run_model single_started starts_flight starts_temperature supplied temperature_side_unset bad_calendar bad_setup first_of miscounted no_frame not_awaited not_carried not_initialised past_registers short_output supply_off device_table too_long unerased unreachable device_verdict while_busy wrong_length failed_flight_model flight_miscounted flight_status good_flight_model same_count balance_sound begins begins_group counts_sound fails good_after in_event is_awaited is_last left_after no_schedule schedule_sound settle settled_after start_single started_after starts_left tick_schedule wait_after wait_sound flash_address flash_data flash_memory flash_model flash_output flash_unerased flash_unreachable flight_sound fresh_model fresh_with is_busy is_sound kind_busy no_flight no_temperature sum_fits temperature_sound interrupt_pending calendar_word fill_words flight_word half register_word temperature_word accepted_answer accepted_memory accepted_model accepted_output any_late buffer_of memory memory_by memory_of number_in output output_by reply reply_by failed_difference failed_flight good_difference good_flight good_sum alarm_bit flash_bit flight_bits init_bit device_joined ldo_bit no_bits por_bit sets_own_bit status_word temperature_bits last_tick model_ticked schedule_ticked stretch_report clock_ticked flight_after flight_ticked report_of sum_after sums_after temperature_after tick_model tick_rings tick_status clock_after covers setup_after ticks_after with_word write_invalid write_model device_written bytes_of differs differs_before frame_at frames frames_from run_length setup_frames_starts degrees_by degrees_over interpolated off_table resistance thermometer_thousandths thousandths_from entries entry is_accepted is_rising none_above pt1000 extreme larger quieter quietest_place smaller spread ascii numeral_are_digits digit_of digits glyph value_of numeral_decimal decimal_width four_decimals hex_bytes nanoseconds ten_thousandths numeral_thousandths width_from negated read_decimal read_hex read_signed value_in last_above line lines right_justified sign joined_word signed_of begin_with begun_before ended ended_each fits is_blank same spaced spaced_each text_where without_return words words_after address addressed item_line_are_digits before_mark behind_mark bus_line bytes_line capital counted item_line_decimal degrees_line each flight_line flight_parts four_digits hex is_digit is_wanted item_line line_of listing_line one parted probe_line item_line_quanta read_by record_line set_line size item_line_table temperature_line wanted wanted_line without_comment worded words_line refusal refusal_words added ask_told at_result awaited_text bus_told call_result degrees_of degrees_told delivery_told frame_size frames_told fresh_item int_text is_refusal keep_result listing_told probe_result quietest_told read_words record_result set_told size_of starts stretch_told ticked ticks_told transacted transaction_told word_bytes agrees bad_step compared_step disagrees expectations expected_text expects line_step outcome outcome_bits result_step step told_step answer_text difference differences fault_line fault_text frame_line joined output_text quanta register_line register_lines registers item_answer_report reports reports_at reports_to shown shown_byte started verdict words_of written
 lines-answered = (refl, refl, refl)

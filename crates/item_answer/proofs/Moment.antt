@@ -7,9 +7,6 @@ use lib.ListN.{length}
 use Rattle.unit.proofs.Cases.{by-test}
 use Rattle.device.specs.Call.{Call as ChipCall}
 use Rattle.device.specs.Reply.{reply}
-use Rattle.thermometer.specs.declared.InDegrees.{InDegrees}
-use Rattle.thermometer.specs.declared.InDegrees.TheVariants.{Thousandths, Refused}
-use Rattle.quietest.specs.declared.Place.{Place}
 use Rattle.quietest.specs.Quietest.{quietest_place}
 use Rattle.listing.specs.Listing.{capture_digits, last_above}
 use Rattle.text.specs.Text.{Text}
@@ -19,6 +16,9 @@ use Rattle.item_line.specs.OwnBounds.{CallBound, LineBound}
 use Rattle.item_line.proofs.Bounds.{line-bound}
 use Rattle.item_answer.specs.Answer.{Item, fresh_item, is_refusal, starts, transacted, transaction_told, bus_told, set_told, ticks_told, at_result, stretch_told, delivery_told, frames_told, degrees_told, degrees_of, listing_told, quietest_told, call_result, ask_told, probe_result, added, record_result, keep_result}
 use Rattle.item_answer.specs.Step.{bad_step, compared_step, told_step, result_step, line_step, step}
+use Rattle.refusal.specs.declared.Refusal.{Refusal}
+use Rattle.refusal.specs.Number.{number}
+use Rattle.std.specs.Prelude.{Result, Ok, Err}
 
 later : {a b : ℕ} → a ≤ b → a ≤ b + 4294967296
 later h = omega (arith, h)
@@ -27,15 +27,15 @@ transacted-soon : (i : Item) (c : ChipCall) → (transacted i c).moment ≤ i.mo
 unfolding transacted
 transacted-soon i c = by-test (starts (reply i.model c).answer) (λ e. rw e (omega arith)) (λ e. rw e (omega arith))
 
-degrees-soon : (d : InDegrees) (i : Item) → (degrees_told d i).item.moment ≤ i.moment
+degrees-soon : (d : Result ℕ Refusal) (i : Item) → (degrees_told d i).item.moment ≤ i.moment
 unfolding degrees_told
-degrees-soon (Thousandths n) i = omega arith
-degrees-soon (Refused n) i = omega arith
+degrees-soon (Ok n) i = omega arith
+degrees-soon (Err r) i = omega arith
 
-quietest-soon : (width : ℕ) (p : Place) (i : Item) → (quietest_told width p i).item.moment ≤ i.moment
+quietest-soon : (width : ℕ) (p : Result ℕ Refusal) (i : Item) → (quietest_told width p i).item.moment ≤ i.moment
 unfolding quietest_told
-quietest-soon width (Place.At start) i = omega arith
-quietest-soon width (Place.Refused n) i = omega arith
+quietest-soon width (Ok start) i = omega arith
+quietest-soon width (Err r) i = omega arith
 
 call-soon : (number : ℕ) (c : Call) (x : Expected) (i : Item) → CallBound c → (result_step number 1 x (call_result c i) i).item.moment ≤ i.moment + 4294967296
 unfolding result_step told_step bad_step call_result bus_told set_told transaction_told ticks_told at_result stretch_told delivery_told frames_told listing_told

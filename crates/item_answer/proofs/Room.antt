@@ -28,13 +28,10 @@ use Rattle.device.specs.Stretch.{stretch_report}
 use Rattle.device.specs.FlashFrame.{flash_output}
 use Rattle.device.specs.Call.{Call as ChipCall, opcode, words as frame_words, Verdict, accepted, refused, verdict}
 use Rattle.device.specs.Event.{is_awaited}
-use Rattle.device.specs.Question.{interrupt_pending, value_told}
+use Rattle.device.specs.Question.{interrupt_pending}
 use Rattle.device.specs.Reply.{reply, reply_by, accepted_answer, accepted_output, buffer_of, output_by, output, number_in, flag}
 use Rattle.device.proofs.RegisterMeaning.{fill-length}
 use Rattle.setup_frames.specs.Frames.{differs, starts, run_length, bytes_of, frame_at, frames_from, frames}
-use Rattle.thermometer.specs.declared.InDegrees.{InDegrees}
-use Rattle.thermometer.specs.declared.InDegrees.TheVariants.{Thousandths}
-use Rattle.quietest.specs.declared.Place.{Place}
 use Rattle.quietest.specs.Quietest.{quietest_place, spread}
 use Rattle.listing.specs.declared.Width.{Width}
 use Rattle.listing.specs.declared.Width.TheVariants.{Two, Eight}
@@ -53,6 +50,10 @@ use Rattle.item_answer.specs.Answer.{Item, Told, Result, told, fault, is_refusal
 use Rattle.item_answer.specs.Step.{bad_step, compared_step, disagrees, expected_text, told_step, result_step, line_step, step}
 use Rattle.item_answer.specs.OwnRoom.{runs_ticks, is_ticks}
 use Rattle.item_answer.specs.OwnKept.{Kept}
+use Rattle.refusal.specs.declared.Refusal.{Refusal}
+use Rattle.refusal.specs.Number.{number, value_told}
+use Rattle.std.specs.Prelude.{Ok, Err}
+use Rattle.std.specs.Prelude.{Result as ResultOf}
 
 -- ---- bad lines
 
@@ -99,7 +100,7 @@ reports-most a b c d i =
 -- What one tick reports.
 pub reports-room : (i : ℕ) (a : Answer) → length (reports_at i a) ≤ 200
 unfolding reports_at
-reports-room i (Refused number) = omega arith
+reports-room i (Refused r) = omega arith
 reports-room i (Accepted flight temperature) = omega arith
 reports-room i (Ticked flight temperature) =
     reports-most flight.failed flight.started temperature.failed temperature.started i
@@ -166,13 +167,13 @@ stretch-fits accepted m after n i =
     let f : StretchReport = stretch_report m.flight.schedule n in
     let t : StretchReport = stretch_report m.temperature.schedule n in
     simp length-append (omega (arith, decimal-most n, stretched-most f t n))
-stretch-fits (refused k) m after n i = omega (arith, refusal-most k)
+stretch-fits (refused r) m after n i = omega (arith, refusal-most (number r))
 
 -- ---- transactions and deliveries
 
 answer-most : (a : Answer) → length (answer_text a) ≤ 39
 unfolding answer_text started ascii
-answer-most (Refused number) = refusal-most number
+answer-most (Refused r) = refusal-most (number r)
 answer-most (Accepted true true) = omega arith
 answer-most (Accepted true false) = omega arith
 answer-most (Accepted false true) = omega arith
@@ -317,16 +318,16 @@ refusing-most : (keyword : String) (number : ℕ) → length (ascii keyword ++ a
 unfolding ascii
 refusing-most keyword number = simp length-append (omega (arith, refusal-most number))
 
-degrees-fits : (d : InDegrees) (i : Item) → Fits (degrees_told d i)
+degrees-fits : (d : ResultOf ℕ Refusal) (i : Item) → Fits (degrees_told d i)
 unfolding degrees_told thousandths digits ascii
-degrees-fits (Thousandths n) i = simp length-append (omega (arith, decimal-most (n / 1000)))
-degrees-fits (InDegrees.Refused number) i = omega (arith, refusing-most "degrees" number)
+degrees-fits (Ok n) i = simp length-append (omega (arith, decimal-most (n / 1000)))
+degrees-fits (Err r) i = omega (arith, refusing-most "degrees" (number r))
 
-quietest-fits : (width : ℕ) (p : Place) (i : Item) → Fits (quietest_told width p i)
+quietest-fits : (width : ℕ) (p : ResultOf ℕ Refusal) (i : Item) → Fits (quietest_told width p i)
 unfolding quietest_told ascii
-quietest-fits width (Place.At start) i =
+quietest-fits width (Ok start) i =
     simp length-append (omega (arith, decimal-most start, decimal-most (nat_abs (spread i.recorded start width))))
-quietest-fits width (Place.Refused number) i = omega (arith, refusing-most "quietest" number)
+quietest-fits width (Err r) i = omega (arith, refusing-most "quietest" (number r))
 
 quanta-fit : (ds : List ℤ) → Quanta ds → (k : ℕ) → k < length ds → nat_abs (get_or ds k (pos 0)) ≤ 2147483648
 quanta-fit [] Quanta.none k h = absurd (omega (arith, h))

@@ -10,15 +10,12 @@ use Rattle.device.specs.declared.Answer.{Answer}
 use Rattle.device.specs.declared.Answer.TheVariants.{Refused, Accepted, Ticked, Stretched, Good, Failed}
 use Rattle.device.specs.Model.{fresh_model}
 use Rattle.device.specs.Event.{is_awaited}
-use Rattle.device.specs.Question.{interrupt_pending, value_told}
+use Rattle.device.specs.Question.{interrupt_pending}
 use Rattle.device.specs.Registers.{register_word}
 use Rattle.device.specs.Call.{Call as ChipCall}
 use Rattle.device.specs.Reply.{reply, output, memory, number_in, flag}
 use Rattle.setup_frames.specs.Frames.{frames}
-use Rattle.thermometer.specs.declared.InDegrees.{InDegrees}
-use Rattle.thermometer.specs.declared.InDegrees.TheVariants.{Thousandths}
 use Rattle.thermometer.specs.Degrees.{degrees, degrees_by}
-use Rattle.quietest.specs.declared.Place.{Place}
 use Rattle.quietest.specs.Quietest.{quietest_place, spread}
 use Rattle.difference.specs.Difference.{joined_word, signed_of}
 use Rattle.listing.specs.declared.Width.{Width}
@@ -27,6 +24,9 @@ use Rattle.text.specs.Text.{Text, ended_each, spaced_each}
 use Rattle.item_page.specs.Row.{refusal}
 use Rattle.item_line.specs.Line.{Fault, Output, Call, Ask, Keep}
 use Rattle.item_answer.specs.Words.{answer_text, output_text, reports_at, reports_to, register_line, register_lines, words_of, quanta, frame_line}
+use Rattle.refusal.specs.declared.Refusal.{Refusal}
+use Rattle.refusal.specs.Number.{number, value_told}
+use Rattle.std.specs.Prelude.{Result as ResultOf, Ok, Err}
 
 -- ---- an item, and what a line answers
 
@@ -78,7 +78,7 @@ transaction i frame size = ChipCall.transaction frame (replicate size 0xEE) i.fl
 
 -- whether an answer says that a measurement was started
 unfoldable pub starts : Answer → Bool
-starts (Refused number) = false
+starts (Refused r) = false
 starts (Accepted flight temperature) = either flight temperature
 starts (Ticked flight temperature) = false
 starts (Stretched flight temperature) = false
@@ -188,12 +188,12 @@ frames_told i =
     let all = frames i.model.setup in answer (ascii "frames " ++ decimal (length all)) (ended_each (map frame_line all)) i
 
 -- "`degrees D.DDD`, or `degrees no 13 off the table`, `degrees no 14 bad table`"
-unfoldable pub degrees_told : InDegrees → Item → Told
-degrees_told (Thousandths n) i = answer (ascii "degrees " ++ thousandths n) [] i
-degrees_told (InDegrees.Refused number) i = refusing "degrees" number i
+unfoldable pub degrees_told : ResultOf ℕ Refusal → Item → Told
+degrees_told (Ok n) i = answer (ascii "degrees " ++ thousandths n) [] i
+degrees_told (Err r) i = refusing "degrees" (number r) i
 
 -- "the item's own probe table, which `degrees` then takes in place of PT1000's"
-unfoldable pub degrees_of : List ℕ → ℕ → ℕ → InDegrees
+unfoldable pub degrees_of : List ℕ → ℕ → ℕ → ResultOf ℕ Refusal
 degrees_of probes a b = pick (eqb (length probes) 0) (degrees a b) (degrees_by probes a b)
 
 -- "`listing K`, then the K lines, or `listing no 20 capture number`"
@@ -204,10 +204,10 @@ listing_told width first i =
     (answer (ascii "listing " ++ decimal (length i.recorded)) (listing_lines d first i.recorded) i)
 
 -- "`quietest START SPREAD`, START from 0, or `quietest no 18 width`"
-unfoldable pub quietest_told : ℕ → Place → Item → Told
-quietest_told width (Place.At start) i =
+unfoldable pub quietest_told : ℕ → ResultOf ℕ Refusal → Item → Told
+quietest_told width (Ok start) i =
     answer (ascii "quietest " ++ decimal start ++ ascii " " ++ decimal (nat_abs (spread i.recorded start width))) [] i
-quietest_told width (Place.Refused number) i = refusing "quietest" number i
+quietest_told width (Err r) i = refusing "quietest" (number r) i
 
 -- Every call.
 unfoldable pub call_result : Call → Item → Result

@@ -13,6 +13,7 @@ use Rattle.device.specs.Registers.{register_word}
 use Rattle.text.specs.Text.{Text, text_where, spaced_each, fits}
 use Rattle.item_page.specs.Row.{refusal, word}
 use Rattle.item_line.specs.Line.{Fault, Wanted}
+use Rattle.refusal.specs.Number.{number}
 
 -- ---- what the chip's calls answer
 
@@ -26,7 +27,7 @@ started true true = ascii "flight+temperature"
 -- What stands behind a line's first word: "`bus ok STARTED` or `bus no NUMBER WORD`", "`flight good`, `flight failed` or
 -- `flight no NUMBER WORD`". Ticks and stretches that are no refusal have their reports instead.
 unfoldable pub answer_text : Answer → Text
-answer_text (Refused number) = refusal number
+answer_text (Refused r) = refusal (number r)
 answer_text (Accepted flight temperature) = ascii "ok " ++ started flight temperature
 answer_text (Ticked flight temperature) = []
 answer_text (Stretched flight temperature) = []
@@ -52,7 +53,7 @@ reports failed_flight started_flight failed_temperature started_temperature i =
 
 -- What an answer reports of tick i: of a single tick, whose number is i, or of a stretch, which names its ticks.
 unfoldable pub reports_at : ℕ → Answer → Text
-reports_at i (Refused number) = []
+reports_at i (Refused r) = []
 reports_at i (Accepted flight temperature) = []
 reports_at i (Ticked flight temperature) =
     reports flight.failed flight.started temperature.failed temperature.started i

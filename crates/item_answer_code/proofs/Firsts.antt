@@ -1,5 +1,5 @@
 -- The first lines of answers, as their items have them. Assumes nothing.
-use Prim.Native.Nat.{ℕ, zero, suc, ◌+◌, ◌≤◌, ◌<◌, min}
+use Prim.Native.Nat.{ℕ, suc, ◌+◌, ◌≤◌, ◌<◌, min}
 use mathlib.Core.Bool.{Bool, true, false}
 use mathlib.Core.List.{List, [], ◌∷◌}
 use mathlib.Core.Path.{◌≡◌, refl, sym, ap, ◌∙◌}
@@ -8,18 +8,19 @@ use types.Run.{OneOf, miss}
 use denote.Enum.Declared.{tag_of}
 use lib.Dec.{ltb}
 use lib.IntN.{ℤ, pos}
-use lib.ListN.{length, get_or, take, replicate, length-take, length-replicate}
+use lib.ListN.{length, take, replicate, length-take, length-replicate}
+use Rattle.std.specs.Prelude.{Option}
 use Rattle.unit.specs.declared.Ticks.{Ticks}
 use Rattle.listing.specs.declared.Width.{Width}
 use Rattle.device.specs.declared.Answer.{Answer}
 use Rattle.device.specs.declared.Model.{Model}
+use Rattle.text.specs.declared.Span.{Span}
 use Rattle.text.specs.OwnPut.{Puts}
 use Rattle.item_line.specs.Line.{Call, Ask, Expected, Line}
 use Rattle.item_line.specs.OwnBounds.{CallBound, LineBound}
 use Rattle.item_line.specs.declared.CallRead.{CallRead}
 use Rattle.item_line.specs.contracts.CallRead.{the_type}
 use Rattle.item_line.specs.OwnRead.{as_call, as_line}
-use Rattle.item_line.specs.declared.ExpectedRead.{ExpectedRead}
 use Rattle.item_line.specs.declared.LineRead.{LineRead}
 use Rattle.item_answer.specs.declared.Carried.{Carried}
 use Rattle.item_answer.specs.declared.Stepped.{Stepped}
@@ -200,12 +201,6 @@ at-runs CallRead.Degrees ns h e = absurd (miss (3 ∷ []) 8 tt h)
 at-runs (CallRead.Listing width first) ns h e = absurd (miss (3 ∷ []) 9 tt h)
 at-runs (CallRead.Quietest width) ns h e = absurd (miss (3 ∷ []) 10 tt h)
 
--- A place past the end.
-pub beyond : (l : List ℕ) (i : ℕ) → length l ≤ i → get_or l i 0 ≡ 0
-beyond [] i h = refl
-beyond (x ∷ xs) zero h = absurd (omega arith)
-beyond (x ∷ xs) (suc i) h = beyond xs i (omega arith)
-
 -- ---- questions
 
 pub ask-item : (a : Ask) (i : Item) → (ask_told a i).item ≡ i
@@ -242,7 +237,7 @@ compared-steps {step} {c} {fs} {fs'} {l} {l'} {at} {r} {ds} {es} {s} a few recor
 of-call : {call : Call} {x : Expected} → LineBound (Line.call call x) → CallBound call
 of-call (LineBound.call b e) = b
 
-pub call-ready : (ns ts : List ℕ) (kind : CallRead) (x : ExpectedRead) {c : Carried} {fs : List ℕ} {ds : List ℤ} {es : List ℕ}
+pub call-ready : (ns ts : List ℕ) (kind : CallRead) (x : Option Span) {c : Carried} {fs : List ℕ} {ds : List ℤ} {es : List ℕ}
     → Ready (as_line ts ns (LineRead.Call kind x)) c fs ds es → CallReady (as_call ns kind) c
 unfolding as_line is_ticks
 call-ready ns ts kind x r = record { sound = r.sound; bound = of-call r.bound; ticks = r.ticks; few = r.few; moment = r.moment }

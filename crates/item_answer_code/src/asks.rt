@@ -7,13 +7,14 @@ ghost use Rattle.item_answer_code.specs.OwnSteps.{Few, StepsBeside};
 use crate::close::close;
 use item_answer::{Carried, Stepped};
 use item_chip_code::put_further;
-use item_line::{AskRead, ExpectedRead};
+use item_line::AskRead;
+use text::Span;
 
 // The answer's first line, what is expected of it, and the lines after it.
 pub fn ask(
     c: Carried,
     said: AskRead,
-    x: ExpectedRead,
+    x: Option<Span>,
     text: &[u8],
     answers: &mut [u8],
     at: usize,

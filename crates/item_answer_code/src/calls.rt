@@ -1,5 +1,5 @@
 // The lines that count as calls, but `tick`, `at` and `read`.
-ghost use Rattle.std.specs.Prelude.{◌≡◌, true, ℕ, List, ℤ, take, get_or};
+ghost use Rattle.std.specs.Prelude.{◌≡◌, true, ℕ, List, ℤ, get_or};
 ghost use Rattle.device.specs.Model.{is_sound};
 ghost use Rattle.quietest.specs.Quietest.{quietest_place};
 ghost use Rattle.item_line.specs.Line.{Line};
@@ -16,15 +16,16 @@ use item_chip_code::{Answered, bus, flight, set, stretch, temperature};
 use item_keep_code::analysis::{put_listed, put_listing, put_quietest};
 use item_keep_code::frames::{put_frame_lines, put_frames};
 use item_keep_code::table::put_degrees;
-use item_line::{CallRead, ExpectedRead};
+use item_line::CallRead;
 use listing::Width;
-use text_code::first_words;
+use text::Span;
+use text_code::first_items;
 
 // The answer's first line, what is expected of it, and the lines after it.
 pub fn call(
     c: Carried,
     said: CallRead,
-    x: ExpectedRead,
+    x: Option<Span>,
     text: &[u8],
     numbers: &[u32],
     flash: &mut [u8],
@@ -84,7 +85,7 @@ fn put_further(c: Carried, said: CallRead, recorded: &[i32], answers: &mut [u8],
             put_frame_lines(answers, at, m)
         }
         CallRead::Listing(width, first) => {
-            let kept = first_differences(recorded, c.recorded);
+            let kept = first_items(recorded, c.recorded);
             put_listed(answers, at, kept, width, first)
         }
         _ => at,
@@ -117,7 +118,7 @@ fn degrees(c: Carried, numbers: &[u32], probes: &[u32], answers: &mut [u8], at: 
     requires { Few c }
     ensures { (ds : List ℤ) → FirstBeside (λ i. degrees_told (degrees_of i.probes (get_or numbers.now 0 0) (get_or numbers.now 1 0)) i) c ds probes.now answers.old at result answers.new }
 {
-    let table = first_words(probes, c.probes);
+    let table = first_items(probes, c.probes);
     let first = put_degrees(
         answers,
         at,
@@ -143,7 +144,7 @@ fn listing(
     requires { Few c }
     ensures { (es : List ℕ) → FirstBeside (listing_told width capture) c recorded.now es answers.old at result answers.new }
 {
-    let kept = first_differences(recorded, c.recorded);
+    let kept = first_items(recorded, c.recorded);
     let first = put_listing(answers, at, kept, width, capture);
     Answered {
         carried: c,
@@ -156,7 +157,7 @@ fn quietest(c: Carried, width: u32, recorded: &[i32], answers: &mut [u8], at: us
     requires { Few c }
     ensures { (es : List ℕ) → FirstBeside (λ i. quietest_told width (quietest_place i.recorded width) i) c recorded.now es answers.old at result answers.new }
 {
-    let kept = first_differences(recorded, c.recorded);
+    let kept = first_items(recorded, c.recorded);
     let first = put_quietest(answers, at, kept, width);
     Answered {
         carried: c,
@@ -165,15 +166,9 @@ fn quietest(c: Carried, width: u32, recorded: &[i32], answers: &mut [u8], at: us
     }
 }
 
-fn first_differences(kept: &[i32], n: usize) -> &[i32]
-    ensures { result.now ≡ take n kept.now }
-{
-    if n <= kept.len() { &kept[..n] } else { kept }
-}
-
 // A number of the line; 0 where it has none there.
 fn number_at(numbers: &[u32], i: usize) -> u32
     ensures { result ≡ get_or numbers.now i 0 }
 {
-    if i < numbers.len() { numbers[i] } else { 0 }
+    numbers.get(i).copied().unwrap_or(0)
 }

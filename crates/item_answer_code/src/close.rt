@@ -6,7 +6,7 @@ use item_answer::Stepped;
 use item_chip_code::Answered;
 use item_keep_code::counts::told_counts;
 use item_keep_code::judge::put_judged;
-use item_line::ExpectedRead;
+use text::Span;
 
 // Holds the first line of an answer, which was put from the place `start` on, against what its line expects, ends it and counts it. `calls` is
 // 1 for a call.
@@ -14,7 +14,7 @@ pub fn close(
     calls: u64,
     first: Answered,
     text: &[u8],
-    x: ExpectedRead,
+    x: Option<Span>,
     answers: &mut [u8],
     start: usize,
 ) -> Stepped

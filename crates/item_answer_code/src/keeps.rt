@@ -1,5 +1,5 @@
 // The lines that add to what an item keeps beside its model.
-ghost use Rattle.std.specs.Prelude.{◌≡◌, true, List, map, ℕ, min, ℤ, length, take};
+ghost use Rattle.std.specs.Prelude.{◌≡◌, true, List, map, ℕ, ℤ, length, take};
 ghost use Rattle.device.specs.Model.{is_sound};
 ghost use Rattle.difference.specs.Difference.{signed_of};
 ghost use Rattle.item_line.specs.Line.{Keep};
@@ -16,7 +16,8 @@ use item_answer::{Carried, Stepped};
 use item_chip_code::Answered;
 use item_keep_code::differences::put_record;
 use item_keep_code::table::put_probe;
-use item_line::{ExpectedRead, FaultRead, KeepRead};
+use item_line::{FaultRead, KeepRead};
+use text::Span;
 use text_code::first_words;
 
 // The lines `probe` and `record`.
@@ -24,7 +25,7 @@ pub fn keep(
     number: u64,
     c: Carried,
     said: KeepRead,
-    x: ExpectedRead,
+    x: Option<Span>,
     text: &[u8],
     numbers: &[u32],
     recorded: &mut [i32],
@@ -46,7 +47,7 @@ fn probe(
     number: u64,
     c: Carried,
     n: usize,
-    x: ExpectedRead,
+    x: Option<Span>,
     text: &[u8],
     numbers: &[u32],
     probes: &mut [u32],
@@ -58,7 +59,8 @@ fn probe(
 {
     let added = put_probe(answers, at, first_words(numbers, n), probes, c.probes);
     let model = c.model;
-    let count = at_most(added.count, 1024);
+    // The lists that are lent have no more places.
+    let count = added.count.min(1024);
     let carried = Carried {
         model,
         moment: c.moment,
@@ -73,7 +75,7 @@ fn record(
     number: u64,
     c: Carried,
     n: usize,
-    x: ExpectedRead,
+    x: Option<Span>,
     text: &[u8],
     numbers: &[u32],
     recorded: &mut [i32],
@@ -92,7 +94,7 @@ fn record(
         recorded,
         c.recorded,
     );
-    let count = at_most(added.count, 4096);
+    let count = added.count.min(4096);
     let carried = Carried {
         model,
         moment: c.moment,
@@ -108,7 +110,7 @@ fn settle(
     c: Carried,
     fits: bool,
     end: usize,
-    x: ExpectedRead,
+    x: Option<Span>,
     text: &[u8],
     answers: &mut [u8],
     at: usize,
@@ -125,11 +127,4 @@ fn settle(
         return close(0, first, text, x, answers, at);
     }
     bad(number, text, FaultRead::NoRoom, c, answers, end)
-}
-
-// The lists that are lent have no more places.
-fn at_most(n: usize, most: usize) -> usize
-    ensures { result ≡ min n most }
-{
-    if n < most { n } else { most }
 }

@@ -14,6 +14,7 @@ use Rattle.device.specs.Reply.{number_in}
 use Rattle.item_state.specs.Log.{added, refusals}
 use Rattle.item_calls.specs.Buffer.{buffer_size}
 use Rattle.item_calls.specs.Lines.{item_counts, start_moment, moved, moved_by, write_bytes, word_bytes, stretch_reports}
+use Rattle.refusal.specs.declared.Refusal.{Refusal}
 
 -- `set 38 1234 AB`: the address, and each word high byte first.
 a_write : joined (write_bytes 0x38 (0x1234 ∷ 0xAB ∷ [])) ≡ 0x38 ∷ 0x12 ∷ 0x34 ∷ 0x00 ∷ 0xAB ∷ []
@@ -38,7 +39,7 @@ counts = 0 ∷ 1 ∷ 2 ∷ 3 ∷ 4 ∷ 5 ∷ 6 ∷ 7 ∷ 8 ∷ 9 ∷ 10 ∷ 11 �
 -- The moment, the tenth count, is 0 where a transaction starts a measurement, and stays else; so does every other count.
 moments : (start_moment (Accepted true false) counts ≡ 0 ∷ 1 ∷ 2 ∷ 3 ∷ 4 ∷ 5 ∷ 6 ∷ 7 ∷ 8 ∷ 0 ∷ 10 ∷ 11 ∷ 12 ∷ [])
     × (start_moment (Accepted false true) counts ≡ 0 ∷ 1 ∷ 2 ∷ 3 ∷ 4 ∷ 5 ∷ 6 ∷ 7 ∷ 8 ∷ 0 ∷ 10 ∷ 11 ∷ 12 ∷ [])
-    × (start_moment (Accepted false false) counts ≡ counts) × (start_moment (Refused 9) counts ≡ counts)
+    × (start_moment (Accepted false false) counts ≡ counts) × (start_moment (Refused Refusal.SetUp) counts ≡ counts)
 unfolding start_moment
 moments = (refl, refl, refl, refl)
 
@@ -50,7 +51,7 @@ a-start = refl
 -- A stretch of 16,384 ticks moves the moment, a refused one does not.
 a-stretch : (f t : StretchReport)
     → (moved_by (Stretched f t) 16384 counts ≡ 0 ∷ 1 ∷ 2 ∷ 3 ∷ 4 ∷ 5 ∷ 6 ∷ 7 ∷ 8 ∷ 16393 ∷ 10 ∷ 11 ∷ 12 ∷ [])
-    × (moved_by (Refused 12) 16384 counts ≡ counts)
+    × (moved_by (Refused Refusal.Span) 16384 counts ≡ counts)
 unfolding moved_by moved added refusals number_in
 a-stretch f t = (refl, refl)
 

@@ -1,13 +1,13 @@
 -- The frame of a line `set`, word by word, and frames as they stand in their buffer. Assumes nothing.
-use Prim.Native.Nat.{ℕ, zero, suc, ◌+◌, ◌*◌, ◌/◌, ◌≤◌, ◌<◌, min}
+use Prim.Native.Nat.{ℕ, zero, suc, ◌+◌, ◌*◌, ◌/◌, ◌≤◌, ◌<◌}
 use mathlib.Core.Bool.{Bool, true, false}
-use mathlib.Core.List.{List, [], ◌∷◌, ◌++◌}
+use mathlib.Core.List.{List, [], ◌∷◌}
 use mathlib.Core.Path.{◌≡◌, refl, sym, ap, ◌∙◌}
 use native.Mathlib.Nat.{zero-add}
 use native.Mathlib.Numerals.{add-one}
 use native.Mathlib.Omega.{arith}
 use lib.Dec.{eqb, ltb}
-use lib.ListN.{length, get_or, take, drop, replicate, drop_of_length-le, length-append, length-take, length-replicate}
+use lib.ListN.{length, get_or, take, drop, replicate, drop_of_length-le, length-take}
 use lib.Seq.{drop-cons, take-append_seam}
 use borrow.Author.Tests.{le-leb}
 use Rattle.unit.specs.Choice.{pick}

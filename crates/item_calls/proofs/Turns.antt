@@ -1,10 +1,8 @@
 -- Ticks in stretches, turn by turn. Assumes nothing.
 use Prim.Native.Nat.{ℕ, zero, suc, ◌+◌, ◌-◌, ◌≤◌, ◌<◌, min}
-use mathlib.Core.Bool.{cond}
-use mathlib.Core.List.{List, [], ◌∷◌, ◌++◌, append_assoc}
+use mathlib.Core.List.{List, [], ◌++◌}
 use mathlib.Core.Path.{◌≡◌, refl, sym, ap, ◌∙◌}
 use native.Mathlib.Omega.{arith}
-use lib.ListN.{length, get_or}
 use Rattle.unit.proofs.Cases.{by_eqb}
 use Rattle.numeral.specs.Place.{Placed, put_each}
 use Rattle.device.specs.declared.Model.{Model}

@@ -1,6 +1,6 @@
 -- The lines that move the model, in the order of the format's table: what each leaves. What stands in quotation marks is that
 -- of docs/ITEMS.md. Assumes nothing.
-use Rattle.std.specs.Prelude.{ℕ, zero, suc, ◌+◌, ◌-◌, ◌/◌, min, Bool, true, false, cond, List, [], ◌∷◌, ◌++◌, eqb, length, get_or, set, take, drop, replicate}
+use Rattle.std.specs.Prelude.{ℕ, zero, suc, ◌+◌, ◌-◌, ◌/◌, min, true, false, cond, List, [], ◌∷◌, ◌++◌, eqb, length, get_or, set, take, drop, replicate}
 use Rattle.numeral.specs.Place.{joined}
 use Rattle.numeral.specs.Print.{low_bytes}
 use Rattle.device.specs.declared.Model.{Model}
@@ -41,7 +41,7 @@ item_counts counts = set (set (set counts 9 0) 10 0) 11 0
 
 -- "since the last transaction that started a measurement, or since the item's start: that count is 0 there"
 unfoldable pub start_moment : Answer → List ℕ → List ℕ
-start_moment (Refused number) counts = counts
+start_moment (Refused r) counts = counts
 start_moment (Accepted true temperature) counts = set counts 9 0
 start_moment (Accepted false true) counts = set counts 9 0
 start_moment (Accepted false false) counts = counts
@@ -92,7 +92,7 @@ single_line m l =
 
 -- what a stretch reported, with so many ticks before it; nothing where it names no tick
 unfoldable pub stretch_reports : Answer → ℕ → Texts
-stretch_reports (Refused number) before = []
+stretch_reports (Refused r) before = []
 stretch_reports (Accepted flight temperature) before = []
 stretch_reports (Ticked flight temperature) before = []
 stretch_reports (Stretched flight temperature) before =

@@ -13,16 +13,6 @@ pub fn start(counts: &mut [usize; 22], mem: &mut [u8]) -> Model
     counts[MOMENT] = 0;
     counts[RECORD] = 0;
     counts[PROBES] = 0;
-    erase_all(mem);
+    mem.fill(255);
     converter::fresh()
-}
-
-fn erase_all(mem: &mut [u8])
-    ensures { mem.new ≡ replicate (length mem.old) 255 }
-{
-    let mut i = 0;
-    while i < mem.len() {
-        mem[i] = 255;
-        i += 1;
-    }
 }

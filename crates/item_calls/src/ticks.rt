@@ -62,19 +62,11 @@ fn begin_at(t: Ticks, counts: &mut [usize; 22], answers: &mut [u8])
     if counts[LEFT] != 0 {
         return;
     }
-    let left = left_to(counts[MOMENT], t);
+    let left = (t.0 as usize).saturating_sub(counts[MOMENT]);
     counts[MOMENT] = t.0 as usize;
     let start = phrase::heads::put_at(answers, counts[USED], t);
     count(counts, 0, start);
     counts[LEFT] = left;
-}
-
-// The ticks from a moment to another, or none.
-fn left_to(moment: usize, t: Ticks) -> usize
-    ensures { result ≡ t.0 - moment }
-{
-    let end = t.0 as usize;
-    if moment <= end { end - moment } else { 0 }
 }
 
 // The ticks that are left, of so many, or a part of them: in stretches, which end as so many single ticks do. Reports are counted from
@@ -88,6 +80,7 @@ fn run(m: Model, total: Ticks, counts: &mut [usize; 22], answers: &mut [u8]) -> 
     let mut left = part;
     let mut before = Ticks(total.0 - all.0);
     let mut place = counts[USED];
+    // Kept as a while: a stretch takes as many ticks as are left, LONGEST at most, and no index is counted.
     while left.0 > 0 {
         let span = at_most(left.0 as usize, LONGEST);
         let reply = converter::stretch(model, span);
@@ -108,11 +101,7 @@ fn run(m: Model, total: Ticks, counts: &mut [usize; 22], answers: &mut [u8]) -> 
 fn at_most(k: usize, n: Ticks) -> Ticks
     ensures { result.0 ≡ min k n.0 }
 {
-    if k <= n.0 as usize {
-        Ticks(k as u32)
-    } else {
-        n
-    }
+    Ticks(k.min(n.0 as usize) as u32)
 }
 
 // Behind a part of the ticks, so many being left: with the last of them the line ends.

@@ -96,13 +96,10 @@ pub fn set(
 fn put_write(frame: &mut [u8], a: u32, words: &[u32]) -> usize
     ensures { PutEach frame.old 0 (write_bytes a words.now) result frame.new }
 {
-    let address = [a];
-    let mut place = numeral::put_low_bytes(frame, 0, &address);
-    let mut i = 0;
-    while i < words.len() {
-        let pair = [words[i] / 256, words[i]];
+    let mut place = numeral::put_low_bytes(frame, 0, &[a]);
+    for word in words {
+        let pair = [word / 256, *word];
         place = numeral::put_low_bytes(frame, place, &pair);
-        i += 1;
     }
     place
 }

@@ -1,5 +1,5 @@
 -- Words compared one after the other. Assumes nothing.
-use Prim.Native.Nat.{ℕ, zero, suc, ◌+◌, ◌-◌, ◌≤◌, ◌<◌}
+use Prim.Native.Nat.{ℕ, zero, suc, ◌+◌, ◌≤◌, ◌<◌}
 use mathlib.Core.Bool.{Bool, true, false}
 use mathlib.Core.List.{List, [], ◌∷◌, map}
 use mathlib.Core.Path.{◌≡◌, refl}
@@ -18,7 +18,7 @@ use Rattle.numeral.specs.Place.{Put}
 use Rattle.device.specs.Reply.{flag}
 use Rattle.text.specs.Text.{Text, ended, text_where, words, is, fits}
 use Rattle.text.specs.OwnPut.{Puts}
-use Rattle.text.proofs.Putting.{puts, puts_none, puts-last, puts_then}
+use Rattle.text.proofs.Putting.{puts, puts-last, puts_then}
 use Rattle.text_code.specs.OwnWords.{Next, between}
 use Rattle.item_line.specs.Line.{Wanted}
 use Rattle.item_line.specs.OwnBounds.{Fours}
@@ -193,27 +193,23 @@ module _ {has text l : List ℕ} {at a : ℕ} {k : List ℕ} {c : Compared} {add
 
 -- ---- the end
 
-pub ends-ok : (n : ℕ) → n ≡ 0 → {l l' : List ℕ} {at r : ℕ} → Puts l at (ascii " ok") r l' → Puts l at (verdict_after n []) r l'
-unfolding verdict_after verdict
-ends-ok zero h put = put
-ends-ok (suc n) h put = absurd (omega (arith, h))
-
-pub ends-differing : (n : ℕ) → ¬ (n ≡ 0) → (l : List ℕ) (at : ℕ) → Puts l at (verdict_after n []) at l
-unfolding verdict_after joined
-ends-differing zero h l at = absurd (h refl)
-ends-differing (suc n) h l at = puts_none l at
+-- ` ok` stands there where none differs.
+ends : (n : ℕ) → text_where (eqb n 0) (ascii " ok") ≡ verdict_after n []
+unfolding verdict_after verdict joined text_where
+ends zero = refl
+ends (suc n) = let later : eqb (suc n) 0 ≡ false = ne_eqb (suc n) 0 (λ e. omega (arith, e)) in rw later
 
 -- A whole line.
 pub compares : {l l1 l2 l3 l4 l5 : List ℕ} {at k h v end : ℕ} (keyword : Text) (calls a : ℕ) (has : List ℕ) (ws : List Wanted) (carried : Carried) {c : Compared}
     → Put l at keyword k l1 → Put l1 k (digits 16 2 a) h l2 → Comparing l2 h (differences a has ws) (expectations ws) l3 c 0 [] []
-    → Puts l3 c.end (verdict_after c.differ []) v l4 → Put l4 v (10 ∷ []) end l5
+    → Puts l3 c.end (text_where (eqb c.differ 0) (ascii " ok")) v l4 → Put l4 v (10 ∷ []) end l5
     → Compares keyword calls a has ws carried l at
     (record { carried = carried; end = end; adds = record { calls = calls; refused = 0; unannounced = 0; bad = 0; expectations = c.expectations; differ = c.differ } }) l5
 unfolding ended differences expectations tally_of
 compares {l} {l1} {l2} {l3} {l4} {l5} {at} {k} {h} {v} {end} keyword calls a has ws carried {c} p1 p2 x p4 p5 =
     let differ : c.differ ≡ length (differences a has ws) = rw add-zero at x.differ in
     let expected : c.expectations ≡ expectations ws = rw add-zero at x.expected in record {
-      text = puts-last (puts_then (puts-last (puts p1) p2) (x.put l4 v p4)) p5;
+      text = puts-last (puts_then (puts-last (puts p1) p2) (x.put l4 v (rw ends at p4))) p5;
       carried = refl;
       adds = rw (differ, expected);
     }

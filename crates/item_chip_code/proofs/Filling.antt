@@ -41,19 +41,20 @@ fill-words-end bytes ws i full long e =
     let short : length bytes ≤ 2 * i = omega arith in fill_end ws i full (rw (drop_of_length-le bytes short)) e
 
 -- The words of registers.
-pub fill-registers-start : (m : Model) (a n : ℕ) → registers m a (n - 0) ≡ registers m a n
-fill-registers-start m a n = let all : n - 0 ≡ n = omega arith in rw all
+pub fill-registers-start : (m : Model) (a n : ℕ) → registers m (a + 0) (n - 0) ≡ registers m a n
+fill-registers-start m a n = let first : a + 0 ≡ a = omega arith in let all : n - 0 ≡ n = omega arith in rw (first, all)
 
-pub fill-registers-on : (m : Model) (address n : ℕ) (ws : List ℕ) (i : ℕ) {v : ℕ} {all : List ℕ} → i < length ws → length ws ≡ n
-    → v ≡ register_word m address → take i ws ++ registers m address (n - i) ≡ all
-    → take (i + 1) (set ws i v) ++ registers m (address + 1) (n - (i + 1)) ≡ all
+pub fill-registers-on : (m : Model) (a n : ℕ) (ws : List ℕ) (i : ℕ) {v : ℕ} {all : List ℕ} → i < length ws → length ws ≡ n
+    → v ≡ register_word m (a + i) → take i ws ++ registers m (a + i) (n - i) ≡ all
+    → take (i + 1) (set ws i v) ++ registers m (a + (i + 1)) (n - (i + 1)) ≡ all
 unfolding registers
-fill-registers-on m address n ws i {v} {all} less long is e =
+fill-registers-on m a n ws i {v} {all} less long is e =
     let left : n - i ≡ suc (n - (i + 1)) = omega arith in
-    let turn : registers m address (n - i) ≡ v ∷ registers m (address + 1) (n - (i + 1)) = rw (is, left) in
-    fill_on ws i v (registers m (address + 1) (n - (i + 1))) less (rw turn at e)
+    let next : a + i + 1 ≡ a + (i + 1) = omega arith in
+    let turn : registers m (a + i) (n - i) ≡ v ∷ registers m (a + (i + 1)) (n - (i + 1)) = rw (is, left, next) in
+    fill_on ws i v (registers m (a + (i + 1)) (n - (i + 1))) less (rw turn at e)
 
-pub fill-registers-end : (m : Model) (address n : ℕ) (ws : List ℕ) (i : ℕ) {all : List ℕ} → length ws ≤ i → length ws ≡ n
-    → take i ws ++ registers m address (n - i) ≡ all → ws ≡ all
+pub fill-registers-end : (m : Model) (a n : ℕ) (ws : List ℕ) (i : ℕ) {all : List ℕ} → length ws ≤ i → length ws ≡ n
+    → take i ws ++ registers m (a + i) (n - i) ≡ all → ws ≡ all
 unfolding registers
-fill-registers-end m address n ws i full long e = let none : n - i ≡ 0 = omega arith in fill_end ws i full (rw none) e
+fill-registers-end m a n ws i full long e = let none : n - i ≡ 0 = omega arith in fill_end ws i full (rw none) e

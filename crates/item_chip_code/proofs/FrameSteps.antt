@@ -5,7 +5,7 @@ use mathlib.Core.Path.{◌≡◌, refl}
 use native.Mathlib.Numerals.{add-one}
 use native.Mathlib.Omega.{arith}
 use lib.Dec.{leb, eqb}
-use lib.ListN.{length, get_or, drop, drop_of_length-le}
+use lib.ListN.{length, get_or, take, drop, drop_of_length-le, length-take, length-drop}
 use lib.Seq.{drop-cons}
 use Rattle.unit.specs.Choice.{pick}
 use Rattle.numeral.specs.Place.{Put}
@@ -45,3 +45,6 @@ pub no-frame : (frame : List ℕ) → length frame ≡ 0 → frame_size frame �
 unfolding frame_size
 no-frame [] none = refl
 no-frame (op ∷ further) none = absurd (omega (arith, none))
+
+pub behind : (frame : List ℕ) → length (take (length frame - 1) (drop 1 frame)) ≡ length frame - 1
+behind frame = rw (length-take, length-drop) (omega arith)

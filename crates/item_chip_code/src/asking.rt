@@ -1,26 +1,24 @@
 // The lines `int`, `awaited` and `regs`.
 ghost use Rattle.std.specs.Prelude.{◌≡◌, get_or};
-ghost use Rattle.device.specs.Event.{is_awaited};
-ghost use Rattle.device.specs.Question.{value_told};
-ghost use Rattle.device.specs.Reply.{flag};
+ghost use Rattle.refusal.specs.Number.{value_told};
 ghost use Rattle.text.specs.OwnPut.{Puts};
 ghost use Rattle.item_answer.specs.Answer.{int_text, awaited_text, ask_told};
 ghost use Rattle.item_line.specs.OwnRead.{as_ask};
 ghost use Rattle.item_chip_code.specs.OwnAnswered.{AnswersBeside, ask_line, ask_further};
 
 use crate::Answered;
-use device::{Model, Schedule, Told};
+use device::Model;
 use item_answer::Carried;
 use item_line::AskRead;
 use item_words_code::register_lines::{put_further_lines, put_register_line};
+use refusal::Refusal;
 use schedule::is_awaited;
 
 // A question changes nothing. Of `regs` the first line is put.
 pub fn ask(c: Carried, a: AskRead, buf: &mut [u8], at: usize) -> Answered
     ensures { AnswersBeside (ask_told (as_ask a)) c buf.old at result buf.new }
 {
-    let m = c.model;
-    let end = put_answer_line(buf, at, m, a);
+    let end = put_answer_line(buf, at, c.model, a);
     Answered {
         carried: c,
         end,
@@ -59,31 +57,20 @@ fn put_interrupt(buf: &mut [u8], at: usize, m: Model) -> usize
 }
 
 // The number told, or 0.
-fn value(told: Told) -> u32
+fn value(told: Result<u32, Refusal>) -> u32
     ensures { result ≡ get_or (value_told told) 0 0 }
 {
     match told {
-        Told::Value(v) => v,
-        Told::Refused(_) => 0,
+        Ok(v) => v,
+        Err(_) => 0,
     }
 }
 
 fn put_awaited(buf: &mut [u8], at: usize, m: Model) -> usize
     ensures { Puts buf.old at (awaited_text m) result buf.new }
 {
-    let flight = m.flight;
-    let temperature = m.temperature;
-    let f = flight.schedule;
-    let t = temperature.schedule;
     let a = numeral::put_text(buf, at, b"awaited ");
-    let b = numeral::put_decimal(buf, a, awaited(f));
+    let b = numeral::put_decimal(buf, a, u64::from(is_awaited(m.flight.schedule)));
     let c = numeral::put_text(buf, b, b" ");
-    numeral::put_decimal(buf, c, awaited(t))
-}
-
-// 1 where a measurement is awaited.
-fn awaited(k: Schedule) -> u64
-    ensures { result ≡ flag (is_awaited k) }
-{
-    if is_awaited(k) { 1 } else { 0 }
+    numeral::put_decimal(buf, c, u64::from(is_awaited(m.temperature.schedule)))
 }

@@ -1,15 +1,12 @@
 // Registers' words held against those wanted.
-ghost use Rattle.std.specs.Prelude.{[], map, ◌≡◌, ◌+◌, ◌≤◌, ◌<◌, eqb, length};
-ghost use Rattle.unit.specs.Choice.{negate};
-ghost use Rattle.numeral.specs.Ascii.{ascii};
-ghost use Rattle.device.specs.Reply.{flag};
-ghost use Rattle.text.specs.Text.{text_where, words, is};
+ghost use Rattle.std.specs.Prelude.{[], map, ◌≡◌, ◌+◌, ◌≤◌, eqb, length};
+ghost use Rattle.text.specs.Text.{text_where, words};
 ghost use Rattle.text.specs.OwnPut.{Puts};
 ghost use Rattle.item_line.specs.OwnBounds.{Fours};
 ghost use Rattle.item_line.specs.Reading.{four_digits};
 ghost use Rattle.item_answer.specs.Step.{expectations};
 ghost use Rattle.item_answer.specs.Words.{differences};
-ghost use Rattle.item_chip_code.specs.OwnCompared.{verdict_after, Judges, Comparing, Compares};
+ghost use Rattle.item_chip_code.specs.OwnCompared.{Judges, Comparing, Compares};
 
 use crate::Compared;
 use item_answer::{Carried, Counts, Stepped};
@@ -33,7 +30,7 @@ pub fn compare(
     let k = numeral::put_text(buf, at, keyword);
     let h = numeral::put_hex(buf, k, 2, a);
     let c = compare_each(buf, h, a, has, wanted);
-    let v = conclude(buf, c.end, c.differ);
+    let v = put_where_none(buf, c.end, c.differ, b" ok");
     let end = numeral::put_text(buf, v, b"\n");
     let adds = Counts {
         calls,
@@ -56,16 +53,12 @@ fn compare_each(buf: &mut [u8], at: usize, a: u32, has: &[u32], wanted: &[u8]) -
         expectations: 0,
         differ: 0,
     };
-    let mut address = a;
     let mut place = 0;
-    let mut i = 0;
-    while i < has.len() {
+    for (i, value) in has.iter().enumerate() {
         let word = next_word(wanted, place);
         let digits = four_digits(part_of(wanted, word));
-        c = judge(buf, c, address, has[i], &digits);
+        c = judge(buf, c, a + i as u32, *value, &digits);
         place = word.end;
-        address += 1;
-        i += 1;
     }
     c
 }
@@ -75,15 +68,11 @@ fn judge(buf: &mut [u8], c: Compared, address: u32, has: u32, wanted: &[u8]) -> 
     requires { (c.differ ≤ 256) × (c.expectations ≤ 256) }
     ensures { Judges c address has wanted.now buf.old result buf.new }
 {
-    let expectations = c.expectations + expected(wanted);
+    let expectations = c.expectations + u64::from(!wants_any(wanted));
     if word_fits(wanted, has) {
-        return Compared {
-            end: c.end,
-            expectations,
-            differ: c.differ,
-        };
+        return Compared { expectations, ..c };
     }
-    let head = put_head(buf, c.end, c.differ);
+    let head = put_where_none(buf, c.end, c.differ, b" differs");
     let end = put_difference(buf, head, address, has, wanted);
     Compared {
         end,
@@ -92,29 +81,12 @@ fn judge(buf: &mut [u8], c: Compared, address: u32, has: u32, wanted: &[u8]) -> 
     }
 }
 
-// 1, but for a word that may be any.
-fn expected(wanted: &[u8]) -> u64
-    ensures { (result ≡ flag (negate (is "xxxx" wanted.now))) × (result ≤ 1) }
-{
-    if wants_any(wanted) { 0 } else { 1 }
-}
-
-// Before the first word that differs.
-fn put_head(buf: &mut [u8], at: usize, differ: u64) -> usize
-    ensures { Puts buf.old at (text_where (eqb differ 0) (ascii " differs")) result buf.new }
+// A text, where no word has differed so far.
+fn put_where_none(buf: &mut [u8], at: usize, differ: u64, text: &[u8]) -> usize
+    ensures { Puts buf.old at (text_where (eqb differ 0) text.now) result buf.new }
 {
     if differ == 0 {
-        return numeral::put_text(buf, at, b" differs");
-    }
-    at
-}
-
-// Where none differs.
-fn conclude(buf: &mut [u8], at: usize, differ: u64) -> usize
-    ensures { Puts buf.old at (verdict_after differ []) result buf.new }
-{
-    if differ == 0 {
-        return numeral::put_text(buf, at, b" ok");
+        return numeral::put_text(buf, at, text);
     }
     at
 }

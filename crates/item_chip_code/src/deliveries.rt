@@ -25,8 +25,7 @@ pub fn flight(
 {
     let ups = first_words(numbers, up);
     let downs = first_words(words_from(numbers, up), down);
-    let m = c.model;
-    let reply = sound_calls::sound_flight_delivery(m, ups, downs);
+    let reply = sound_calls::sound_flight_delivery(c.model, ups, downs);
     deliver(c, reply, b"flight ", buf, at)
 }
 
@@ -35,8 +34,7 @@ pub fn temperature(c: Carried, n: usize, numbers: &[u32], buf: &mut [u8], at: us
     requires { is_sound c.model ≡ true }
     ensures { AnswersBeside (delivery_told "temperature" (Call.temperature (take n numbers.now))) c buf.old at result buf.new }
 {
-    let m = c.model;
-    let reply = sound_calls::sound_temperature_delivery(m, first_words(numbers, n));
+    let reply = sound_calls::sound_temperature_delivery(c.model, first_words(numbers, n));
     deliver(c, reply, b"temperature ", buf, at)
 }
 
@@ -44,13 +42,9 @@ pub fn temperature(c: Carried, n: usize, numbers: &[u32], buf: &mut [u8], at: us
 fn deliver(c: Carried, reply: Reply, keyword: &[u8], buf: &mut [u8], at: usize) -> Answered
     ensures { Tells record { model = reply.model; moment = c.moment; recorded = c.recorded; probes = c.probes } reply.answer keyword.now buf.old at result buf.new }
 {
-    let answer = reply.answer;
-    let model = reply.model;
     let carried = Carried {
-        model,
-        moment: c.moment,
-        recorded: c.recorded,
-        probes: c.probes,
+        model: reply.model,
+        ..c
     };
-    tell(carried, answer, keyword, buf, at)
+    tell(carried, reply.answer, keyword, buf, at)
 }

@@ -48,8 +48,7 @@ pub fn expect(c: Carried, a: u32, text: &[u8], span: Span, buf: &mut [u8], at: u
     let n = count_words(wanted);
     let mut words = [0u32; 80];
     let has = &mut words[..n];
-    let m = c.model;
-    fill_registers(m, a, has);
+    fill_registers(c.model, a, has);
     compare(c, 0, b"expect ", a, has, wanted, buf, at)
 }
 
@@ -66,36 +65,23 @@ fn read_words(c: Carried, a: u32, words: &mut [u32], flash: &mut [u8]) -> Carrie
     let out = &mut buffer[..size];
     let e = exchange(c, frame, out, flash);
     fill_words(out, words);
-    let carried = e.carried;
-    carried
+    e.carried
 }
 
 fn fill_words(bytes: &[u8], words: &mut [u32])
     requires { length bytes.now ≡ 2 * length words.old }
     ensures { words.new ≡ words_of bytes.now }
 {
-    let mut i = 0;
-    while i < words.len() {
-        words[i] = word(bytes[2 * i], bytes[2 * i + 1]);
-        i += 1;
+    for (i, word) in words.iter_mut().enumerate() {
+        *word = u32::from(u16::from_be_bytes([bytes[2 * i], bytes[2 * i + 1]]));
     }
-}
-
-fn word(high: u8, low: u8) -> u32
-    ensures { result ≡ high * 256 + low }
-{
-    high as u32 * 256 + low as u32
 }
 
 fn fill_registers(m: Model, a: u32, words: &mut [u32])
     requires { (176 ≤ a) × (a + length words.old ≤ 256) }
     ensures { words.new ≡ registers m a (length words.old) }
 {
-    let mut address = a;
-    let mut i = 0;
-    while i < words.len() {
-        words[i] = register_word(m, address);
-        address += 1;
-        i += 1;
+    for (i, word) in words.iter_mut().enumerate() {
+        *word = register_word(m, a + i as u32);
     }
 }

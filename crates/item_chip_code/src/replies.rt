@@ -26,10 +26,7 @@ pub fn tell(carried: Carried, answer: Answer, keyword: &[u8], buf: &mut [u8], at
 pub fn is_refusal(answer: Answer) -> bool
     ensures { result ≡ is_refusal answer }
 {
-    match answer {
-        Answer::Refused(_) => true,
-        _ => false,
-    }
+    matches!(answer, Answer::Refused(_))
 }
 
 // Whether a measurement was started.
@@ -37,12 +34,7 @@ fn starts(answer: Answer) -> bool
     ensures { result ≡ Answer·starts answer }
 {
     match answer {
-        Answer::Accepted(flight, temperature) => {
-            if flight {
-                return true;
-            }
-            temperature
-        }
+        Answer::Accepted(flight, temperature) => flight || temperature,
         _ => false,
     }
 }

@@ -20,27 +20,22 @@ pub fn stretch(c: Carried, n: Ticks, buf: &mut [u8], at: usize) -> Answered
     requires { (is_sound c.model ≡ true) × (c.moment + n.0 < 18446744073709551616) }
     ensures { AnswersBeside (stretch_line n.0) c buf.old at result buf.new }
 {
-    let m = c.model;
-    let reply = sound_calls::sound_stretch(m, n);
-    let answer = reply.answer;
-    match answer {
+    let reply = sound_calls::sound_stretch(c.model, n);
+    match reply.answer {
         Answer::Stretched(flight, temperature) => {
             let end = put_stretched(buf, at, n, flight, temperature);
-            let model = reply.model;
             let moment = c.moment + unit::wide(n.0);
-            let carried = Carried {
-                model,
-                moment,
-                recorded: c.recorded,
-                probes: c.probes,
-            };
             Answered {
-                carried,
+                carried: Carried {
+                    model: reply.model,
+                    moment,
+                    ..c
+                },
                 end,
                 refused: false,
             }
         }
-        _ => tell(c, answer, b"stretch ", buf, at),
+        _ => tell(c, reply.answer, b"stretch ", buf, at),
     }
 }
 

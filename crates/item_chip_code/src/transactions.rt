@@ -11,7 +11,6 @@ use crate::frames::{put_words, size_of};
 use crate::replies::{moment_after, tell};
 use crate::{Answered, Exchanged};
 use item_answer::Carried;
-use item_line::OutputRead;
 use item_words_code::answer::put_output;
 use text_code::{first_bytes, first_words};
 
@@ -20,24 +19,22 @@ pub fn exchange(c: Carried, frame: &[u8], out: &mut [u8], flash: &mut [u8]) -> E
     requires { is_sound c.model ≡ true }
     ensures { Exchanges c frame.now out.old flash.old result out.new flash.new }
 {
-    let m = c.model;
-    let reply = bus::sound_transaction(m, frame, out, flash);
-    let answer = reply.answer;
-    let model = reply.model;
-    let moment = moment_after(answer, c.moment);
-    let carried = Carried {
-        model,
-        moment,
-        recorded: c.recorded,
-        probes: c.probes,
-    };
-    Exchanged { carried, answer }
+    let reply = bus::sound_transaction(c.model, frame, out, flash);
+    let moment = moment_after(reply.answer, c.moment);
+    Exchanged {
+        carried: Carried {
+            model: reply.model,
+            moment,
+            ..c
+        },
+        answer: reply.answer,
+    }
 }
 
 // A transaction of the first n numbers.
 pub fn bus(
     c: Carried,
-    output: OutputRead,
+    output: Option<usize>,
     n: usize,
     numbers: &[u32],
     flash: &mut [u8],
@@ -54,15 +51,9 @@ pub fn bus(
     let mut buffer = [238u8; 200];
     let out = &mut buffer[..size];
     let e = exchange(c, frame, out, flash);
-    let answer = e.answer;
-    let carried = e.carried;
-    let told = tell(carried, answer, b"bus ", buf, at);
+    let told = tell(e.carried, e.answer, b"bus ", buf, at);
     let end = put_output(buf, told.end, out);
-    Answered {
-        carried,
-        end,
-        refused: told.refused,
-    }
+    Answered { end, ..told }
 }
 
 // A write of the first n numbers, so many words, from the address a on.
@@ -79,12 +70,9 @@ pub fn set(
     ensures { Answers (set_told a (take n numbers.now)) c flash.old buf.old at result flash.new buf.new }
 {
     let mut bytes = [0u8; 200];
-    let address = [a];
-    let first = numeral::put_low_bytes(&mut bytes, 0, &address);
+    let first = numeral::put_low_bytes(&mut bytes, 0, &[a]);
     let k = put_words(&mut bytes, first, first_words(numbers, n));
     let mut none = [0u8; 0];
     let e = exchange(c, first_bytes(&bytes, k), &mut none, flash);
-    let answer = e.answer;
-    let carried = e.carried;
-    tell(carried, answer, b"set ", buf, at)
+    tell(e.carried, e.answer, b"set ", buf, at)
 }

@@ -6,3 +6,4 @@ pub mod Quietest
 pub mod Judging
 pub mod FrameLines
 pub mod Alone
+pub mod Flags

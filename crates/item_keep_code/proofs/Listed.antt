@@ -1,8 +1,8 @@
 -- The lines of a listing, as they are put into a buffer. Assumes nothing.
 use Prim.Native.Nat.{ℕ, ◌+◌, ◌-◌, ◌*◌, ◌≤◌, ◌<◌}
-use mathlib.Core.Bool.{Bool, false}
+use mathlib.Core.Bool.{Bool, true, false}
 use mathlib.Core.List.{List, [], ◌∷◌, ◌++◌, append-nil, append_assoc}
-use mathlib.Core.Path.{◌≡◌, sym, ap, ◌∙◌}
+use mathlib.Core.Path.{◌≡◌, refl, sym, ap, ◌∙◌}
 use native.Mathlib.Omega.{arith}
 use lib.Dec.{eqb}
 use lib.IntN.{ℤ, nat_abs}
@@ -11,11 +11,9 @@ use lib.Seq.{drop-drop, take_all}
 use borrow.Author.Tests.{eq-eqb, ne_eqb}
 use Rattle.unit.specs.Choice.{pick}
 use Rattle.unit.proofs.Cases.{by-test, by-ltb, by-leb}
-use Rattle.numeral.specs.Digit.{digits}
 use Rattle.numeral.specs.Place.{overwrite}
 use Rattle.numeral.specs.Print.{nanoseconds}
 use Rattle.numeral.proofs.DigitLaws.{length_digits}
-use Rattle.listing.specs.declared.Listed.{Listed}
 use Rattle.listing.specs.declared.Width.{Width}
 use Rattle.listing.specs.Listing.{capture_digits, Outcome, line, lines, line_length, last_above, listing, right_justified}
 use Rattle.text.specs.Text.{Text}
@@ -23,6 +21,10 @@ use Rattle.text.specs.OwnPut.{Puts}
 use Rattle.text.proofs.Putting.{puts_none}
 use Rattle.item_answer.specs.Answer.{Item, listing_told}
 use Rattle.item_keep_code.specs.OwnListed.{listed_at, written_in}
+use Rattle.refusal.specs.declared.Refusal.{Refusal}
+use Rattle.std.specs.Prelude.{Result, Ok, Err}
+use mathlib.Core.Logic.{◌↔◌}
+use Rattle.refusal.specs.Number.{number}
 
 -- A line is at least as long as is reckoned with, whatever its difference.
 justified-least : (text : Text) → 12 ≤ length (right_justified 12 text)
@@ -41,11 +43,11 @@ unfolding lines
 lines-least d first [] = omega arith
 lines-least d first (x ∷ ds) = rw length-append (omega (arith, line-least d first x, lines-least d (first + 1) ds))
 
-of-refused : {n k : ℕ} {G : Type 0} → Listed.Written n ≡ Listed.Refused k → G
+of-refused : {n : ℕ} {k : Refusal} {G : Type 0} → ◌≡◌ {A = Result ℕ Refusal} (Ok n) (Err k) → G
 of-refused e = let z : ◌≡◌ {A = ℕ} 0 1 = cc in absurd (omega arith)
 
-same_number : {n k : ℕ} → Listed.Refused n ≡ Listed.Refused k → n ≡ k
-same_number e = cc
+same_refusal : {n k : Refusal} → ◌≡◌ {A = Result ℕ Refusal} (Err n) (Err k) → n ≡ k
+same_refusal e = cc
 
 answers : {o p : Outcome} → o ≡ p → o.answer ≡ p.answer
 answers e = ap (λ (o : Outcome). o.answer) e
@@ -53,29 +55,38 @@ answers e = ap (λ (o : Outcome). o.answer) e
 bytes : {o p : Outcome} → o ≡ p → o.bytes ≡ p.bytes
 bytes e = ap (λ (o : Outcome). o.bytes) e
 
+pub same_by : (b t : Bool) → ((b ≡ true) ↔ (t ≡ true)) → b ≡ t
+same_by true true i = refl
+same_by true false i = sym (i.0 refl)
+same_by false true i = i.1 refl
+same_by false false i = refl
+
 -- Number 20 is said exactly where the last capture has too many digits.
-module _ (d : ℕ) (ds : List ℤ) (first : ℕ) (out : List ℕ) {a : Listed} {out' : List ℕ}
+module _ (d : ℕ) (ds : List ℤ) (first : ℕ) (out : List ℕ) {a : Result ℕ Refusal} {out' : List ℕ}
     (e : record { answer = a; bytes = out' } ≡ listing d ds first out) where
   abbrev above : Bool
   above = last_above d first (length ds)
 
-  pub above-written : {n : ℕ} → a ≡ Listed.Written n → false ≡ above
+  pub above-written : {n : ℕ} → a ≡ Ok n → false ≡ above
   unfolding listing
   above-written is =
-      by-test above (λ t. let s : a ≡ Listed.Refused 20 = answers e ∙ rw t in of-refused (sym is ∙ s)) (λ t. sym t)
+      by-test above (λ t. let s : a ≡ Err Refusal.LastCapture = answers e ∙ rw t in of-refused (sym is ∙ s)) (λ t. sym t)
 
-  pub above-refused : {n : ℕ} → a ≡ Listed.Refused n → eqb n 20 ≡ above
+  pub above-refused : {r : Refusal} → a ≡ Err r → (r ≡ Refusal.LastCapture) ↔ (above ≡ true)
   unfolding listing
-  above-refused {n} is =
+  above-refused {r} is =
       by-test above
-      (λ t. let s : a ≡ Listed.Refused 20 = answers e ∙ rw t in rw t (eq-eqb n 20 (same_number (sym is ∙ s))))
+      (λ t. let s : a ≡ Err Refusal.LastCapture = answers e ∙ rw t in (λ _. t, λ _. same_refusal (sym is ∙ s)))
       (λ t. by-ltb (length out) (length ds * line_length d)
-      (λ short u. let s : a ≡ Listed.Refused 21 = answers e ∙ rw (t, u) in
-      let other : n ≡ 21 = same_number (sym is ∙ s) in rw t (ne_eqb n 20 (λ z. omega (arith, z, other))))
-      (λ room u. let s : a ≡ Listed.Written (length (lines d first ds)) = answers e ∙ rw (t, u) in of-refused (sym s ∙ is)))
+      (λ short u. let s : a ≡ Err Refusal.ShortListing = answers e ∙ rw (t, u) in
+      let other : r ≡ Refusal.ShortListing = same_refusal (sym is ∙ s) in (
+        λ q. let z : ◌≡◌ {A = ℕ} 21 20 = ap number (sym other ∙ q) in absurd (omega arith),
+        λ q. let z : ◌≡◌ {A = ℕ} 0 1 = cc in absurd (omega arith),
+      ))
+      (λ room u. let s : a ≡ Ok (length (lines d first ds)) = answers e ∙ rw (t, u) in of-refused (sym s ∙ is)))
 
 -- What is put after a place.
-module _ (d : ℕ) (ds : List ℤ) (first : ℕ) (l : List ℕ) (at : ℕ) {a : Listed} {l' : List ℕ}
+module _ (d : ℕ) (ds : List ℤ) (first : ℕ) (l : List ℕ) (at : ℕ) {a : Result ℕ Refusal} {l' : List ℕ}
     (e : record { answer = a; bytes = l' } ≡ listed_at d ds first l at) where
   abbrev text : Text
   text = lines d first ds
@@ -87,23 +98,23 @@ module _ (d : ℕ) (ds : List ℤ) (first : ℕ) (l : List ℕ) (at : ℕ) {a : 
   no_room t h = record { next = λ g. absurd (omega arith); bytes = λ g. absurd (omega arith) }
 
   by-listed : {G : Type 0} →
-      ((n : ℕ) → a ≡ Listed.Refused n → Puts l at further at l' → G) →
-      (a ≡ Listed.Written (length text) → further ≡ text → l' ≡ overwrite l at text → G) →
+      ((n : Refusal) → a ≡ Err n → Puts l at further at l' → G) →
+      (a ≡ Ok (length text) → further ≡ text → l' ≡ overwrite l at text → G) →
       G
   unfolding listed_at listing overwrite
   by-listed {G} none all =
       by-leb at (length l)
       (λ inside t. by-test (last_above d first (length ds))
-      (λ u. let s : a ≡ Listed.Refused 20 = answers e ∙ rw (t, u) in
+      (λ u. let s : a ≡ Err Refusal.LastCapture = answers e ∙ rw (t, u) in
       let k : l' ≡ l = bytes e ∙ rw (t, u) (take-append-drop at l) in
-      none 20 s (rw (u, k) (puts_none l at)))
+      none Refusal.LastCapture s (rw (u, k) (puts_none l at)))
       (λ u. by-ltb (length (drop at l)) (length ds * line_length d)
-      (λ short v. let s : a ≡ Listed.Refused 21 = answers e ∙ rw (t, u, v) in
-      none 21 s (rw u (no_room text (omega (arith, short, length-drop at l, lines-least d first ds)))))
-      (λ room v. let s : a ≡ Listed.Written (length text) = answers e ∙ rw (t, u, v) in
+      (λ short v. let s : a ≡ Err Refusal.ShortListing = answers e ∙ rw (t, u, v) in
+      none Refusal.ShortListing s (rw u (no_room text (omega (arith, short, length-drop at l, lines-least d first ds)))))
+      (λ room v. let s : a ≡ Ok (length text) = answers e ∙ rw (t, u, v) in
       let k : l' ≡ take at l ++ text ++ drop (at + length text) l = bytes e ∙ rw (t, u, v, drop-drop (length text) at l, append_assoc (take at l) text (drop (at + length text) l)) in
       all s (rw u) k)))
-      (λ outside t. let s : a ≡ Listed.Refused 21 = answers e ∙ rw t in none 21 s (no_room further (omega arith)))
+      (λ outside t. let s : a ≡ Err Refusal.ShortListing = answers e ∙ rw t in none Refusal.ShortListing s (no_room further (omega arith)))
 
   pub listed-put : {r : ℕ} → (at + written_in a ≤ length l → r ≡ at + written_in a) → Puts l at further r l'
   unfolding written_in

@@ -5,15 +5,16 @@ use mathlib.Core.Path.{◌≡◌, sym, ap, ◌∙◌}
 use native.Mathlib.Omega.{arith}
 use lib.IntN.{ℤ, nat_abs}
 use lib.ListN.{length, take, drop}
-use Rattle.quietest.specs.declared.Place.{Place}
 use Rattle.quietest.specs.Quietest.{quietest_place, spread, run_spread}
 use Rattle.quietest.proofs.Inside.{by_width, apart, place-within}
 use Rattle.quietest.proofs.Meaning.{printed-spread}
+use Rattle.refusal.specs.declared.Refusal.{Refusal}
+use Rattle.std.specs.Prelude.{Result, Ok}
 
-pub place_same : {p r s : Place} → r ≡ p → r ≡ s → p ≡ s
+pub place_same : {p r s : Result ℕ Refusal} → r ≡ p → r ≡ s → p ≡ s
 place_same same is = sym same ∙ is
 
-module _ (values : List ℤ) (w : ℕ) {r : Place} {start : ℕ} (same : r ≡ quietest_place values w) (is : r ≡ Place.At start) where
+module _ (values : List ℤ) (w : ℕ) {r : Result ℕ Refusal} {start : ℕ} (same : r ≡ quietest_place values w) (is : r ≡ Ok start) where
   pub place-fits : start + w ≤ length values
   place-fits = place-within values w start (place_same same is)
 

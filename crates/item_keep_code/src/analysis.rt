@@ -11,20 +11,15 @@ ghost use Rattle.item_keep_code.specs.OwnListed.{listed_at, written_in};
 
 use crate::Answered;
 use crate::refused::put_refused;
-use listing::{Listed, Width};
-use quietest::Place;
-
-// Numbers of refusals: the last capture has too many digits; the output is too short.
-const LAST_CAPTURE: u32 = 20;
-
-const SHORT_OUTPUT: u32 = 21;
+use listing::Width;
+use refusal::Refusal;
 
 // The line `listing`: how many lines there are, or its refusal.
 pub fn put_listing(buf: &mut [u8], at: usize, kept: &[i32], width: Width, first: u32) -> Answered
     ensures { AnswersFor (λ i. i.recorded ≡ kept.now) buf.old at (listing_told width first) result buf.new }
 {
     if last_above(kept, width, first) {
-        return put_refused(buf, at, b"listing ", LAST_CAPTURE);
+        return put_refused(buf, at, b"listing ", Refusal::LastCapture);
     }
     let a = numeral::put_text(buf, at, b"listing ");
     let end = numeral::put_decimal(buf, a, kept.len() as u64);
@@ -40,8 +35,8 @@ fn last_above(kept: &[i32], width: Width, first: u32) -> bool
 {
     let mut some = [0u8; 1];
     match listing::write_listing_as(width, kept, first, &mut some) {
-        Listed::Written(_) => false,
-        Listed::Refused(number) => number == LAST_CAPTURE,
+        Ok(_) => false,
+        Err(refusal) => refusal == Refusal::LastCapture,
     }
 }
 
@@ -61,22 +56,22 @@ pub fn put_listed(buf: &mut [u8], at: usize, kept: &[i32], width: Width, first: 
     at + length
 }
 
-fn list(buf: &mut [u8], at: usize, kept: &[i32], width: Width, first: u32) -> Listed
+fn list(buf: &mut [u8], at: usize, kept: &[i32], width: Width, first: u32) -> Result<usize, Refusal>
     ensures { record { answer = result; bytes = buf.new } ≡ listed_at (capture_digits width) kept.now first buf.old at }
 {
     if at <= buf.len() {
         return listing::write_listing_as(width, kept, first, &mut buf[at..]);
     }
-    Listed::Refused(SHORT_OUTPUT)
+    Err(Refusal::ShortListing)
 }
 
 // How many bytes were written.
-fn written(listed: Listed) -> usize
+fn written(listed: Result<usize, Refusal>) -> usize
     ensures { result ≡ written_in listed }
 {
     match listed {
-        Listed::Written(n) => n,
-        Listed::Refused(_) => 0,
+        Ok(n) => n,
+        Err(_) => 0,
     }
 }
 
@@ -86,7 +81,7 @@ pub fn put_quietest(buf: &mut [u8], at: usize, kept: &[i32], width: u32) -> Answ
 {
     let w = width as usize;
     match quietest::quietest_place(kept, w) {
-        Place::At(start) => {
+        Ok(start) => {
             let spread = quietest::run_spread(&kept[start..start + w]);
             let end = put_run(buf, at, start as u64, spread);
             Answered {
@@ -94,7 +89,7 @@ pub fn put_quietest(buf: &mut [u8], at: usize, kept: &[i32], width: u32) -> Answ
                 refused: false,
             }
         }
-        Place::Refused(number) => put_refused(buf, at, b"quietest ", number),
+        Err(refusal) => put_refused(buf, at, b"quietest ", refusal),
     }
 }
 

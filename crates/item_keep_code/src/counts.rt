@@ -1,7 +1,5 @@
 // What a line adds to the counts of the last line.
 ghost use Rattle.std.specs.Prelude.{◌≡◌};
-ghost use Rattle.unit.specs.Choice.{both, negate};
-ghost use Rattle.device.specs.Reply.{flag};
 ghost use Rattle.item_answer.specs.Step.{no_tally};
 ghost use Rattle.item_answer.specs.OwnView.{tally_of};
 ghost use Rattle.item_keep_code.specs.OwnJudged.{tallied, bad_tally};
@@ -15,27 +13,12 @@ pub fn told_counts(calls: u64, refused: bool, judged: Judged) -> Counts
 {
     Counts {
         calls,
-        refused: one(refused),
-        unannounced: unannounced(refused, judged.agrees),
+        refused: u64::from(refused),
+        unannounced: u64::from(refused && !judged.agrees),
         bad: 0,
-        expectations: one(judged.expects),
-        differ: one(judged.differs),
+        expectations: u64::from(judged.expects),
+        differ: u64::from(judged.differs),
     }
-}
-
-fn one(b: bool) -> u64
-    ensures { result ≡ flag b }
-{
-    if b { 1 } else { 0 }
-}
-
-fn unannounced(refused: bool, agrees: bool) -> u64
-    ensures { result ≡ flag (both refused (negate agrees)) }
-{
-    if refused {
-        return one(!agrees);
-    }
-    0
 }
 
 // A bad line.
@@ -43,12 +26,8 @@ pub fn bad_counts() -> Counts
     ensures { tally_of result ≡ bad_tally }
 {
     Counts {
-        calls: 0,
-        refused: 0,
-        unannounced: 0,
         bad: 1,
-        expectations: 0,
-        differ: 0,
+        ..no_counts()
     }
 }
 

@@ -11,7 +11,7 @@ ghost use Rattle.item_answer.specs.Answer.{added};
 ghost use Rattle.item_keep_code.specs.OwnAdded.{RecordAdds};
 
 use crate::Added;
-use device::{Model, Told};
+use device::Model;
 
 // How many differences a record has at most.
 const MOST: usize = 4096;
@@ -29,9 +29,8 @@ pub fn put_record(
     requires { (is_sound m ≡ true) × (used ≤ 4096) × (4096 ≤ length kept.old) }
     ensures { RecordAdds buf.old at (added (map signed_of words.now) m) kept.old used result kept.new buf.new }
 {
-    if words.len() == 0 {
-        let one = [tof_diff(m)];
-        return put_added(buf, at, &one, kept, used);
+    if words.is_empty() {
+        return put_added(buf, at, &[tof_diff(m)], kept, used);
     }
     put_added(buf, at, words, kept, used)
 }
@@ -49,8 +48,8 @@ fn word(m: Model, a: u32) -> u32
     ensures { result ≡ register_word m a }
 {
     match question::peek(m, a) {
-        Told::Value(v) => v,
-        Told::Refused(n) => n,
+        Ok(w) => w,
+        Err(_) => 0,
     }
 }
 
@@ -79,10 +78,8 @@ fn add(words: &[u32], kept: &mut [i32], used: usize)
     requires { used + length words.now ≤ length kept.old }
     ensures { take (used + length words.now) kept.new ≡ take used kept.old ++ map signed_of words.now }
 {
-    let mut i = 0;
-    while i < words.len() {
-        kept[used + i] = difference::signed(words[i]);
-        i += 1;
+    for (i, word) in words.iter().enumerate() {
+        kept[used + i] = difference::signed(*word);
     }
 }
 
@@ -99,10 +96,8 @@ fn put_each(buf: &mut [u8], at: usize, words: &[u32]) -> usize
     ensures { Puts buf.old at (spaced_each (map quanta (map signed_of words.now))) result buf.new }
 {
     let mut place = at;
-    let mut i = 0;
-    while i < words.len() {
-        place = put_difference(buf, place, words[i]);
-        i += 1;
+    for word in words {
+        place = put_difference(buf, place, *word);
     }
     place
 }

@@ -1,5 +1,5 @@
 // The line `frames`: the model's set-up as bus frames.
-ghost use Rattle.std.specs.Prelude.{◌≡◌, true, map, ◌+◌, ◌≤◌, min};
+ghost use Rattle.std.specs.Prelude.{◌≡◌, true, map};
 ghost use Rattle.device.specs.Model.{is_sound};
 ghost use Rattle.setup_frames.specs.Sending.{cut};
 ghost use Rattle.text.specs.Text.{ended, ended_each};
@@ -11,7 +11,6 @@ ghost use Rattle.item_keep_code.specs.OwnFrames.{Holds};
 
 use crate::Answered;
 use device::Model;
-use setup_frames::Framed;
 use text_code::{bytes_from, first_bytes, first_words};
 
 // Frames one after the other in the first bytes, and their lengths.
@@ -43,13 +42,11 @@ pub fn put_frame_lines(buf: &mut [u8], at: usize, m: Model) -> usize
     ensures { FurtherFor (λ i. i.model ≡ m) buf.old at frames_told result buf.new }
 {
     let all = frames_of(m);
-    let bytes = all.bytes;
-    let lengths = all.lengths;
     put_each(
         buf,
         at,
-        first_bytes(&bytes, all.used),
-        first_words(&lengths, all.count),
+        first_bytes(&all.bytes, all.used),
+        first_words(&all.lengths, all.count),
     )
 }
 
@@ -59,15 +56,14 @@ fn frames_of(m: Model) -> FrameBytes
 {
     let mut bytes = [0u8; 33];
     let mut lengths = [0u32; 8];
-    let framed = setup_frames::setup_frames(m, &mut bytes, &mut lengths);
-    match framed {
-        Framed::Frames(used, count) => FrameBytes {
+    match setup_frames::setup_frames(m, &mut bytes, &mut lengths) {
+        Ok(counts) => FrameBytes {
             bytes,
             lengths,
-            used,
-            count,
+            used: counts.bytes,
+            count: counts.frames,
         },
-        Framed::Refused(_) => FrameBytes {
+        Err(_) => FrameBytes {
             bytes,
             lengths,
             used: 0,
@@ -81,29 +77,13 @@ fn put_each(buf: &mut [u8], at: usize, bytes: &[u8], lengths: &[u32]) -> usize
     ensures { Puts buf.old at (ended_each (map frame_line (cut lengths.now bytes.now))) result buf.new }
 {
     let mut place = at;
-    let mut from = 0;
-    let mut i = 0;
-    while i < lengths.len() {
-        let n = size(lengths[i]);
-        place = put_line(buf, place, first_bytes(bytes_from(bytes, from), n));
-        from = advanced(from, n, bytes.len());
-        i += 1;
+    let mut left = bytes;
+    for n in lengths {
+        let n = *n as usize;
+        place = put_line(buf, place, first_bytes(left, n));
+        left = bytes_from(left, n);
     }
     place
-}
-
-fn size(n: u32) -> usize
-    ensures { result ≡ n }
-{
-    n as usize
-}
-
-// The place n after `from`, or `end` where that comes first.
-fn advanced(from: usize, n: usize, end: usize) -> usize
-    requires { from ≤ end }
-    ensures { result ≡ min (from + n) end }
-{
-    if end - from < n { end } else { from + n }
 }
 
 fn put_line(buf: &mut [u8], at: usize, frame: &[u8]) -> usize

@@ -1,5 +1,5 @@
 // The line `item`.
-ghost use Rattle.std.specs.Prelude.{◌≡◌, ◌∷◌, length, replicate};
+ghost use Rattle.std.specs.Prelude.{◌≡◌, ◌∷◌, length};
 ghost use Rattle.numeral.specs.Ascii.{ascii};
 ghost use Rattle.device.specs.Model.{fresh_model};
 ghost use Rattle.text.specs.Text.{ended, spaced, spaced_each, words};
@@ -36,7 +36,7 @@ pub fn fresh_item(flash: &mut [u8]) -> Carried
     requires { length flash.old ≡ 8192 }
     ensures { Fresh result flash.new }
 {
-    erase_all(flash);
+    flash.fill(0xff);
     Carried {
         model: fresh(),
         moment: 0,
@@ -49,14 +49,4 @@ fn fresh() -> Model
     ensures { result ≡ fresh_model }
 {
     model::state::fresh_with(status::por_bit())
-}
-
-fn erase_all(flash: &mut [u8])
-    ensures { flash.new ≡ replicate (length flash.old) 255 }
-{
-    let mut i = 0;
-    while i < flash.len() {
-        flash[i] = 255;
-        i += 1;
-    }
 }

@@ -8,25 +8,23 @@ ghost use Rattle.item_line.specs.OwnRead.{as_expected};
 ghost use Rattle.item_keep_code.specs.OwnJudged.{Judges, line_at};
 
 use crate::Judged;
-use item_line::ExpectedRead;
 use text::Span;
 use text_code::{begin_with, count_words, part_of};
 
 // Holds an answer's first line, which stands from `start` to `end`, against what its line expects, and ends it.
-pub fn put_judged(buf: &mut [u8], start: usize, end: usize, text: &[u8], x: ExpectedRead) -> Judged
+pub fn put_judged(buf: &mut [u8], start: usize, end: usize, text: &[u8], x: Option<Span>) -> Judged
     ensures { Judges buf.old end (line_at buf.old start end) (as_expected text.now x) result buf.new }
 {
     match x {
-        ExpectedRead::Unmarked => {
-            let after = numeral::put_text(buf, end, b"\n");
+        None => {
             Judged {
-                end: after,
+                end: numeral::put_text(buf, end, b"\n"),
                 agrees: false,
                 differs: false,
                 expects: false,
             }
         }
-        ExpectedRead::Marked(span) => put_marked(buf, start, end, part_of(text, span)),
+        Some(span) => put_marked(buf, start, end, part_of(text, span)),
     }
 }
 
@@ -37,17 +35,15 @@ fn put_marked(buf: &mut [u8], start: usize, end: usize, wanted: &[u8]) -> Judged
     let expects = 0 < count_words(wanted);
     let span = Span { start, end };
     if begin_with(wanted, part_of(buf, span)) {
-        let after = numeral::put_text(buf, end, b"\n");
         return Judged {
-            end: after,
+            end: numeral::put_text(buf, end, b"\n"),
             agrees: true,
             differs: false,
             expects,
         };
     }
-    let after = put_expected(buf, end, wanted);
     Judged {
-        end: after,
+        end: put_expected(buf, end, wanted),
         agrees: false,
         differs: true,
         expects,

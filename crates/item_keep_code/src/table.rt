@@ -1,5 +1,5 @@
 // The probe table.
-ghost use Rattle.std.specs.Prelude.{◌≡◌, ◌++◌, ◌+◌, ◌≤◌, length, take};
+ghost use Rattle.std.specs.Prelude.{◌≡◌, ◌++◌, ◌+◌, ◌≤◌, length};
 ghost use Rattle.text.specs.OwnPut.{Puts};
 ghost use Rattle.numeral.specs.Ascii.{ascii};
 ghost use Rattle.numeral.specs.Print.{decimal};
@@ -9,7 +9,7 @@ ghost use Rattle.item_keep_code.specs.OwnAnswered.{AnswersFor};
 
 use crate::refused::put_refused;
 use crate::{Added, Answered};
-use thermometer::InDegrees;
+use refusal::Refusal;
 
 // How many entries a table has at most.
 const MOST: usize = 1024;
@@ -32,25 +32,13 @@ pub fn put_probe(
             end: at,
         };
     }
-    add(entries, table, used);
     let count = used + entries.len();
+    table[used..count].copy_from_slice(entries);
     let end = put_count(buf, at, count as u64);
     Added {
         fits: true,
         count,
         end,
-    }
-}
-
-// Entries more after the first `used`.
-fn add(entries: &[u32], table: &mut [u32], used: usize)
-    requires { used + length entries.now ≤ length table.old }
-    ensures { take (used + length entries.now) table.new ≡ take used table.old ++ entries.now }
-{
-    let mut i = 0;
-    while i < entries.len() {
-        table[used + i] = entries[i];
-        i += 1;
     }
 }
 
@@ -67,7 +55,7 @@ pub fn put_degrees(buf: &mut [u8], at: usize, table: &[u32], a: u32, b: u32) -> 
     ensures { AnswersFor (λ i. i.probes ≡ table.now) buf.old at (λ i. degrees_told (degrees_of i.probes a b) i) result buf.new }
 {
     match reading(table, a, b) {
-        InDegrees::Thousandths(n) => {
+        Ok(n) => {
             let p = numeral::put_text(buf, at, b"degrees ");
             let end = numeral::put_thousandths(buf, p, n);
             Answered {
@@ -75,12 +63,12 @@ pub fn put_degrees(buf: &mut [u8], at: usize, table: &[u32], a: u32, b: u32) -> 
                 refused: false,
             }
         }
-        InDegrees::Refused(number) => put_refused(buf, at, b"degrees ", number),
+        Err(refusal) => put_refused(buf, at, b"degrees ", refusal),
     }
 }
 
 // By the item's own table, or PT1000's where it has none.
-fn reading(table: &[u32], a: u32, b: u32) -> InDegrees
+fn reading(table: &[u32], a: u32, b: u32) -> Result<u32, Refusal>
     ensures { result ≡ degrees_of table.now a b }
 {
     if table.len() == 0 {

@@ -14,10 +14,8 @@ use item_answer::Carried;
 pub fn within_types(recorded: &[i32])
     ensures { (n : ℕ) → Quanta (take n recorded.now) }
 {
-    let mut i = 0;
-    while i < recorded.len() {
-        let difference = recorded[i];
-        i += 1;
+    for difference in recorded {
+        let _read = *difference;
     }
 }
 

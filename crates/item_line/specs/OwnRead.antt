@@ -1,13 +1,12 @@
 -- What code has read of a line, as the line that it is. Assumes nothing.
-use Rattle.std.specs.Prelude.{ℕ, List, map, get_or, take, drop}
+use Rattle.std.specs.Prelude.{ℕ, Option, Some, None, List, map, get_or, take, drop}
 use Rattle.difference.specs.Difference.{signed_of}
 use Rattle.item_line.specs.declared.FaultRead.{FaultRead}
-use Rattle.item_line.specs.declared.OutputRead.{OutputRead}
 use Rattle.item_line.specs.declared.CallRead.{CallRead}
 use Rattle.item_line.specs.declared.AskRead.{AskRead}
 use Rattle.item_line.specs.declared.KeepRead.{KeepRead}
-use Rattle.item_line.specs.declared.ExpectedRead.{ExpectedRead}
 use Rattle.item_line.specs.declared.LineRead.{LineRead}
+use Rattle.text.specs.declared.Span.{Span}
 use Rattle.text.specs.Text.{Text, words}
 use Rattle.text.specs.OwnPart.{part}
 use Rattle.item_line.specs.Line.{Fault, Output, Call, Ask, Keep, Expected, Line}
@@ -21,9 +20,9 @@ as_fault text FaultRead.WrongCount = Fault.wrong_count
 as_fault text FaultRead.Past = Fault.past
 as_fault text FaultRead.NoRoom = Fault.no_room
 
-unfoldable pub as_output : OutputRead → Output
-as_output OutputRead.ByFrame = Output.by_frame
-as_output (OutputRead.OutOf n) = Output.out_of n
+unfoldable pub as_output : Option ℕ → Output
+as_output None = Output.by_frame
+as_output (Some n) = Output.out_of n
 
 unfoldable pub as_call : List ℕ → CallRead → Call
 as_call numbers (CallRead.Bus output n) = Call.bus (as_output output) (take n numbers)
@@ -47,9 +46,9 @@ unfoldable pub as_keep : List ℕ → KeepRead → Keep
 as_keep numbers (KeepRead.Probe n) = Keep.probe (take n numbers)
 as_keep numbers (KeepRead.Differences n) = Keep.differences (map signed_of (take n numbers))
 
-unfoldable pub as_expected : Text → ExpectedRead → Expected
-as_expected text ExpectedRead.Unmarked = Expected.unmarked
-as_expected text (ExpectedRead.Marked s) = Expected.marked (words (part text s))
+unfoldable pub as_expected : Text → Option Span → Expected
+as_expected text None = Expected.unmarked
+as_expected text (Some s) = Expected.marked (words (part text s))
 
 unfoldable pub as_line : Text → List ℕ → LineRead → Line
 as_line text numbers LineRead.Silent = Line.silent

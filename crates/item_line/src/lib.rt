@@ -19,14 +19,9 @@ pub enum FaultRead {
 }
 
 #[derive(Clone, Copy)]
-pub enum OutputRead {
-    ByFrame,
-    OutOf(usize),
-}
-
-#[derive(Clone, Copy)]
 pub enum CallRead {
-    Bus(OutputRead, usize),
+    // How many bytes its output buffer has, where the line says so, and how many bytes it sends.
+    Bus(Option<usize>, usize),
     // The address, and how many words.
     Set(u32, usize),
     Tick(Ticks),
@@ -56,13 +51,6 @@ pub enum KeepRead {
     Differences(usize),
 }
 
-// No `=>`, or the part of the line whose words are expected.
-#[derive(Clone, Copy)]
-pub enum ExpectedRead {
-    Unmarked,
-    Marked(Span),
-}
-
 #[derive(Clone, Copy)]
 pub enum LineRead {
     Silent,
@@ -73,7 +61,8 @@ pub enum LineRead {
     // The address, and the part of the line whose words are wanted.
     Expect(u32, Span),
     Read(u32, Span),
-    Call(CallRead, ExpectedRead),
-    Ask(AskRead, ExpectedRead),
-    Keep(KeepRead, ExpectedRead),
+    // These three with the part of the line whose words are expected, where it has a `=>`.
+    Call(CallRead, Option<Span>),
+    Ask(AskRead, Option<Span>),
+    Keep(KeepRead, Option<Span>),
 }

@@ -1,4 +1,5 @@
 -- The lines of the table, each by what is read of its words. Assumes nothing.
+use Rattle.std.specs.Prelude.{Result, Ok, Err}
 use Prim.Native.Nat.{ℕ, zero, suc, ◌-◌, ◌≤◌, ◌<◌}
 use mathlib.Core.Path.{◌≡◌, refl, sym, ◌∙◌}
 use mathlib.Core.Bool.{true, false}
@@ -20,10 +21,7 @@ use Rattle.item_line.specs.Line.{Fault, Output, Call, Keep, Expected, Line}
 use Rattle.item_line.specs.Reading.{Got, got, wrong, hex, decimal, quanta, onto, each, with, counted, one, size, bytes_line, bus_line, flight_parts, flight_line, probe_line, degrees_line, record_line, listing_line}
 use Rattle.item_line.specs.OwnRead.{as_fault}
 use Rattle.item_line_code.specs.declared.Tally.{Tally}
-use Rattle.item_line_code.specs.declared.NumberRead.{NumberRead}
-use Rattle.item_line_code.specs.declared.CountRead.{CountRead}
-use Rattle.item_line_code.specs.declared.AddressRead.{AddressRead}
-use Rattle.item_line_code.specs.OwnNumbers.{read_as, number_in, formed, word_form, flight_form, count_form, quanta_form, all, bad, as_tally, Outcome, tallied}
+use Rattle.item_line_code.specs.OwnNumbers.{read_as, number_in, formed, word_form, flight_form, count_form, quanta_form, all, as_tally, Outcome, tallied}
 use Rattle.item_line_code.specs.OwnLists.{flight_of}
 use Rattle.item_line_code.specs.OwnParts.{Within}
 use Rattle.item_line_code.specs.OwnReads.{number_line, count_line, address_line, WithinRest}
@@ -33,34 +31,34 @@ use Rattle.item_line_code.proofs.ReadLaws.{counted_none, counted-some, counted-f
 
 -- ---- what was read, taken apart
 
-module _ (text : Text) {L : Line} (r : NumberRead) (line : ℕ → Line) (e : number_line text line r ≡ L) where
-  pub number-fault : {f : FaultRead} → r ≡ NumberRead.Fault f → Line.bad (as_fault text f) ≡ L
+module _ (text : Text) {L : Line} (r : Result ℕ FaultRead) (line : ℕ → Line) (e : number_line text line r ≡ L) where
+  pub number-fault : {f : FaultRead} → r ≡ Err f → Line.bad (as_fault text f) ≡ L
   unfolding number_line
   number-fault h = rw h at e
 
-  pub number-value : {n : ℕ} → r ≡ NumberRead.Value n → line n ≡ L
+  pub number-value : {n : ℕ} → r ≡ Ok n → line n ≡ L
   unfolding number_line
   number-value h = rw h at e
 
-module _ (text : Text) (l : List ℕ) {L : Line} (r : CountRead) (line : List ℕ → Line) (e : count_line text l line r ≡ L) where
-  pub numbers-fault : {f : FaultRead} → r ≡ CountRead.Fault f → Line.bad (as_fault text f) ≡ L
+module _ (text : Text) (l : List ℕ) {L : Line} (r : Result ℕ FaultRead) (line : List ℕ → Line) (e : count_line text l line r ≡ L) where
+  pub numbers-fault : {f : FaultRead} → r ≡ Err f → Line.bad (as_fault text f) ≡ L
   unfolding count_line
   numbers-fault h = rw h at e
 
-  pub numbers-count : {n : ℕ} → r ≡ CountRead.Count n → line (take n l) ≡ L
+  pub numbers-count : {n : ℕ} → r ≡ Ok n → line (take n l) ≡ L
   unfolding count_line
   numbers-count h = rw h at e
 
-module _ (text : Text) {L : Line} (r : AddressRead) (line : ℕ → List Text → Line) (e : address_line text line r ≡ L) where
-  pub address-fault : {f : FaultRead} → r ≡ AddressRead.Fault f → Line.bad (as_fault text f) ≡ L
+module _ (text : Text) {L : Line} (r : Result (ℕ × Span) FaultRead) (line : ℕ → List Text → Line) (e : address_line text line r ≡ L) where
+  pub address-fault : {f : FaultRead} → r ≡ Err f → Line.bad (as_fault text f) ≡ L
   unfolding address_line
   address-fault h = rw h at e
 
-  pub address-rest : {a : ℕ} {rest : Span} → r ≡ AddressRead.Address a rest → line a (words (part text rest)) ≡ L
+  pub address-rest : {a : ℕ} {rest : Span} → r ≡ Ok (a, rest) → line a (words (part text rest)) ≡ L
   unfolding address_line
   address-rest h = rw h at e
 
-pub rest-within : (text : Text) (r : AddressRead) → WithinRest text r → {a : ℕ} {rest : Span} → r ≡ AddressRead.Address a rest → Within text rest
+pub rest-within : (text : Text) (r : Result (ℕ × Span) FaultRead) → WithinRest text r → {a : ℕ} {rest : Span} → r ≡ Ok (a, rest) → Within text rest
 unfolding WithinRest
 rest-within text r w h = rw h at w
 
@@ -227,12 +225,12 @@ module _ (x : Expected) {ws : List Text} where
     unfolding degrees_line number_in read_as
     degrees-next b = rw e (second x w rest b)
 
-    module _ (text : Text) (r : NumberRead) (one-is : (line : ℕ → Line) → number_line text line r ≡ one (formed word_form) line rest)
+    module _ (text : Text) (r : Result ℕ FaultRead) (one-is : (line : ℕ → Line) → number_line text line r ≡ one (formed word_form) line rest)
         {a : ℕ} (first : number_in word_form w ≡ Value a) where
-      pub degrees-fault : {f : FaultRead} → r ≡ NumberRead.Fault f → Line.bad (as_fault text f) ≡ degrees_line ws x
+      pub degrees-fault : {f : FaultRead} → r ≡ Err f → Line.bad (as_fault text f) ≡ degrees_line ws x
       degrees-fault h = number-fault text r (λ b. Line.call (Call.degrees a b) x) (one-is (λ b. Line.call (Call.degrees a b) x)) h ∙ degrees-next first
 
-      pub degrees-value : {b : ℕ} → r ≡ NumberRead.Value b → (l : List ℕ) → length l ≡ 512
+      pub degrees-value : {b : ℕ} → r ≡ Ok b → (l : List ℕ) → length l ≡ 512
           → Line.call (Call.degrees (get_or (set (set l 0 a) 1 b) 0 0) (get_or (set (set l 0 a) 1 b) 1 0)) x ≡ degrees_line ws x
       degrees-value {b} h l long =
           let zeroth : get_or (set (set l 0 a) 1 b) 0 0 ≡ a = get_or-set_other (set l 0 a) 1 0 b 0 (λ e. omega (arith, e)) ∙ get_or-set_same l 0 a 0 (omega arith) in

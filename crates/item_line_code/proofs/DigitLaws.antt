@@ -148,3 +148,7 @@ passed-pair {i = i} {v = v} p kind most least pair =
 pub passed_on : {f : Form} {s : List ℕ} {at n i c : ℕ} {l l' : List ℕ} → Passed f s at n l i c l' → (k u : ℕ) {o : Outcome}
     → tallied f n k u l (words (drop at s)) ≡ o → {x : Outcome} → x ≡ tallied f c k u l' (words (drop i s)) → x ≡ o
 passed_on p k u e h = h ∙ p.alike k u ∙ e
+
+-- The same digits, up to an equal place.
+pub digits_to : {s : List ℕ} {i j k m v : ℕ} → j ≡ k → DigitsAt s i j m v → DigitsAt s i k m v
+digits_to e d = rw (← e) d

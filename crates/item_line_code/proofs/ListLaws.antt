@@ -17,7 +17,7 @@ use Rattle.item_line.specs.Line.{Fault, Expected, Line}
 use Rattle.item_line.specs.Reading.{Got, got, wrong, onto, before, each, with, parted, flight_parts}
 use Rattle.item_line_code.specs.declared.Form.{Form}
 use Rattle.item_line_code.specs.declared.ListWord.{ListWord}
-use Rattle.item_line_code.specs.OwnNumbers.{number_in, formed, list_word, Tallied, all, bad, Outcome, tallied}
+use Rattle.item_line_code.specs.OwnNumbers.{number_in, formed, list_word, Tallied, all, Outcome, tallied}
 use Rattle.item_line_code.specs.OwnLists.{prefix, got_of, Counts, flight_of, on_first}
 
 -- what a word is, where it is no slash

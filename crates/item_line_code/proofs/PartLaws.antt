@@ -8,6 +8,7 @@ use native.Mathlib.Nat.{sub-zero}
 use native.Mathlib.Omega.{arith}
 use lib.ListN.{length, take, drop, length-append}
 use lib.Seq.{get_or-take, drop-cons, drop-drop, take-add, take-take, take-nil, take-append_seam}
+use Rattle.std.specs.Prelude.{Option, Some, None}
 use Rattle.unit.specs.Choice.{pick}
 use Rattle.unit.proofs.Cases.{by-test, by_eqb}
 use Rattle.numeral.specs.Ascii.{ascii}
@@ -17,7 +18,6 @@ use Rattle.text.specs.OwnPart.{part}
 use Rattle.text_code.specs.OwnWords.{between, Next}
 use Rattle.item_line.specs.Line.{Expected}
 use Rattle.item_line.specs.Reading.{before_mark, behind_mark, without_comment}
-use Rattle.item_line.specs.declared.ExpectedRead.{ExpectedRead}
 use Rattle.item_line.specs.OwnRead.{as_expected}
 use Rattle.item_line_code.specs.declared.Cut.{Cut}
 use Rattle.item_line_code.specs.OwnParts.{Within, after, Opens, NextIn, is_stop, until_stop, from_stop, CutAt, SplitAt}
@@ -212,7 +212,7 @@ mark-from (w ∷ ws) =
     by-test (is "#" w) (λ e. rw (e, hash-no-mark w e)) (λ e. by-test (is "=>" w) (λ m. rw (e, m) (rw m)) (λ m. rw (e, m, mark-from ws)))
 
 module _ (text : Text) (rest : Span) (within : Within text rest) (r : Cut) (k : CutAt true text rest r) where
-  split-as : (x : ExpectedRead) → as_expected text x ≡ behind_of (from_stop true (words (part text rest)))
+  split-as : (x : Option Span) → as_expected text x ≡ behind_of (from_stop true (words (part text rest)))
       → SplitAt text rest (record { before = record { start = rest.start; end = r.end }; expected = x })
   split-as x e = record {
     within = record { ordered = k.low; high = omega (arith, k.high, within.high); short = omega (arith, k.high, within.short) };
@@ -220,18 +220,18 @@ module _ (text : Text) (rest : Span) (within : Within text rest) (r : Cut) (k : 
     expected = e ∙ mark-from (words (part text rest));
   }
 
-  pub split-none : r.word.end ≤ r.word.start → SplitAt text rest (record { before = record { start = rest.start; end = r.end }; expected = ExpectedRead.Unmarked })
+  pub split-none : r.word.end ≤ r.word.start → SplitAt text rest (record { before = record { start = rest.start; end = r.end }; expected = None })
   unfolding as_expected
-  split-none none = split-as ExpectedRead.Unmarked (rw (k.none none))
+  split-none none = split-as None (rw (k.none none))
 
   pub split-comment : r.word.start < r.word.end → is "=>" (part text r.word) ≡ false
-      → SplitAt text rest (record { before = record { start = rest.start; end = r.end }; expected = ExpectedRead.Unmarked })
+      → SplitAt text rest (record { before = record { start = rest.start; end = r.end }; expected = None })
   unfolding as_expected
-  split-comment some e = split-as ExpectedRead.Unmarked (rw (k.some some, e))
+  split-comment some e = split-as None (rw (k.some some, e))
 
   pub split-mark : r.word.start < r.word.end → is "=>" (part text r.word) ≡ true → {b : Cut} → CutAt false text (after r.word rest) b
-      → SplitAt text rest (record { before = record { start = rest.start; end = r.end }; expected = ExpectedRead.Marked (record { start = r.word.end; end = b.end }) })
+      → SplitAt text rest (record { before = record { start = rest.start; end = r.end }; expected = Some (record { start = r.word.end; end = b.end }) })
   unfolding as_expected
   split-mark some e {b} h =
-      split-as (ExpectedRead.Marked (record { start = r.word.end; end = b.end }))
+      split-as (Some (record { start = r.word.end; end = b.end }))
       (rw (k.some some, e) (ap Expected.marked (h.before ∙ comment-cut (words (part text (after r.word rest))))))

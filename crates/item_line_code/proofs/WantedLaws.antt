@@ -1,14 +1,15 @@
 -- What the words that are wanted come to. Assumes nothing.
+use Rattle.std.specs.Prelude.{Result, Ok, Err}
 use Prim.Native.Nat.{ℕ, suc, ◌+◌, ◌-◌, ◌≤◌, ◌<◌}
 use mathlib.Core.Path.{◌≡◌, refl, sym, ap, ◌∙◌}
-use mathlib.Core.Bool.{true, false}
+use mathlib.Core.Bool.{Bool, true, false, not, ◌&&◌}
+use Rattle.std.specs.List.{list_all}
 use mathlib.Core.List.{List, [], ◌∷◌, ◌++◌, map, append-nil, append_assoc}
-use native.Mathlib.Numerals.{add-one}
 use native.Mathlib.Omega.{arith}
-use lib.ListN.{length, get_or, take, drop, length-append, drop_of_length-le}
-use lib.Seq.{drop-cons, take_all, take-append_seam, take-append-add}
+use lib.ListN.{length, take, length-append}
+use lib.Seq.{take_all, take-append_seam, take-append-add}
 use lib.Dec.{ltb}
-use Rattle.unit.specs.Choice.{pick}
+use Rattle.unit.specs.Choice.{pick, both, negate}
 use Rattle.unit.proofs.Cases.{by-ltb}
 use Rattle.text.specs.declared.Span.{Span}
 use Rattle.text.specs.Text.{Text, words}
@@ -17,23 +18,22 @@ use Rattle.item_line.specs.Line.{Fault, Wanted, Line}
 use Rattle.item_line.specs.Reading.{Got, got, wrong, is_digit, are_digits, four_digits, is_wanted, wanted, onto, each, addressed, wanted_line}
 use Rattle.item_line.specs.declared.FaultRead.{FaultRead}
 use Rattle.item_line.specs.OwnRead.{as_fault}
-use Rattle.item_line_code.specs.declared.CountRead.{CountRead}
-use Rattle.item_line_code.specs.declared.AddressRead.{AddressRead}
 use Rattle.item_line_code.specs.OwnReads.{wanted_by, wanted_up_to, address_line}
 use Rattle.item_line_code.proofs.ReadLaws.{counted-fits, counted-few, counted-many}
 use Rattle.item_line_code.proofs.CallLaws.{address-fault, address-rest}
 
-pub digits_more : (s : Text) (i : ℕ) → i < length s → is_digit (get_or s i 0) ≡ true → are_digits (drop (i + 1) s) ≡ are_digits (drop i s)
+pub all-digits : (s : Text) → list_all is_digit s ≡ are_digits s
 unfolding are_digits
-digits_more s i h e = rw (add-one, drop-cons s i 0 h, e)
+all-digits [] = refl
+all-digits (c ∷ cs) = go (is_digit c) (all-digits cs)
+  where
+    go : (t : Bool) → list_all is_digit cs ≡ are_digits cs → (t && list_all is_digit cs) ≡ both t (are_digits cs)
+    go true e = e
+    go false e = refl
 
-pub digits-not : (s : Text) (i : ℕ) → i < length s → is_digit (get_or s i 0) ≡ false → are_digits (drop i s) ≡ false
-unfolding are_digits
-digits-not s i h e = rw (drop-cons s i 0 h, e)
-
-pub digits-end : (s : Text) (i : ℕ) → length s ≤ i → are_digits (drop i s) ≡ true
-unfolding are_digits
-digits-end s i h = rw (drop_of_length-le s h)
+pub not_negate : (t : Bool) → not t ≡ negate t
+not_negate true = refl
+not_negate false = refl
 
 -- ---- words that are judged one after the other
 
@@ -97,8 +97,8 @@ module _ (most : ℕ) (all : List Text) {left : List Text} {c : ℕ} (j : Judged
         let some : take most all ≡ j.front ++ [] = rw (j.whole, exact) (take-append_seam j.front left ∙ sym (append-nil j.front)) in
         rw (some, j.good []) (counted-many 1 most all (line (map four_digits j.front ++ [])) (omega arith))
 
-  pub judged-all : (text : Text) → left ≡ [] → (line : List Wanted → Line) (r : CountRead)
-      → r ≡ pick (ltb c 1) (CountRead.Fault FaultRead.WrongCount) (CountRead.Count c)
+  pub judged-all : (text : Text) → left ≡ [] → (line : List Wanted → Line) (r : Result ℕ FaultRead)
+      → r ≡ pick (ltb c 1) (Err FaultRead.WrongCount) (Ok c)
       → wanted_by text all line r ≡ wanted_up_to most all line
   unfolding each wanted_by as_fault
   judged-all text none line r e =
@@ -110,25 +110,25 @@ module _ (most : ℕ) (all : List Text) {left : List Text} {c : ℕ} (j : Judged
       (λ h t. rw (e, t, reads) (counted-fits 1 most all _ (rw long h) (rw long j.fits)))
 
 -- A line of an address and such words, by what was read of it.
-module _ (text : Text) (r : AddressRead) (ws : List Text) (e : (line : ℕ → List Text → Line) → address_line text line r ≡ addressed 0xB0 0xFF line ws)
+module _ (text : Text) (r : Result (ℕ × Span) FaultRead) (ws : List Text) (e : (line : ℕ → List Text → Line) → address_line text line r ≡ addressed 0xB0 0xFF line ws)
     (line : ℕ → List Wanted → Line) where
   abbrev after : ℕ → List Text → Line
   after a vs = wanted_up_to (256 - a) vs (line a)
 
-  pub no_address : {f : FaultRead} → r ≡ AddressRead.Fault f → Line.bad (as_fault text f) ≡ wanted_line line ws
+  pub no_address : {f : FaultRead} → r ≡ Err f → Line.bad (as_fault text f) ≡ wanted_line line ws
   unfolding wanted_line
   no_address h = address-fault text r after (e after) h
 
-  module _ {a : ℕ} {rest : Span} (h : r ≡ AddressRead.Address a rest) {most : ℕ} (m : most ≡ 256 - a) (k : CountRead)
+  module _ {a : ℕ} {rest : Span} (h : r ≡ Ok (a, rest)) {most : ℕ} (m : most ≡ 256 - a) (k : Result ℕ FaultRead)
       (judged : (to : List Wanted → Line) → wanted_by text (words (part text rest)) to k ≡ wanted_up_to most (words (part text rest)) to) where
     from-address : wanted_by text (words (part text rest)) (line a) k ≡ wanted_line line ws
     unfolding wanted_line
     from-address = judged (line a) ∙ rw m (address-rest text r after (e after) h)
 
-    pub words-fault : {f : FaultRead} → k ≡ CountRead.Fault f → Line.bad (as_fault text f) ≡ wanted_line line ws
+    pub words-fault : {f : FaultRead} → k ≡ Err f → Line.bad (as_fault text f) ≡ wanted_line line ws
     unfolding wanted_by
     words-fault i = rw i at from-address
 
-    pub words_count : {n : ℕ} → k ≡ CountRead.Count n → line a (map four_digits (words (part text rest))) ≡ wanted_line line ws
+    pub words_count : {n : ℕ} → k ≡ Ok n → line a (map four_digits (words (part text rest))) ≡ wanted_line line ws
     unfolding wanted_by
     words_count i = rw i at from-address

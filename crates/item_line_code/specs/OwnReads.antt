@@ -1,35 +1,32 @@
 -- What has been read of a line, as the line that it gives. Assumes nothing.
-use Rattle.std.specs.Prelude.{ℕ, Bool, true, false, List, map, ◌≡◌, take, drop}
+use Rattle.std.specs.Prelude.{ℕ, Option, Result, Ok, Err, Bool, true, false, List, map, ◌≡◌, take, drop}
 use Rattle.listing.specs.declared.Width.{Width}
 use Rattle.text.specs.declared.Span.{Span}
 use Rattle.text.specs.Text.{Text}
 use Rattle.item_line.specs.Line.{Call, Expected, Wanted, Line}
 use Rattle.item_line.specs.Reading.{four_digits, hex, count, wanted, each, with, counted, one, addressed, table, read_by, without_comment, worded}
-use Rattle.item_line.specs.declared.ExpectedRead.{ExpectedRead}
+use Rattle.item_line.specs.declared.FaultRead.{FaultRead}
 use Rattle.item_line.specs.declared.LineRead.{LineRead}
 use Rattle.item_line.specs.OwnRead.{as_fault, as_expected, as_line}
 use Rattle.item_line_code.specs.declared.Form.{Form}
-use Rattle.item_line_code.specs.declared.CountRead.{CountRead}
-use Rattle.item_line_code.specs.declared.NumberRead.{NumberRead}
-use Rattle.item_line_code.specs.declared.AddressRead.{AddressRead}
 use Rattle.item_line_code.specs.declared.Counted.{Counted}
 use Rattle.item_line_code.specs.OwnNumbers.{formed}
 use Rattle.item_line_code.specs.OwnParts.{Within, words_in}
 
 -- Of a number.
-unfoldable pub number_line : Text → (ℕ → Line) → NumberRead → Line
-number_line text line (NumberRead.Fault f) = Line.bad (as_fault text f)
-number_line text line (NumberRead.Value n) = line n
+unfoldable pub number_line : Text → (ℕ → Line) → Result ℕ FaultRead → Line
+number_line text line (Err f) = Line.bad (as_fault text f)
+number_line text line (Ok n) = line n
 
 -- Of numbers that were stored.
-unfoldable pub count_line : Text → List ℕ → (List ℕ → Line) → CountRead → Line
-count_line text l line (CountRead.Fault f) = Line.bad (as_fault text f)
-count_line text l line (CountRead.Count n) = line (take n l)
+unfoldable pub count_line : Text → List ℕ → (List ℕ → Line) → Result ℕ FaultRead → Line
+count_line text l line (Err f) = Line.bad (as_fault text f)
+count_line text l line (Ok n) = line (take n l)
 
 -- Of words that are wanted.
-unfoldable pub wanted_by : Text → List Text → (List Wanted → Line) → CountRead → Line
-wanted_by text ws line (CountRead.Fault f) = Line.bad (as_fault text f)
-wanted_by text ws line (CountRead.Count n) = line (map four_digits ws)
+unfoldable pub wanted_by : Text → List Text → (List Wanted → Line) → Result ℕ FaultRead → Line
+wanted_by text ws line (Err f) = Line.bad (as_fault text f)
+wanted_by text ws line (Ok n) = line (map four_digits ws)
 
 -- What 1 to `most` such words should give; no more are judged.
 abbrev pub wanted_up_to : ℕ → List Text → (List Wanted → Line) → Line
@@ -41,13 +38,13 @@ wanted_of true a ps = Line.read a ps
 wanted_of false a ps = Line.expect a ps
 
 -- Of an address and further words.
-unfoldable pub address_line : Text → (ℕ → List Text → Line) → AddressRead → Line
-address_line text line (AddressRead.Fault f) = Line.bad (as_fault text f)
-address_line text line (AddressRead.Address a rest) = line a (words_in text rest)
+unfoldable pub address_line : Text → (ℕ → List Text → Line) → Result (ℕ × Span) FaultRead → Line
+address_line text line (Err f) = Line.bad (as_fault text f)
+address_line text line (Ok (a, rest)) = line a (words_in text rest)
 
-unfoldable pub WithinRest : Text → AddressRead → Type 0
-WithinRest text (AddressRead.Fault f) = Unit
-WithinRest text (AddressRead.Address a rest) = Within text rest
+unfoldable pub WithinRest : Text → Result (ℕ × Span) FaultRead → Type 0
+WithinRest text (Err f) = Unit
+WithinRest text (Ok (a, rest)) = Within text rest
 
 -- The calls of one decimal.
 unfoldable pub counted_call : Counted → ℕ → Call
@@ -58,12 +55,17 @@ counted_call Counted.Quietest n = Call.quietest n
 
 -- ---- what a function that reads a part promises
 
+-- A line that was read, or why it is no call.
+unfoldable pub as_read : Text → List ℕ → Result LineRead FaultRead → Line
+as_read text numbers (Err f) = Line.bad (as_fault text f)
+as_read text numbers (Ok line) = as_line text numbers line
+
 -- The line that it read is the one that the part's words should give.
-abbrev pub Gives : (List Text → Line) → Text → Span → List ℕ → LineRead → Type 0
-Gives line text rest numbers r = as_line text numbers r ≡ line (words_in text rest)
+abbrev pub Gives : (List Text → Line) → Text → Span → List ℕ → Result LineRead FaultRead → Type 0
+Gives line text rest numbers r = as_read text numbers r ≡ line (words_in text rest)
 
 -- The same of a line that may expect an answer.
-abbrev pub Says : (List Text → Expected → Line) → Text → Span → ExpectedRead → List ℕ → LineRead → Type 0
+abbrev pub Says : (List Text → Expected → Line) → Text → Span → Option Span → List ℕ → Result LineRead FaultRead → Type 0
 Says line text rest expected = Gives (λ ws. line ws (as_expected text expected)) text rest
 
 -- The lines of one decimal, of one listing, and of words before a comment.
@@ -81,18 +83,18 @@ abbrev pub table_from : ℕ → Text → List Text → Expected → Line
 table_from n w = read_by (drop n table) w
 
 -- Whatever the line is, what was read gives it as the part's words should.
-abbrev pub OneRead : Form → Text → Span → NumberRead → Type 0
+abbrev pub OneRead : Form → Text → Span → Result ℕ FaultRead → Type 0
 OneRead form text rest r = (line : ℕ → Line) → number_line text line r ≡ one (formed form) line (words_in text rest)
 
-abbrev pub CountsRead : Form → ℕ → ℕ → Text → Span → List ℕ → CountRead → Type 0
+abbrev pub CountsRead : Form → ℕ → ℕ → Text → Span → List ℕ → Result ℕ FaultRead → Type 0
 CountsRead form least most text rest numbers r =
     let ws = words_in text rest in
     (line : List ℕ → Line) → count_line text numbers line r ≡ with (each (formed form) ws) (λ ns. counted least most ws (line ns))
 
-abbrev pub AddressedRead : ℕ → ℕ → Text → Span → AddressRead → Type 0
+abbrev pub AddressedRead : ℕ → ℕ → Text → Span → Result (ℕ × Span) FaultRead → Type 0
 AddressedRead low high text rest r =
     (line : ℕ → List Text → Line) → address_line text line r ≡ addressed low high line (words_in text rest)
 
-abbrev pub WantedRead : ℕ → Text → Span → CountRead → Type 0
+abbrev pub WantedRead : ℕ → Text → Span → Result ℕ FaultRead → Type 0
 WantedRead most text rest r =
     (line : List Wanted → Line) → wanted_by text (words_in text rest) line r ≡ wanted_up_to most (words_in text rest) line

@@ -1,5 +1,5 @@
 // The lines that may end with `=>`, each by the words after its first.
-ghost use Rattle.std.specs.Prelude.{◌≡◌, List, ℕ, ◌-◌, length, take, drop};
+ghost use Rattle.std.specs.Prelude.{◌≡◌, List, ℕ, length, take, drop};
 ghost use Rattle.numeral.specs.Read.{read_decimal};
 ghost use Rattle.text.specs.Text.{is};
 ghost use Rattle.item_line.specs.Reading.{bytes_line, bus_line, set_line, flight_line, temperature_line, probe_line, degrees_line, record_line, listing_line};
@@ -11,8 +11,8 @@ ghost use Rattle.item_line_code.specs.OwnReads.{counted_call, counted_line, list
 use crate::numbers::{number_in, store};
 use crate::parts::next_in;
 use crate::reads::{address_in, counted_numbers, numbers_in, one_number};
-use crate::{AddressRead, CountRead, Counted, Form, Kind, NumberRead, Tally};
-use item_line::{CallRead, ExpectedRead, FaultRead, KeepRead, LineRead, OutputRead};
+use crate::{Counted, Form, Kind, Tally};
+use item_line::{CallRead, FaultRead, KeepRead, LineRead};
 use listing::Width;
 use numeral::Number;
 use text::Span;
@@ -23,9 +23,9 @@ use unit::Ticks;
 pub(crate) fn decimal_line(
     text: &[u8],
     rest: Span,
-    expected: ExpectedRead,
+    expected: Option<Span>,
     counted: Counted,
-) -> LineRead
+) -> Result<LineRead, FaultRead>
     requires { Within text.now rest }
     ensures { (l : List ℕ) → Says (counted_line counted) text.now rest expected l result }
 {
@@ -35,10 +35,8 @@ pub(crate) fn decimal_line(
         most: 8,
         slash: false,
     };
-    match one_number(text, rest, form) {
-        NumberRead::Fault(fault) => LineRead::Bad(fault),
-        NumberRead::Value(n) => LineRead::Call(counted_call(counted, n), expected),
-    }
+    let n = one_number(text, rest, form)?;
+    Ok(LineRead::Call(counted_call(counted, n), expected))
 }
 
 fn counted_call(counted: Counted, n: u32) -> CallRead
@@ -55,9 +53,9 @@ fn counted_call(counted: Counted, n: u32) -> CallRead
 pub(crate) fn bus_line(
     text: &[u8],
     rest: Span,
-    expected: ExpectedRead,
+    expected: Option<Span>,
     numbers: &mut [u32],
-) -> LineRead
+) -> Result<LineRead, FaultRead>
     requires { Within text.now rest × (length numbers.old ≡ 512) }
     ensures { Says bus_line text.now rest expected numbers.new result }
 {
@@ -65,7 +63,7 @@ pub(crate) fn bus_line(
     let start = word.start;
     let end = word.end;
     if end <= start {
-        return bytes_line(text, rest, OutputRead::ByFrame, expected, numbers);
+        return bytes_line(text, rest, None, expected, numbers);
     }
     if is_out(&text[start..end]) {
         let bytes = Span {
@@ -73,27 +71,21 @@ pub(crate) fn bus_line(
             end: rest.end,
         };
         match size(&text[start..end]) {
-            Number::Bad => LineRead::Bad(FaultRead::BadNumber(word)),
-            Number::Value(n) => bytes_line(
-                text,
-                bytes,
-                OutputRead::OutOf(n as usize),
-                expected,
-                numbers,
-            ),
+            Number::Bad => Err(FaultRead::BadNumber(word)),
+            Number::Value(n) => bytes_line(text, bytes, Some(n as usize), expected, numbers),
         }
     } else {
-        bytes_line(text, rest, OutputRead::ByFrame, expected, numbers)
+        bytes_line(text, rest, None, expected, numbers)
     }
 }
 
 fn bytes_line(
     text: &[u8],
     rest: Span,
-    output: OutputRead,
-    expected: ExpectedRead,
+    output: Option<usize>,
+    expected: Option<Span>,
     numbers: &mut [u32],
-) -> LineRead
+) -> Result<LineRead, FaultRead>
     requires { Within text.now rest × (length numbers.old ≡ 512) }
     ensures { Says (bytes_line (as_output output)) text.now rest expected numbers.new result }
 {
@@ -103,10 +95,8 @@ fn bytes_line(
         most: 2,
         slash: false,
     };
-    match counted_numbers(text, rest, form, 0, 200, numbers) {
-        CountRead::Fault(fault) => LineRead::Bad(fault),
-        CountRead::Count(n) => LineRead::Call(CallRead::Bus(output, n), expected),
-    }
+    let n = counted_numbers(text, rest, form, 0, 200, numbers)?;
+    Ok(LineRead::Call(CallRead::Bus(output, n), expected))
 }
 
 // A word that begins with `out=`.
@@ -126,9 +116,9 @@ fn size(word: &[u8]) -> Number
 pub(crate) fn set_line(
     text: &[u8],
     rest: Span,
-    expected: ExpectedRead,
+    expected: Option<Span>,
     numbers: &mut [u32],
-) -> LineRead
+) -> Result<LineRead, FaultRead>
     requires { Within text.now rest × (length numbers.old ≡ 512) }
     ensures { Says set_line text.now rest expected numbers.new result }
 {
@@ -138,21 +128,17 @@ pub(crate) fn set_line(
         most: 4,
         slash: false,
     };
-    match address_in(text, rest, 0x30, 0x43) {
-        AddressRead::Fault(fault) => LineRead::Bad(fault),
-        AddressRead::Address(a, words) => match counted_numbers(text, words, form, 1, 99, numbers) {
-            CountRead::Fault(fault) => LineRead::Bad(fault),
-            CountRead::Count(n) => LineRead::Call(CallRead::Set(a, n), expected),
-        },
-    }
+    let (a, words) = address_in(text, rest, 0x30, 0x43)?;
+    let n = counted_numbers(text, words, form, 1, 99, numbers)?;
+    Ok(LineRead::Call(CallRead::Set(a, n), expected))
 }
 
 pub(crate) fn flight_line(
     text: &[u8],
     rest: Span,
-    expected: ExpectedRead,
+    expected: Option<Span>,
     numbers: &mut [u32],
-) -> LineRead
+) -> Result<LineRead, FaultRead>
     requires { Within text.now rest × (length numbers.old ≡ 512) }
     ensures { Says flight_line text.now rest expected numbers.new result }
 {
@@ -163,43 +149,34 @@ pub(crate) fn flight_line(
         slash: true,
     };
     match numbers_in(text, rest, form, numbers) {
-        Tally::Wrong(word) => LineRead::Bad(FaultRead::BadNumber(word)),
+        Tally::Wrong(word) => Err(FaultRead::BadNumber(word)),
         Tally::All { count, slashes, up } => {
             if slashes != 1 {
-                return LineRead::Bad(FaultRead::WrongCount);
+                return Err(FaultRead::WrongCount);
             }
             if 16 < up {
-                return LineRead::Bad(FaultRead::WrongCount);
+                return Err(FaultRead::WrongCount);
             }
-            let down = less(count, up);
+            let down = count.saturating_sub(up);
             if 16 < down {
-                return LineRead::Bad(FaultRead::WrongCount);
+                return Err(FaultRead::WrongCount);
             }
-            LineRead::Call(CallRead::Flight(up, down), expected)
+            Ok(LineRead::Call(CallRead::Flight(up, down), expected))
         }
     }
-}
-
-// a - b, or 0.
-fn less(a: usize, b: usize) -> usize
-    ensures { result ≡ a - b }
-{
-    if a < b { 0 } else { a - b }
 }
 
 pub(crate) fn temperature_line(
     text: &[u8],
     rest: Span,
-    expected: ExpectedRead,
+    expected: Option<Span>,
     numbers: &mut [u32],
-) -> LineRead
+) -> Result<LineRead, FaultRead>
     requires { Within text.now rest × (length numbers.old ≡ 512) }
     ensures { Says temperature_line text.now rest expected numbers.new result }
 {
-    match counted_numbers(text, rest, word_form(), 0, 16, numbers) {
-        CountRead::Fault(fault) => LineRead::Bad(fault),
-        CountRead::Count(n) => LineRead::Call(CallRead::Temperature(n), expected),
-    }
+    let n = counted_numbers(text, rest, word_form(), 0, 16, numbers)?;
+    Ok(LineRead::Call(CallRead::Temperature(n), expected))
 }
 
 // One to eight hexadecimal digits.
@@ -220,9 +197,9 @@ const EVERY: usize = 1000;
 pub(crate) fn probe_line(
     text: &[u8],
     rest: Span,
-    expected: ExpectedRead,
+    expected: Option<Span>,
     numbers: &mut [u32],
-) -> LineRead
+) -> Result<LineRead, FaultRead>
     requires { Within text.now rest × (length numbers.old ≡ 512) }
     ensures { Says probe_line text.now rest expected numbers.new result }
 {
@@ -232,18 +209,16 @@ pub(crate) fn probe_line(
         most: 8,
         slash: false,
     };
-    match counted_numbers(text, rest, form, 1, EVERY, numbers) {
-        CountRead::Fault(fault) => LineRead::Bad(fault),
-        CountRead::Count(n) => LineRead::Keep(KeepRead::Probe(n), expected),
-    }
+    let n = counted_numbers(text, rest, form, 1, EVERY, numbers)?;
+    Ok(LineRead::Keep(KeepRead::Probe(n), expected))
 }
 
 pub(crate) fn record_line(
     text: &[u8],
     rest: Span,
-    expected: ExpectedRead,
+    expected: Option<Span>,
     numbers: &mut [u32],
-) -> LineRead
+) -> Result<LineRead, FaultRead>
     requires { Within text.now rest × (length numbers.old ≡ 512) }
     ensures { Says record_line text.now rest expected numbers.new result }
 {
@@ -253,18 +228,16 @@ pub(crate) fn record_line(
         most: 8,
         slash: false,
     };
-    match counted_numbers(text, rest, form, 0, EVERY, numbers) {
-        CountRead::Fault(fault) => LineRead::Bad(fault),
-        CountRead::Count(n) => LineRead::Keep(KeepRead::Differences(n), expected),
-    }
+    let n = counted_numbers(text, rest, form, 0, EVERY, numbers)?;
+    Ok(LineRead::Keep(KeepRead::Differences(n), expected))
 }
 
 pub(crate) fn degrees_line(
     text: &[u8],
     rest: Span,
-    expected: ExpectedRead,
+    expected: Option<Span>,
     numbers: &mut [u32],
-) -> LineRead
+) -> Result<LineRead, FaultRead>
     requires { Within text.now rest × (length numbers.old ≡ 512) }
     ensures { Says degrees_line text.now rest expected numbers.new result }
 {
@@ -272,28 +245,28 @@ pub(crate) fn degrees_line(
     let start = word.start;
     let end = word.end;
     if end <= start {
-        return LineRead::Bad(FaultRead::WrongCount);
+        return Err(FaultRead::WrongCount);
     }
     match number_in(&text[start..end], word_form()) {
-        Number::Bad => LineRead::Bad(FaultRead::BadNumber(word)),
+        Number::Bad => Err(FaultRead::BadNumber(word)),
         Number::Value(a) => {
             let other = Span {
                 start: end,
                 end: rest.end,
             };
-            match one_number(text, other, word_form()) {
-                NumberRead::Fault(fault) => LineRead::Bad(fault),
-                NumberRead::Value(b) => {
-                    store(numbers, 0, a);
-                    store(numbers, 1, b);
-                    LineRead::Call(CallRead::Degrees, expected)
-                }
-            }
+            let b = one_number(text, other, word_form())?;
+            store(numbers, 0, a);
+            store(numbers, 1, b);
+            Ok(LineRead::Call(CallRead::Degrees, expected))
         }
     }
 }
 
-pub(crate) fn listing_line(text: &[u8], rest: Span, expected: ExpectedRead) -> LineRead
+pub(crate) fn listing_line(
+    text: &[u8],
+    rest: Span,
+    expected: Option<Span>,
+) -> Result<LineRead, FaultRead>
     requires { Within text.now rest }
     ensures { (l : List ℕ) → Says listing_line text.now rest expected l result }
 {
@@ -301,7 +274,7 @@ pub(crate) fn listing_line(text: &[u8], rest: Span, expected: ExpectedRead) -> L
     let start = word.start;
     let end = word.end;
     if end <= start {
-        return LineRead::Bad(FaultRead::WrongCount);
+        return Err(FaultRead::WrongCount);
     }
     if same(&text[start..end], b"old") {
         let other = Span {
@@ -314,12 +287,15 @@ pub(crate) fn listing_line(text: &[u8], rest: Span, expected: ExpectedRead) -> L
     }
 }
 
-fn listing_of(text: &[u8], rest: Span, expected: ExpectedRead, width: Width) -> LineRead
+fn listing_of(
+    text: &[u8],
+    rest: Span,
+    expected: Option<Span>,
+    width: Width,
+) -> Result<LineRead, FaultRead>
     requires { Within text.now rest }
     ensures { (l : List ℕ) → Says (listing_of width) text.now rest expected l result }
 {
-    match one_number(text, rest, word_form()) {
-        NumberRead::Fault(fault) => LineRead::Bad(fault),
-        NumberRead::Value(c) => LineRead::Call(CallRead::Listing(width, c), expected),
-    }
+    let c = one_number(text, rest, word_form())?;
+    Ok(LineRead::Call(CallRead::Listing(width, c), expected))
 }

@@ -10,7 +10,6 @@ mod reads;
 mod table;
 mod wanted;
 
-use item_line::{ExpectedRead, FaultRead};
 pub use line::read_line;
 use text::Span;
 
@@ -75,28 +74,7 @@ pub struct Cut {
 #[derive(Clone, Copy)]
 pub struct Split {
     pub before: Span,
-    pub expected: ExpectedRead,
-}
-
-// A number, or why the line is no call.
-#[derive(Clone, Copy)]
-pub enum NumberRead {
-    Fault(FaultRead),
-    Value(u32),
-}
-
-// How many words were read.
-#[derive(Clone, Copy)]
-pub enum CountRead {
-    Fault(FaultRead),
-    Count(usize),
-}
-
-// An address, and the part of the line after it.
-#[derive(Clone, Copy)]
-pub enum AddressRead {
-    Fault(FaultRead),
-    Address(u32, Span),
+    pub expected: Option<Span>,
 }
 
 // The calls of one decimal.

@@ -22,9 +22,11 @@ pub fn read_line(text: &[u8], numbers: &mut [u32]) -> LineRead
 {
     let n = content_length(text);
     if 1000 < n {
-        LineRead::Bad(FaultRead::TooLong)
-    } else {
-        words_line(text, Span { start: 0, end: n }, numbers)
+        return LineRead::Bad(FaultRead::TooLong);
+    }
+    match words_line(text, Span { start: 0, end: n }, numbers) {
+        Ok(line) => line,
+        Err(fault) => LineRead::Bad(fault),
     }
 }
 
@@ -39,18 +41,18 @@ fn content_length(text: &[u8]) -> usize
     if text[n - 1] == 13 { n - 1 } else { n }
 }
 
-fn words_line(text: &[u8], rest: Span, numbers: &mut [u32]) -> LineRead
+fn words_line(text: &[u8], rest: Span, numbers: &mut [u32]) -> Result<LineRead, FaultRead>
     requires { Within text.now rest × (length numbers.old ≡ 512) }
     ensures { Gives words_line text.now rest numbers.new result }
 {
     let word = next_in(text, rest);
     let end = word.end;
     if end <= word.start {
-        return LineRead::Silent;
+        return Ok(LineRead::Silent);
     }
     let w = part_of(text, word);
     if same(first_bytes(w, 1), b"#") {
-        return LineRead::Silent;
+        return Ok(LineRead::Silent);
     }
     let further = Span {
         start: end,
@@ -62,20 +64,20 @@ fn words_line(text: &[u8], rest: Span, numbers: &mut [u32]) -> LineRead
     worded(text, word, further, numbers)
 }
 
-fn item_line(text: &[u8], rest: Span) -> LineRead
+fn item_line(text: &[u8], rest: Span) -> Result<LineRead, FaultRead>
     requires { Within text.now rest }
     ensures { (l : List ℕ) → Gives item_line text.now rest l result }
 {
     let word = next_in(text, rest);
     if word.end <= word.start {
-        LineRead::Bad(FaultRead::WrongCount)
+        Err(FaultRead::WrongCount)
     } else {
-        LineRead::Item(rest)
+        Ok(LineRead::Item(rest))
     }
 }
 
 // A line's words before its comment, by the first.
-fn worded(text: &[u8], word: Span, rest: Span, numbers: &mut [u32]) -> LineRead
+fn worded(text: &[u8], word: Span, rest: Span, numbers: &mut [u32]) -> Result<LineRead, FaultRead>
     requires { Within text.now rest × Opens text.now rest.start rest.end × (length numbers.old ≡ 512) }
     ensures { Gives (worded_line (part text.now word)) text.now rest numbers.new result }
 {

@@ -20,6 +20,7 @@ pub(crate) fn tally(s: &[u8], at: usize, form: Form, numbers: &mut [u32]) -> Tal
     let mut count: usize = 0;
     let mut slashes: usize = 0;
     let mut up: usize = 0;
+    // A while: it goes from word to word, many of them at once where they are clean.
     while i < s.len() {
         let clean = clean_numbers(s, i, form, count, numbers);
         let n = clean.count;
@@ -67,10 +68,9 @@ fn list_word(word: &[u8], form: Form) -> ListWord
 pub(crate) fn number_in(word: &[u8], form: Form) -> Number
     ensures { result ≡ number_in form word.now }
 {
-    let kind = form.kind;
-    match kind {
+    match form.kind {
         Kind::Hex => numeral::read_hex(word, form.least, form.most),
-        Kind::Count => numeral::read_decimal(word, 4294967295),
+        Kind::Count => numeral::read_decimal(word, u32::MAX),
         Kind::Quanta => numeral::read_signed(word),
     }
 }
@@ -78,7 +78,7 @@ pub(crate) fn number_in(word: &[u8], form: Form) -> Number
 fn is_slash(slash: bool, word: &[u8]) -> bool
     ensures { result ≡ both slash (is "/" word.now) }
 {
-    if slash { same(word, b"/") } else { false }
+    slash && same(word, b"/")
 }
 
 // The numbers before the first slash, at another slash.

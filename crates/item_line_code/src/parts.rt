@@ -3,7 +3,6 @@ ghost use Rattle.std.specs.Prelude.{◌≡◌};
 ghost use Rattle.item_line_code.specs.OwnParts.{Within, Opens, NextIn, is_stop, CutAt, SplitAt};
 
 use crate::{Cut, Split};
-use item_line::ExpectedRead;
 use text::Span;
 use text_code::{next_word, same};
 
@@ -23,6 +22,7 @@ pub(crate) fn cut(text: &[u8], rest: Span, marks: bool) -> Cut
 {
     let end = rest.end;
     let mut i = rest.start;
+    // A while: it goes from word to word, and the answer needs their places.
     while i < end {
         let word = next_in(text, Span { start: i, end });
         let from = word.start;
@@ -44,10 +44,7 @@ pub(crate) fn cut(text: &[u8], rest: Span, marks: bool) -> Cut
 fn is_stop(word: &[u8], marks: bool) -> bool
     ensures { result ≡ is_stop marks word.now }
 {
-    if same(word, b"#") {
-        return true;
-    }
-    if marks { same(word, b"=>") } else { false }
+    same(word, b"#") || marks && same(word, b"=>")
 }
 
 // A line's words before its mark and before its comment, and what it expects.
@@ -65,7 +62,7 @@ pub(crate) fn split(text: &[u8], rest: Span) -> Split
     if to <= from {
         return Split {
             before,
-            expected: ExpectedRead::Unmarked,
+            expected: None,
         };
     }
     if same(&text[from..to], b"=>") {
@@ -76,7 +73,7 @@ pub(crate) fn split(text: &[u8], rest: Span) -> Split
         let after = cut(text, further, false);
         Split {
             before,
-            expected: ExpectedRead::Marked(Span {
+            expected: Some(Span {
                 start: to,
                 end: after.end,
             }),
@@ -84,7 +81,7 @@ pub(crate) fn split(text: &[u8], rest: Span) -> Split
     } else {
         Split {
             before,
-            expected: ExpectedRead::Unmarked,
+            expected: None,
         }
     }
 }

@@ -8,7 +8,7 @@ ghost use Rattle.item_line_code.specs.OwnReads.{WithinRest, Gives, OneRead, Coun
 
 use crate::numbers::{number_in, tally};
 use crate::parts::next_in;
-use crate::{AddressRead, CountRead, Form, NumberRead, Tally};
+use crate::{Form, Tally};
 use item_line::{FaultRead, LineRead};
 use numeral::Number;
 use text::Span;
@@ -30,30 +30,30 @@ pub(crate) fn counted_numbers(
     least: usize,
     most: usize,
     numbers: &mut [u32],
-) -> CountRead
+) -> Result<usize, FaultRead>
     requires { Within text.now rest × (length numbers.old ≡ 512) × (form.slash ≡ false) }
     ensures { CountsRead form least most text.now rest numbers.new result }
 {
     match numbers_in(text, rest, form, numbers) {
-        Tally::Wrong(word) => CountRead::Fault(FaultRead::BadNumber(word)),
+        Tally::Wrong(word) => Err(FaultRead::BadNumber(word)),
         Tally::All {
             count,
             slashes: _,
             up: _,
         } => {
             if count < least {
-                return CountRead::Fault(FaultRead::WrongCount);
+                return Err(FaultRead::WrongCount);
             }
             if most < count {
-                return CountRead::Fault(FaultRead::WrongCount);
+                return Err(FaultRead::WrongCount);
             }
-            CountRead::Count(count)
+            Ok(count)
         }
     }
 }
 
 // One number and no further word.
-pub(crate) fn one_number(text: &[u8], rest: Span, form: Form) -> NumberRead
+pub(crate) fn one_number(text: &[u8], rest: Span, form: Form) -> Result<u32, FaultRead>
     requires { Within text.now rest }
     ensures { OneRead form text.now rest result }
 {
@@ -61,10 +61,10 @@ pub(crate) fn one_number(text: &[u8], rest: Span, form: Form) -> NumberRead
     let start = word.start;
     let end = word.end;
     if end <= start {
-        return NumberRead::Fault(FaultRead::WrongCount);
+        return Err(FaultRead::WrongCount);
     }
     match number_in(&text[start..end], form) {
-        Number::Bad => NumberRead::Fault(FaultRead::BadNumber(word)),
+        Number::Bad => Err(FaultRead::BadNumber(word)),
         Number::Value(v) => {
             let more = next_in(
                 text,
@@ -74,29 +74,34 @@ pub(crate) fn one_number(text: &[u8], rest: Span, form: Form) -> NumberRead
                 },
             );
             if more.end <= more.start {
-                NumberRead::Value(v)
+                Ok(v)
             } else {
-                NumberRead::Fault(FaultRead::WrongCount)
+                Err(FaultRead::WrongCount)
             }
         }
     }
 }
 
 // A line that has no further word.
-pub(crate) fn alone(text: &[u8], rest: Span, line: LineRead) -> LineRead
+pub(crate) fn alone(text: &[u8], rest: Span, line: LineRead) -> Result<LineRead, FaultRead>
     requires { Within text.now rest }
     ensures { (l : List ℕ) → Gives (Reading·alone (as_line text.now l line)) text.now rest l result }
 {
     let word = next_in(text, rest);
     if word.end <= word.start {
-        line
+        Ok(line)
     } else {
-        LineRead::Bad(FaultRead::WrongCount)
+        Err(FaultRead::WrongCount)
     }
 }
 
 // An address from `low` to `high`.
-pub(crate) fn address_in(text: &[u8], rest: Span, low: u32, high: u32) -> AddressRead
+pub(crate) fn address_in(
+    text: &[u8],
+    rest: Span,
+    low: u32,
+    high: u32,
+) -> Result<(u32, Span), FaultRead>
     requires { Within text.now rest }
     ensures addressed_read { AddressedRead low high text.now rest result }
     ensures within { WithinRest text.now result }
@@ -105,24 +110,22 @@ pub(crate) fn address_in(text: &[u8], rest: Span, low: u32, high: u32) -> Addres
     let start = word.start;
     let end = word.end;
     if end <= start {
-        return AddressRead::Fault(FaultRead::WrongCount);
+        return Err(FaultRead::WrongCount);
     }
     match numeral::read_hex(&text[start..end], 2, 2) {
-        Number::Bad => AddressRead::Fault(FaultRead::BadNumber(word)),
+        Number::Bad => Err(FaultRead::BadNumber(word)),
         Number::Value(a) => {
             if a < low {
-                return AddressRead::Fault(FaultRead::BadNumber(word));
+                return Err(FaultRead::BadNumber(word));
             }
             if high < a {
-                return AddressRead::Fault(FaultRead::BadNumber(word));
+                return Err(FaultRead::BadNumber(word));
             }
-            AddressRead::Address(
-                a,
-                Span {
-                    start: end,
-                    end: rest.end,
-                },
-            )
+            let words = Span {
+                start: end,
+                end: rest.end,
+            };
+            Ok((a, words))
         }
     }
 }

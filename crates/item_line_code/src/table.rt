@@ -10,7 +10,7 @@ use crate::calls::{
     set_line, temperature_line,
 };
 use crate::reads::alone;
-use item_line::{AskRead, CallRead, ExpectedRead, FaultRead, LineRead};
+use item_line::{AskRead, CallRead, FaultRead, LineRead};
 use text::Span;
 use text_code::{part_of, same};
 
@@ -18,9 +18,9 @@ pub(crate) fn marked_line(
     text: &[u8],
     word: Span,
     rest: Span,
-    expected: ExpectedRead,
+    expected: Option<Span>,
     numbers: &mut [u32],
-) -> LineRead
+) -> Result<LineRead, FaultRead>
     requires { Within text.now rest × (length numbers.old ≡ 512) }
     ensures { Says (table_from 0 (part text.now word)) text.now rest expected numbers.new result }
 {
@@ -44,9 +44,9 @@ fn delivery_line(
     text: &[u8],
     word: Span,
     rest: Span,
-    expected: ExpectedRead,
+    expected: Option<Span>,
     numbers: &mut [u32],
-) -> LineRead
+) -> Result<LineRead, FaultRead>
     requires { Within text.now rest × (length numbers.old ≡ 512) }
     ensures { Says (table_from 4 (part text.now word)) text.now rest expected numbers.new result }
 {
@@ -73,9 +73,9 @@ fn other_line(
     text: &[u8],
     word: Span,
     rest: Span,
-    expected: ExpectedRead,
+    expected: Option<Span>,
     numbers: &mut [u32],
-) -> LineRead
+) -> Result<LineRead, FaultRead>
     requires { Within text.now rest × (length numbers.old ≡ 512) }
     ensures { Says (table_from 9 (part text.now word)) text.now rest expected numbers.new result }
 {
@@ -99,9 +99,9 @@ fn last_line(
     text: &[u8],
     word: Span,
     rest: Span,
-    expected: ExpectedRead,
+    expected: Option<Span>,
     numbers: &mut [u32],
-) -> LineRead
+) -> Result<LineRead, FaultRead>
     requires { Within text.now rest × (length numbers.old ≡ 512) }
     ensures { Says (table_from 13 (part text.now word)) text.now rest expected numbers.new result }
 {
@@ -115,5 +115,5 @@ fn last_line(
     if same(w, b"quietest") {
         return decimal_line(text, rest, expected, Counted::Quietest);
     }
-    LineRead::Bad(FaultRead::UnknownWord(word))
+    Err(FaultRead::UnknownWord(word))
 }

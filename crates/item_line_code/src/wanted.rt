@@ -1,38 +1,30 @@
 // Words that are wanted of registers.
-ghost use Rattle.std.specs.Prelude.{◌≡◌, List, ℕ, ◌-◌, ltb};
+ghost use Rattle.std.specs.Prelude.{◌≡◌, List, ℕ, ◌-◌, ltb, Ok, Err};
 ghost use Rattle.unit.specs.Choice.{pick};
 ghost use Rattle.item_line.specs.Reading.{is_digit, are_digits, is_wanted, wanted_line};
 ghost use Rattle.item_line.specs.declared.FaultRead.TheVariants.{WrongCount};
-ghost use Rattle.item_line_code.specs.declared.CountRead.TheVariants.{Fault, Count};
 ghost use Rattle.item_line_code.specs.OwnParts.{Within};
 ghost use Rattle.item_line_code.specs.OwnReads.{wanted_of, Gives, WantedRead};
 
 use crate::parts::next_in;
 use crate::reads::address_in;
-use crate::{AddressRead, CountRead};
 use item_line::{FaultRead, LineRead};
 use numeral::hex_digit;
 use text::Span;
 use text_code::{first_bytes, same};
 
 // A `read` line or an `expect` line.
-pub(crate) fn wanted_line(text: &[u8], rest: Span, reads: bool) -> LineRead
+pub(crate) fn wanted_line(text: &[u8], rest: Span, reads: bool) -> Result<LineRead, FaultRead>
     requires { Within text.now rest }
     ensures { (l : List ℕ) → Gives (wanted_line (wanted_of reads)) text.now rest l result }
 {
-    match address_in(text, rest, 0xB0, 0xFF) {
-        AddressRead::Fault(fault) => LineRead::Bad(fault),
-        AddressRead::Address(a, words) => match wanted_words(text, words, most_from(a)) {
-            CountRead::Fault(fault) => LineRead::Bad(fault),
-            CountRead::Count(_) => {
-                if reads {
-                    LineRead::Read(a, words)
-                } else {
-                    LineRead::Expect(a, words)
-                }
-            }
-        },
-    }
+    let (a, words) = address_in(text, rest, 0xB0, 0xFF)?;
+    wanted_words(text, words, most_from(a))?;
+    Ok(if reads {
+        LineRead::Read(a, words)
+    } else {
+        LineRead::Expect(a, words)
+    })
 }
 
 // As many words as there are registers from an address on.
@@ -43,13 +35,14 @@ fn most_from(a: u32) -> usize
 }
 
 // One to `most` words that are wanted; no more are judged.
-fn wanted_words(text: &[u8], rest: Span, most: usize) -> CountRead
+fn wanted_words(text: &[u8], rest: Span, most: usize) -> Result<usize, FaultRead>
     requires { Within text.now rest }
     ensures { WantedRead most text.now rest result }
 {
     let end = rest.end;
     let mut i = rest.start;
     let mut count: usize = 0;
+    // A while: it goes from word to word, and a fault names a word by its place.
     while i < end {
         let word = next_in(text, Span { start: i, end });
         let from = word.start;
@@ -58,25 +51,25 @@ fn wanted_words(text: &[u8], rest: Span, most: usize) -> CountRead
             return some_of(count);
         }
         if most <= count {
-            return CountRead::Fault(FaultRead::WrongCount);
+            return Err(FaultRead::WrongCount);
         }
         if is_wanted(&text[from..to]) {
             count += 1;
             i = to;
         } else {
-            return CountRead::Fault(FaultRead::BadNumber(word));
+            return Err(FaultRead::BadNumber(word));
         }
     }
     some_of(count)
 }
 
-fn some_of(count: usize) -> CountRead
-    ensures { result ≡ pick (ltb count 1) (Fault WrongCount) (Count count) }
+fn some_of(count: usize) -> Result<usize, FaultRead>
+    ensures { result ≡ pick (ltb count 1) (Err WrongCount) (Ok count) }
 {
     if count < 1 {
-        CountRead::Fault(FaultRead::WrongCount)
+        Err(FaultRead::WrongCount)
     } else {
-        CountRead::Count(count)
+        Ok(count)
     }
 }
 
@@ -90,33 +83,17 @@ fn is_wanted(word: &[u8]) -> bool
     if 4 < word.len() {
         return false;
     }
-    if are_digits(word) {
-        if same(first_bytes(word, 2), b"0x") {
-            false
-        } else {
-            true
-        }
-    } else {
-        false
-    }
+    are_digits(word) && !same(first_bytes(word, 2), b"0x")
 }
 
 fn are_digits(word: &[u8]) -> bool
     ensures { result ≡ are_digits word.now }
 {
-    let mut i = 0;
-    while i < word.len() {
-        if is_digit(word[i]) {
-            i += 1;
-        } else {
-            return false;
-        }
-    }
-    true
+    word.iter().all(|c| is_digit(*c))
 }
 
 fn is_digit(c: u8) -> bool
     ensures { result ≡ is_digit c }
 {
-    if c == 0x78 { true } else { hex_digit(c) < 16 }
+    c == b'x' || hex_digit(c) < 16
 }

@@ -180,7 +180,7 @@ next-group k e f = rw (e, f)
 pub not-refused : (m : Model) (op : ℕ) (a : Answer) → OneOf (1 ∷ 2 ∷ 3 ∷ 4 ∷ 5 ∷ []) (tag_of the_type a)
     → ascii "ok" ≡ answer_text m op (number_in a)
 unfolding number_in answer_text
-not-refused m op (Refused n) h = absurd (miss (1 ∷ 2 ∷ 3 ∷ 4 ∷ 5 ∷ []) 0 tt h)
+not-refused m op (Refused r) h = absurd (miss (1 ∷ 2 ∷ 3 ∷ 4 ∷ 5 ∷ []) 0 tt h)
 not-refused m op (Accepted f t) h = refl
 not-refused m op (Ticked f t) h = refl
 not-refused m op (Stretched f t) h = refl

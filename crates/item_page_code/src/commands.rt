@@ -1,4 +1,5 @@
 // What the model would answer to commands. The model that a transaction leaves is dropped.
+ghost use Rattle.refusal.specs.Number.{number};
 ghost use Rattle.std.specs.Prelude.{◌≡◌, [], ◌∷◌, ◌++◌, drop};
 ghost use Rattle.unit.specs.Choice.{pick};
 ghost use Rattle.text.specs.Text.{ended, ended_each, spaced_each};
@@ -11,8 +12,8 @@ ghost use Rattle.item_page_code.specs.OwnWords.{answer_to, text_to};
 use crate::words::word;
 use device::{Answer, Model};
 use item_page_form::put_form;
-use item_words_code::refusal::put_refusal;
-use model::refusal::SET_UP;
+use item_words_code::refusals::put_refusal;
+use refusal::Refusal;
 
 pub fn put_commands(buf: &mut [u8], at: usize, m: Model) -> usize
     ensures { Puts buf.old at (ended_each (command_rows m)) result buf.new }
@@ -88,16 +89,16 @@ fn put_answer(buf: &mut [u8], at: usize, m: Model, op: u32, answer: Answer) -> u
     ensures { Puts buf.old at (answer_text m op (number_in answer)) result buf.new }
 {
     match answer {
-        Answer::Refused(number) => put_refused(buf, at, m, op, number),
+        Answer::Refused(refusal) => put_refused(buf, at, m, op, refusal),
         _ => numeral::put_text(buf, at, b"ok"),
     }
 }
 
-fn put_refused(buf: &mut [u8], at: usize, m: Model, op: u32, number: u32) -> usize
-    ensures { Puts buf.old at (answer_text m op (number ∷ [])) result buf.new }
+fn put_refused(buf: &mut [u8], at: usize, m: Model, op: u32, refusal: Refusal) -> usize
+    ensures { Puts buf.old at (answer_text m op (number refusal ∷ [])) result buf.new }
 {
-    let a = put_refusal(buf, at, number);
-    if number == SET_UP {
+    let a = put_refusal(buf, at, refusal.number());
+    if refusal == Refusal::SetUp {
         let b = numeral::put_text(buf, a, b":");
         return put_fields(buf, b, m, op);
     }
@@ -150,8 +151,5 @@ fn put_clock_fields(buf: &mut [u8], at: usize, judged: bool, w: u32) -> usize
 fn is_event(op: u32) -> bool
     ensures { result ≡ is_event op }
 {
-    if op < 7 {
-        return false;
-    }
-    op <= 9
+    7 <= op && op <= 9
 }

@@ -84,10 +84,7 @@ fn put_event(buf: &mut [u8], at: usize, k: Schedule) -> usize
 fn starts_left(k: Schedule) -> bool
     ensures { result ≡ starts_left k }
 {
-    if k.continuous {
-        return true;
-    }
-    if k.started < k.planned { true } else { false }
+    k.continuous || k.started < k.planned
 }
 
 fn put_wait(buf: &mut [u8], at: usize, k: Schedule) -> usize

@@ -44,10 +44,7 @@ pub fn put_status(buf: &mut [u8], at: usize, w: u32) -> usize
 fn takes_two(w: u32) -> bool
     ensures { result ≡ both (leb 256 w) (negate (eqb (w % 256) 0)) }
 {
-    if w < 256 {
-        return false;
-    }
-    if w % 256 == 0 { false } else { true }
+    256 <= w && w % 256 != 0
 }
 
 fn put_high(buf: &mut [u8], at: usize, w: u32) -> usize

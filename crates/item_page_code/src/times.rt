@@ -106,8 +106,5 @@ fn put_difference(buf: &mut [u8], at: usize, w: u32, up: u32) -> usize
 fn failed(w: u32, up: u32) -> bool
     ensures { result ≡ both (eqb up blanked) (eqb w blanked) }
 {
-    if up == BLANKED {
-        return w == BLANKED;
-    }
-    false
+    up == BLANKED && w == BLANKED
 }

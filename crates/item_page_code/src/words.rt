@@ -17,10 +17,8 @@ pub fn page_words(m: Model) -> [u32; 80]
     ensures { result ≡ page_words m }
 {
     let mut words = [0u32; 80];
-    let mut i = 0;
-    while i < 80 {
+    for i in 0..80 {
         words[i] = word(m, 0xb0 + i as u32);
-        i += 1;
     }
     words
 }

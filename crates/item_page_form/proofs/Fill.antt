@@ -1,6 +1,8 @@
 -- A form is filled in byte by byte. Assumes nothing.
 use Prim.Native.Nat.{ℕ, suc, ◌+◌, ◌-◌, ◌≤◌, ◌<◌}
 use mathlib.Core.Path.{◌≡◌, ◌∙◌}
+use mathlib.Core.Logic.{◌⊎◌, inl, inr}
+use Rattle.numeral.specs.Digit.{digits}
 use mathlib.Core.List.{List, [], ◌∷◌, ◌++◌}
 use native.Mathlib.Nat.{sub_self}
 use native.Mathlib.Numerals.{add-one}
@@ -69,3 +71,26 @@ pub twice : (text : ℕ → Text) {l l' l'' k : List ℕ} {at q r s x a b : ℕ}
     → Puts l at (pair_then x (text x ++ rest)) s k
 twice text {l} {l'} {l''} {k} {at} {q} {r} {s} {x} {a} {b} {rest} e f pair said after =
     let second : Puts l' q (text x) r l'' = rw f at said in rw e at (pair.on (text x ++ rest) s k (puts_then second after))
+
+-- A piece of four hexadecimal digits.
+pub word-piece : (p : List ℕ) (v w : ℕ) (rest : Text) {c : ℕ} → c ≡ get_or p 0 0 → (c ≡ 36) ⊎ (c ≡ 64) → piece_then p v w rest ≡ digits 16 4 v ++ rest
+unfolding piece_then
+word-piece p v w rest is (inl e) = rw (← is, e)
+word-piece p v w rest is (inr e) = rw (← is, e)
+
+-- A piece that stands for itself: its first byte is none of these.
+pub record Plain (c : ℕ) : Type 0 where
+  pub n35 : ¬ (c ≡ 35)
+  pub n36 : ¬ (c ≡ 36)
+  pub n37 : ¬ (c ≡ 37)
+  pub n38 : ¬ (c ≡ 38)
+  pub n63 : ¬ (c ≡ 63)
+  pub n64 : ¬ (c ≡ 64)
+  pub n60 : ¬ (c ≡ 60)
+  pub n61 : ¬ (c ≡ 61)
+  pub n62 : ¬ (c ≡ 62)
+
+pub other-piece : (p : List ℕ) (v w : ℕ) (rest : Text) {c : ℕ} → c ≡ get_or p 0 0 → Plain c → piece_then p v w rest ≡ p ++ rest
+unfolding piece_then
+other-piece p v w rest {c} is n =
+    rw (← is, ne_eqb c 35 n.n35, ne_eqb c 36 n.n36, ne_eqb c 37 n.n37, ne_eqb c 38 n.n38, ne_eqb c 63 n.n63, ne_eqb c 64 n.n64, ne_eqb c 60 n.n60, ne_eqb c 61 n.n61, ne_eqb c 62 n.n62)

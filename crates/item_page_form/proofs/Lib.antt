@@ -1,3 +1,2 @@
 pub mod Fill
 pub mod Justified
-pub mod Part

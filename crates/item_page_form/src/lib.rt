@@ -22,9 +22,8 @@ pub fn put_form(buf: &mut [u8], at: usize, form: &[u8], values: &[u32], first: u
     let mut place = at;
     let mut start = 0;
     let mut next = first;
-    let mut i = 0;
-    while i < form.len() {
-        if form[i] == b'|' {
+    for (i, c) in form.iter().enumerate() {
+        if *c == b'|' {
             let piece = &form[start..i];
             place = put_piece(
                 buf,
@@ -36,7 +35,6 @@ pub fn put_form(buf: &mut [u8], at: usize, form: &[u8], values: &[u32], first: u
             next += takes(byte(piece, 0));
             start = i + 1;
         }
-        i += 1;
     }
     place
 }

@@ -1,5 +1,5 @@
 -- Answers of questions in plain words and numbers. Assumes nothing.
-use Rattle.std.proofs.Common.{◌≡◌, ℕ, false, List, [], ◌∷◌, refl}
+use Rattle.std.proofs.Common.{◌≡◌, ℕ, false, [], ◌∷◌, refl}
 use Prim.Native.String.{String}
 use Rattle.numeral.specs.Ascii.{ascii}
 use Rattle.numeral.specs.Digit.{digits, glyph}

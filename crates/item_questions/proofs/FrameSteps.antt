@@ -1,5 +1,5 @@
 -- The turns of the loop over frames. Assumes nothing.
-use Rattle.std.proofs.Common.{◌≡◌, ℕ, zero, suc, ◌+◌, ◌-◌, ◌<◌, ◌≤◌, min, Bool, true, false, cond, List, [], ◌∷◌, ◌++◌, map, length, get_or, take, drop, sym, refl, ap, ◌∙◌, append_assoc, add-one, arith, length-drop, drop_of_length-le, drop-cons}
+use Rattle.std.proofs.Common.{◌≡◌, ℕ, zero, suc, ◌+◌, ◌<◌, ◌≤◌, min, true, false, List, [], ◌∷◌, ◌++◌, map, length, get_or, take, drop, sym, ap, refl, ◌∙◌, append_assoc, add-one, arith, drop_of_length-le, drop-cons}
 use native.Mathlib.Decide.{dec_le}
 use lib.ListN.{length-map}
 use lib.Seq.{drop-nil, take-append_seam, drop-append_seam}
@@ -8,8 +8,6 @@ use Rattle.numeral.specs.Place.{Placed, put_each}
 use Rattle.device.specs.declared.Model.{Model}
 use Rattle.device.specs.Model.{is_sound}
 use Rattle.device.specs.Call.{Verdict, accepted, first_of}
-use Rattle.setup_frames.specs.declared.Framed.{Framed}
-use Rattle.setup_frames.specs.declared.Framed.TheVariants.{Refused, Frames}
 use Rattle.setup_frames.specs.Frames.{frames, all_bytes, lengths_of, over, frames_verdict, answer_by, bytes_by, lengths_by, Written}
 use Rattle.wording.specs.Text.{PutEach}
 use Rattle.wording.specs.Wording.{frame_texts, frame_lines, frames_refused}
@@ -17,6 +15,10 @@ use Rattle.wording.proofs.Each.{each-then, each-end}
 use Rattle.item_state.specs.Log.{Log, called}
 use Rattle.item_questions.specs.Answers.{frames_told, frames_line}
 use Rattle.item_questions.specs.Cut.{cut}
+use Rattle.refusal.specs.declared.Refusal.{Refusal}
+use Rattle.std.specs.Prelude.{Result, Ok, Err}
+use Rattle.setup_frames.specs.declared.put.Counts.{Counts}
+use Rattle.refusal.specs.Number.{number}
 
 drop-twice : (a b : ℕ) (l : List ℕ) → drop b (drop a l) ≡ drop (a + b) l
 drop-twice zero b l = let e : 0 + b ≡ b = omega arith in rw e
@@ -65,30 +67,34 @@ cut-back fs bytes lengths =
     let many : length fs ≡ length (map length fs) = sym (length-map fs length) in
     rw (many, take-append_seam (map length fs) (drop (length (map length fs)) lengths)) (cut_all fs (drop (length (all_bytes fs)) bytes))
 
-counts_of : {b n c k : ℕ} → Frames b n ≡ Frames c k → n ≡ k
-counts_of e = cc
+abbrev frames_in : Result Counts Refusal → ℕ
+frames_in (Ok c) = c.frames
+frames_in (Err r) = 0
 
-number_of : {n k : ℕ} → Refused n ≡ Refused k → n ≡ k
-number_of e = cc
+counts_of : {b n c k : ℕ} → ◌≡◌ {A = Result Counts Refusal} (Ok (record { bytes = b; frames = n })) (Ok (record { bytes = c; frames = k })) → n ≡ k
+counts_of e = ap frames_in e
 
-no_frames : {b n k : ℕ} → Frames b n ≡ Refused k → ⊥
+same_refusal : {r s : Refusal} → ◌≡◌ {A = Result Counts Refusal} (Err r) (Err s) → r ≡ s
+same_refusal e = cc
+
+no_frames : {b n : ℕ} {r : Refusal} → ◌≡◌ {A = Result Counts Refusal} (Ok (record { bytes = b; frames = n })) (Err r) → ⊥
 no_frames e = let z : ◌≡◌ {A = ℕ} 0 1 = cc in absurd (omega arith)
 
 -- Buffers of 33 and 8 places hold every set-up's frames, so that a sound model gets them and another one gets number 0.
-module _ (m : Model) {bytes lengths bytes' lengths' : List ℕ} {r : Framed} (long : length bytes ≡ 33) (many : length lengths ≡ 8)
+module _ (m : Model) {bytes lengths bytes' lengths' : List ℕ} {r : Result Counts Refusal} (long : length bytes ≡ 33) (many : length lengths ≡ 8)
     (wrote : Written m bytes lengths r bytes' lengths') where
   sound-verdict : is_sound m ≡ true → frames_verdict m 33 8 ≡ accepted
   unfolding frames_verdict first_of
   sound-verdict sound = rw sound
 
-  unsound-verdict : is_sound m ≡ false → frames_verdict m 33 8 ≡ Verdict.refused 0
+  unsound-verdict : is_sound m ≡ false → frames_verdict m 33 8 ≡ Verdict.refused Refusal.NotSound
   unfolding frames_verdict first_of
   unsound-verdict unsound = rw unsound
 
   fs : List (List ℕ)
   fs = frames m.setup
 
-  whole : is_sound m ≡ true → (r ≡ Frames (length (all_bytes fs)) (length fs)) × (cut bytes' (take (length fs) lengths') ≡ fs)
+  whole : is_sound m ≡ true → (r ≡ Ok (record { bytes = (length (all_bytes fs)); frames = (length fs) })) × (cut bytes' (take (length fs) lengths') ≡ fs)
   unfolding answer_by bytes_by lengths_by fs
   whole sound =
       let v = sound-verdict sound in (
@@ -96,18 +102,18 @@ module _ (m : Model) {bytes lengths bytes' lengths' : List ℕ} {r : Framed} (lo
         rw (rw (long, many, v) at wrote.in_bytes, rw (long, many, v) at wrote.in_lengths) (cut-back fs bytes lengths),
       )
 
-  none : is_sound m ≡ false → r ≡ Refused 0
+  none : is_sound m ≡ false → r ≡ Err Refusal.NotSound
   unfolding answer_by
   none unsound = rw (long, many, unsound-verdict unsound) at wrote.answer.same
 
-  pub frames-told : {b n : ℕ} → r ≡ Frames b n → (l : Log) → frames_told n (cut bytes' (take n lengths')) l ≡ frames_line m l
+  pub frames-told : {b n : ℕ} → r ≡ Ok (record { bytes = b; frames = n }) → (l : Log) → frames_told n (cut bytes' (take n lengths')) l ≡ frames_line m l
   unfolding frames_line fs
   frames-told {b} {n} e l = by-test (is_sound m)
       (λ sound. let w = whole sound in let k : n ≡ length (frames m.setup) = counts_of (sym e ∙ w.0) in rw (sound, k, w.1))
       (λ unsound. absurd (no_frames (sym e ∙ none unsound)))
 
-  pub refusal-told : {n : ℕ} → r ≡ Refused n → (l : Log) → called 1 (frames_refused n) l ≡ frames_line m l
+  pub refusal-told : {why : Refusal} → r ≡ Err why → (l : Log) → called 1 (frames_refused (number why)) l ≡ frames_line m l
   unfolding frames_line
-  refusal-told {n} e l = by-test (is_sound m)
+  refusal-told {why} e l = by-test (is_sound m)
       (λ sound. absurd (no_frames (sym (whole sound).0 ∙ e)))
-      (λ unsound. let k : n ≡ 0 = number_of (sym e ∙ none unsound) in rw (unsound, k))
+      (λ unsound. let k : why ≡ Refusal.NotSound = same_refusal (sym e ∙ none unsound) in rw (unsound, k))

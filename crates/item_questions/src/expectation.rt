@@ -1,5 +1,5 @@
 // The lines `expect`.
-ghost use Rattle.std.specs.Prelude.{◌≡◌, if◌then◌else◌, nat_eq};
+ghost use Rattle.std.specs.Prelude.{◌≡◌};
 ghost use Rattle.wording.specs.Text.{PutEach};
 ghost use Rattle.item_questions.specs.Answers.{differing as Answers·differing, pairs, expectation, Expects};
 
@@ -24,20 +24,11 @@ fn differing(m: Model, a: u32, words: &[u32]) -> usize
 {
     let mut n = 0;
     let mut address = a;
-    let mut i = 0;
-    while i < words.len() {
-        n = more(n, differs(word(m, address), words[i]));
-        address = std::num::wrapping_add_u32(address, 1);
-        i += 1;
+    for wanted in words {
+        n = more(n, usize::from(word(m, address) != *wanted));
+        address = address.wrapping_add(1);
     }
     n
-}
-
-// 1 where they differ.
-fn differs(has: u32, wanted: u32) -> usize
-    ensures { result ≡ (if nat_eq has wanted then 0 else 1) }
-{
-    if has == wanted { 0 } else { 1 }
 }
 
 fn put_expectation(out: &mut [u8], at: usize, m: Model, a: u32, words: &[u32], n: usize) -> usize
@@ -54,11 +45,9 @@ fn put_differing(out: &mut [u8], at: usize, m: Model, a: u32, words: &[u32]) -> 
 {
     let mut place = at;
     let mut address = a;
-    let mut i = 0;
-    while i < words.len() {
-        place = phrase::expectation::put_pair(out, place, address, word(m, address), words[i]);
-        address = std::num::wrapping_add_u32(address, 1);
-        i += 1;
+    for wanted in words {
+        place = phrase::expectation::put_pair(out, place, address, word(m, address), *wanted);
+        address = address.wrapping_add(1);
     }
     place
 }

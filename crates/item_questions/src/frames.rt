@@ -8,7 +8,6 @@ ghost use Rattle.item_questions.specs.Cut.{cut};
 use device::Model;
 use item_state::counts::{USED, count, more};
 use item_state::output::{bytes_from, first_bytes, first_words};
-use setup_frames::Framed;
 
 pub fn frames(m: Model, counts: &mut [usize; 22], answers: &mut [u8])
     ensures { record { counts = counts.exit.now; answers = answers.new } ≡ frames_line m record { counts = counts.entry.now; answers = answers.old } }
@@ -17,9 +16,12 @@ pub fn frames(m: Model, counts: &mut [usize; 22], answers: &mut [u8])
     let mut lengths = [0u32; 8];
     let framed = setup_frames::setup_frames(m, &mut bytes, &mut lengths);
     match framed {
-        Framed::Frames(_, n) => tell(&bytes, first_words(&lengths, n), n, counts, answers),
-        Framed::Refused(number) => {
-            let used = phrase::frames::put_frames_refused(answers, counts[USED], number);
+        Ok(put) => {
+            let n = put.frames;
+            tell(&bytes, first_words(&lengths, n), n, counts, answers)
+        }
+        Err(refusal) => {
+            let used = phrase::frames::put_frames_refused(answers, counts[USED], refusal.number());
             count(counts, 1, used);
         }
     }
@@ -40,18 +42,10 @@ fn put_each(answers: &mut [u8], at: usize, bytes: &[u8], lengths: &[u32]) -> usi
 {
     let mut place = at;
     let mut from = 0;
-    let mut i = 0;
-    while i < lengths.len() {
-        let n = size(lengths[i]);
+    for length in lengths {
+        let n = *length as usize;
         place = phrase::frames::put_frame(answers, place, first_bytes(bytes_from(bytes, from), n));
         from = more(from, n);
-        i += 1;
     }
     place
-}
-
-fn size(n: u32) -> usize
-    ensures { result ≡ n }
-{
-    n as usize
 }

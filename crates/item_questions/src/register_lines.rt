@@ -19,10 +19,8 @@ pub fn put_registers(answers: &mut [u8], at: usize, m: Model) -> usize
     ensures { PutEach answers.old at (registers m) result answers.new }
 {
     let mut place = at;
-    let mut i = 0;
-    while i < 10 {
+    for i in 0..10 {
         place = put_row(answers, place, m, 176 + 8 * i);
-        i += 1;
     }
     place
 }
@@ -40,11 +38,9 @@ fn row_words(m: Model, a: u32) -> [u32; 8]
 {
     let mut words = [0u32; 8];
     let mut address = a;
-    let mut i = 0;
-    while i < 8 {
+    for i in 0..8 {
         words[i] = word(m, address);
-        address = std::num::wrapping_add_u32(address, 1);
-        i += 1;
+        address = address.wrapping_add(1);
     }
     words
 }

@@ -19,7 +19,7 @@ use Rattle.device.specs.Call.{bad_calendar, bad_setup, first_of, miscounted, no_
 use Rattle.device.specs.Delivery.{flight_miscounted, flight_status, good_flight_model, same_count}
 use Rattle.device.specs.Event.{balance_sound, counts_sound, in_event, is_awaited, is_last, no_schedule, schedule_sound, settle, start_single, starts_left, wait_sound}
 use Rattle.device.specs.Model.{flight_sound, fresh_model, fresh_with, is_busy, is_sound, kind_busy, no_flight, no_temperature, sum_fits, temperature_sound}
-use Rattle.device.specs.Question.{interrupt_pending, value_told}
+use Rattle.device.specs.Question.{interrupt_pending}
 use Rattle.device.specs.Registers.{calendar_word, fill_words, flight_word, half, register_word}
 use Rattle.device.specs.Reply.{accepted_answer, accepted_memory, accepted_model, accepted_output, any_late, buffer_of, memory, memory_by, memory_of, number_in, output, output_by, reply, reply_by}
 use Rattle.device.specs.Results.{good_difference, good_flight, good_sum}
@@ -82,23 +82,5 @@ counts-told = refl
 texts-replayed :
     (map (λ t. replay (ascii t.0)) texts ≡ map (λ t. ascii t.1) texts)
     × (replay (ended_each (map (λ row. ascii row.0) rows)) ≡ ended_each (map (λ row. ascii row.1) rows) ++ ascii "end 11 calls, 2 refused, 1 unannounced, 1 bad lines, 14 expectations, 1 differ\n")
-unfolding clock_valid date_fits month_length start time_fits alarm_valid bcd clock_from digits_fit hour_digits hour_fits hour_in hour_named
-    hundredths_of minute_in time_digits twelve_in word30 word31 word32 word33 words_valid alarm_word factory flight_unset hit_count
-    interrupt_enabled timeout is_command is_flash is_read is_write not_whole past_end word_at difference_word any_from any_word late_from average
-    filled six_total six_words word_or_zero before_initialize command_busy command_unset event_side_unset flight_side_unset flight_started
-    initialised_model is_event must_be_idle read_model run_model single_started starts_flight starts_temperature temperature_side_unset bad_calendar
-    bad_setup first_of miscounted no_frame not_awaited not_carried not_initialised past_registers short_output supply_off device_table too_long
-    unerased unreachable device_verdict while_busy wrong_length flight_miscounted flight_status good_flight_model same_count balance_sound
-    counts_sound in_event is_awaited is_last no_schedule schedule_sound settle start_single starts_left wait_sound flight_sound fresh_model
-    fresh_with is_busy is_sound kind_busy no_flight no_temperature sum_fits temperature_sound interrupt_pending value_told calendar_word fill_words
-    flight_word half register_word accepted_answer accepted_memory accepted_model accepted_output any_late buffer_of memory memory_by memory_of
-    number_in output output_by reply reply_by good_difference good_flight good_sum flight_bits init_bit device_joined no_bits por_bit sets_own_bit
-    status_word clock_after covers setup_after ticks_after with_word write_invalid write_model written ascii numeral_are_digits digit_of digits
-    glyph value_of decimal decimal_width width_from read_hex value_in begin_with begun_before ended ended_each fits is_blank lines lines_after
-    same spaced spaced_each text_where without_return words words_after address addressed item_line_are_digits before_mark behind_mark bus_line
-    bytes_line capital counted each flight_line flight_parts four_digits hex is_digit is_wanted item_line line_of one parted read_by set_line
-    item_line_table wanted wanted_line without_comment worded words_line refusal refusal_words ask_told bus_told call_result delivery_told
-    frame_size fresh_item int_text is_refusal read_words set_told size_of starts transacted transaction_told word_bytes agrees bad_step
-    compared_step disagrees expectations expects line_step result_step step told_step answer_text difference differences fault_line fault_text
-    item_answer_joined output_text registers shown shown_byte started item_answer_verdict words_of last_line plus replay replay_from
+unfolding clock_valid date_fits month_length start time_fits alarm_valid bcd clock_from digits_fit hour_digits hour_fits hour_in hour_named hundredths_of minute_in time_digits twelve_in word30 word31 word32 word33 words_valid alarm_word factory flight_unset hit_count interrupt_enabled timeout is_command is_flash is_read is_write not_whole past_end word_at difference_word any_from any_word late_from average filled six_total six_words word_or_zero before_initialize command_busy command_unset event_side_unset flight_side_unset flight_started initialised_model is_event must_be_idle read_model run_model single_started starts_flight starts_temperature temperature_side_unset bad_calendar bad_setup first_of miscounted no_frame not_awaited not_carried not_initialised past_registers short_output supply_off device_table too_long unerased unreachable device_verdict while_busy wrong_length flight_miscounted flight_status good_flight_model same_count balance_sound counts_sound in_event is_awaited is_last no_schedule schedule_sound settle start_single starts_left wait_sound flight_sound fresh_model fresh_with is_busy is_sound kind_busy no_flight no_temperature sum_fits temperature_sound interrupt_pending calendar_word fill_words flight_word half register_word accepted_answer accepted_memory accepted_model accepted_output any_late buffer_of memory memory_by memory_of number_in output output_by reply reply_by good_difference good_flight good_sum flight_bits init_bit device_joined no_bits por_bit sets_own_bit status_word clock_after covers setup_after ticks_after with_word write_invalid write_model written ascii numeral_are_digits digit_of digits glyph value_of decimal decimal_width width_from read_hex value_in begin_with begun_before ended ended_each fits is_blank lines lines_after same spaced spaced_each text_where without_return words words_after address addressed item_line_are_digits before_mark behind_mark bus_line bytes_line capital counted each flight_line flight_parts four_digits hex is_digit is_wanted item_line line_of one parted read_by set_line item_line_table wanted wanted_line without_comment worded words_line refusal refusal_words ask_told bus_told call_result delivery_told frame_size fresh_item int_text is_refusal read_words set_told size_of starts transacted transaction_told word_bytes agrees bad_step compared_step disagrees expectations expects line_step result_step step told_step answer_text difference differences fault_line fault_text item_answer_joined output_text registers shown shown_byte started item_answer_verdict words_of last_line plus replay replay_from
 texts-replayed = (refl, refl)

@@ -7,25 +7,23 @@ use mathlib.Core.List.{List, [], ◌∷◌, ◌++◌, append-nil, append_assoc}
 use mathlib.Core.Path.{◌≡◌, refl, sym, ap, subst, ◌∙◌}
 use lib.Dec.{eqb, ltb, leb}
 use lib.IntN.{ℤ}
-use lib.ListN.{length, set, drop, length-append, length-set}
+use lib.ListN.{length, drop, length-append}
 use borrow.Author.Tests.{lt-ltb, le-ltb, eq-eqb}
 use Rattle.unit.specs.Choice.{pick, both}
 use Rattle.unit.proofs.Cases.{by-test, by-ltb, by-leb, by_eqb}
-use Rattle.device.specs.Reply.{flag}
 use Rattle.numeral.specs.Place.{overwrite}
 use Rattle.numeral.proofs.PlaceLaws.{overwrite-nil, overwrite-append, overwrite-snoc, length-overwrite}
 use Rattle.text.specs.Text.{Text}
 use Rattle.text.specs.OwnPut.{Puts}
 use Rattle.item_answer.specs.declared.Counts.{Counts}
 use Rattle.item_answer.specs.Step.{Step, outcome, outcome_bits}
-use Rattle.item_answer.specs.OwnView.{item_of, tally_of}
+use Rattle.item_answer.specs.OwnView.{tally_of}
 use Rattle.item_replay.specs.Going.{Going, texts, Went}
 use Rattle.item_replay.proofs.Pieces.{went-none, went_then}
 use Rattle.item_replay_code.specs.declared.State.{State}
 use Rattle.item_replay_code.specs.declared.Turn.{Turn}
-use Rattle.item_replay_code.specs.declared.Gone.{Gone}
-use Rattle.item_replay_code.specs.OwnState.{going_of, Lists, Fits, Few, Small}
-use Rattle.item_replay_code.specs.OwnTurn.{Whole, Outcome, Turns}
+use Rattle.item_replay_code.specs.OwnState.{going_of, Lists, Few, Small}
+use Rattle.item_replay_code.specs.OwnTurn.{Turns}
 use Rattle.item_replay_code.specs.OwnGone.{Ready, TurnReady, bits_of, marks_from, Marked, Goes}
 
 -- ---- lists of steps

@@ -1,75 +1,76 @@
 -- Where a line ends, and what is kept of it. Assumes nothing.
-use Prim.Native.Nat.{ℕ, zero, suc, ◌+◌, ◌-◌, ◌≤◌, ◌<◌, min}
-use native.Mathlib.Nat.{add_assoc}
+use Prim.Native.Nat.{ℕ, ◌+◌, ◌-◌, ◌≤◌, ◌<◌}
 use native.Mathlib.Omega.{arith}
 use mathlib.Core.Bool.{true, false, true≢false}
-use mathlib.Core.List.{List, [], ◌∷◌, ◌++◌, append_assoc}
+use mathlib.Core.List.{[], ◌∷◌, ◌++◌}
 use mathlib.Core.Path.{◌≡◌, refl, sym, ap, ◌∙◌}
+use mathlib.Core.Logic.{◌≢◌}
 use lib.Dec.{eqb}
-use lib.ListN.{length, get_or, take, drop, length-take, length-append, length-drop}
-use lib.Seq.{drop-cons, take_all, length-take-le, take_at, take-append-add}
-use native.Mathlib.Numerals.{add-one}
+use lib.ListN.{length, take, drop, length-take, length-append, length-drop}
+use lib.Seq.{length-take-le, take_at, take-append-add}
 use borrow.Author.Tests.{eq-eqb, ne_eqb}
-use Rattle.unit.proofs.Cases.{by-test, by-leb}
+use Rattle.std.specs.Prelude.{Option}
+use Rattle.std.specs.List.{AllWithin, HoldsAt}
+use Rattle.std.specs.Option.{MatchOption, unwrap_or}
+use Rattle.std.proofs.lemmas.Iterator.{index_from_first}
+use Rattle.unit.proofs.Cases.{by-test}
 use Rattle.numeral.specs.Place.{overwrite, Put}
 use Rattle.text.specs.Text.{Text}
 use Rattle.text.specs.OwnPut.{Puts}
 use Rattle.text.proofs.Putting.{puts}
 use Rattle.item_replay.specs.OwnFeed.{has_feed, before_feed}
-use Rattle.item_replay_code.specs.OwnHeld.{kept_of, Copied, Ends, Holds}
+use Rattle.item_replay_code.specs.OwnHeld.{Copied, Ends, Holds}
 
 -- ---- where a line ends
 
--- From a place on up to another there is no line feed.
-pub record Sofar (text : Text) (from i : ℕ) : Type 0 where
-  pub low : from ≤ i
-  pub high : i ≤ length text
-  pub feed : has_feed (drop from text) ≡ has_feed (drop i text)
-  pub before : from + length (before_feed (drop from text)) ≡ i + length (before_feed (drop i text))
+-- A line feed stands right behind the bytes before it.
+before-most : (t : Text) → length (before_feed t) ≤ length t
+unfolding before_feed
+before-most [] = omega arith
+before-most (c ∷ cs) = let h = before-most cs in by-test (eqb c 10) (λ e. rw e (omega arith)) (λ e. rw e (omega arith))
 
-pub sofar-first : (text : Text) (from : ℕ) → from ≤ length text → Sofar text from from
-sofar-first text from h = record { low = omega arith; high = h; feed = refl; before = refl }
-
-pub sofar-next : (text : Text) (from i : ℕ) → i < length text → ¬ (get_or text i 0 ≡ 10) → Sofar text from i → Sofar text from (i + 1)
+feed_there : (t : Text) → length (before_feed t) < length t → has_feed t ≡ true
 unfolding has_feed before_feed
-sofar-next text from i h n s =
-    let e = drop-cons text i 0 h in
+feed_there [] = λ h. absurd (omega arith)
+feed_there (c ∷ cs) = by-test (eqb c 10) (λ e. rw e (λ h. refl)) (λ e. rw e (λ h. feed_there cs (omega arith)))
+
+feed-none : (t : Text) → length t ≤ length (before_feed t) → has_feed t ≡ false
+unfolding has_feed before_feed
+feed-none [] = λ h. refl
+feed-none (c ∷ cs) = by-test (eqb c 10) (λ e. rw e (λ h. absurd (omega arith))) (λ e. rw e (λ h. feed-none cs (omega arith)))
+
+pub line_ends : (text : Text) (from end : ℕ) → from ≤ length text → end ≡ from + length (before_feed (drop from text)) → Ends text from end
+line_ends text from end low e =
+    let rest : length (drop from text) ≡ length text - from = length-drop from text in
+    let most = before-most (drop from text) in
     record {
-      low = let l = s.low in omega arith;
+      low = omega arith;
       high = omega arith;
-      feed = s.feed ∙ rw (e, ne_eqb _ _ n, add-one i);
-      before = s.before ∙ rw (e, ne_eqb _ _ n, add-one i) (omega arith);
+      before = e;
+      some = λ h. feed_there (drop from text) (omega arith);
+      none = λ h. feed-none (drop from text) (omega arith);
     }
 
-pub sofar-feed : (text : Text) (from i : ℕ) → i < length text → get_or text i 0 ≡ 10 → Sofar text from i → Ends text from i
-unfolding has_feed before_feed
-sofar-feed text from i h n s =
-    let e = drop-cons text i 0 h in
-    record {
-      low = s.low;
-      high = s.high;
-      before = sym (s.before ∙ rw (e, eq-eqb _ _ n) (omega arith));
-      some = λ _. s.feed ∙ rw (e, eq-eqb _ _ n);
-      none = λ l. absurd (omega arith);
-    }
+-- The place of the first line feed is how many bytes stand before it.
+abbrev feed_place : Text → ℕ
+feed_place t = length (before_feed t)
 
-drop_all : (n : ℕ) (t : Text) → length t ≤ n → drop n t ≡ []
-drop_all zero [] h = refl
-drop_all zero (c ∷ cs) h = absurd (omega arith)
-drop_all (suc n) [] h = refl
-drop_all (suc n) (c ∷ cs) h = drop_all n cs (omega arith)
+before-hit : (c : ℕ) (cs : Text) → c ≡ 10 → feed_place (c ∷ cs) ≡ 0
+unfolding before_feed
+before-hit c cs h = rw (eq-eqb c 10 h)
 
-pub sofar-end : (text : Text) (from i : ℕ) → length text ≤ i → Sofar text from i → Ends text from i
-unfolding has_feed before_feed
-sofar-end text from i h s =
-    let e = drop_all i text h in
-    record {
-      low = s.low;
-      high = s.high;
-      before = sym (s.before ∙ rw e (omega arith));
-      some = λ l. absurd (omega arith);
-      none = λ _. s.feed ∙ rw e;
-    }
+before-miss : (c : ℕ) (cs : Text) → c ≢ 10 → feed_place (c ∷ cs) ≡ feed_place cs + 1
+unfolding before_feed
+before-miss c cs h = rw (ne_eqb c 10 h) (omega arith)
+
+none-before : feed_place [] ≡ 0
+unfolding before_feed
+none-before = refl
+
+pub before-position : (t : Text) (r : Option ℕ)
+    → MatchOption r (AllWithin (λ c. c ≢ 10) t 0 (length t)) (λ i. (i < length t) × HoldsAt (λ c. c ≡ 10) t i × AllWithin (λ c. c ≢ 10) t 0 i)
+    → feed_place t ≡ unwrap_or r (length t)
+before-position t r m = index_from_first feed_place (λ c. c ≡ 10) (λ c. c ≢ 10) none-before before-hit before-miss t r m
 
 -- ---- what is kept
 

@@ -8,8 +8,10 @@ use mathlib.Core.Path.{◌≡◌, refl, sym, ap, subst, ◌∙◌}
 use lib.IntN.{ℤ}
 use lib.ListN.{length, take, length-append}
 use borrow.Author.Tests.{lt-ltb}
+use Rattle.std.specs.Prelude.{Option}
 use Rattle.numeral.specs.Ascii.{ascii}
 use Rattle.numeral.specs.Print.{decimal}
+use Rattle.text.specs.declared.Span.{Span}
 use Rattle.text.specs.Text.{Text, ended, ended_each}
 use Rattle.text.specs.OwnPut.{Puts}
 use Rattle.text.proofs.Lengths.{decimal-most}
@@ -18,7 +20,6 @@ use Rattle.item_line.specs.Line.{Fault, Call, Expected, Line}
 use Rattle.item_line.specs.Reading.{line_of}
 use Rattle.item_line.specs.OwnBounds.{CallBound, ExpectedBound, LineBound}
 use Rattle.item_line.specs.declared.LineRead.{LineRead}
-use Rattle.item_line.specs.declared.ExpectedRead.{ExpectedRead}
 use Rattle.item_line.specs.OwnRead.{as_expected, as_line}
 use Rattle.item_line.proofs.Bounds.{line-bound}
 use Rattle.item_answer.specs.declared.Carried.{Carried}
@@ -333,7 +334,7 @@ asks-ready line a ticks page =
       moment = omega (arith, b.most, b.small.moment);
     }
 
-pub under : {s : State} {ls bytes : Text} (numbers : List ℕ) (said : LineRead) (x : ExpectedRead) → 0 < s.left.0 → Fits s.carried → Bounded s
+pub under : {s : State} {ls bytes : Text} (numbers : List ℕ) (said : LineRead) (x : Option Span) → 0 < s.left.0 → Fits s.carried → Bounded s
     → bytes ≡ take s.begun ls → as_line bytes numbers said ≡ line_of bytes
     → ((text : Text) (numbers : List ℕ) → as_expected text x ≡ expected_of (as_line text numbers said))
     → Under s ls (as_expected (take s.begun ls) x)

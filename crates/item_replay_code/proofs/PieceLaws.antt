@@ -1,6 +1,5 @@
 -- Turns on a piece, by what code ensures of the bytes that are kept and of a line that has ended. Assumes nothing.
 use Prim.Native.Nat.{ℕ, ◌+◌, ◌-◌, ◌≤◌, ◌<◌}
-use native.Mathlib.Nat.{add-zero}
 use native.Mathlib.Omega.{arith}
 use mathlib.Core.Bool.{Bool, true, false, true≢false}
 use mathlib.Core.List.{List, [], ◌∷◌, ◌++◌, append-nil, append_assoc}
@@ -12,7 +11,6 @@ use borrow.Author.Tests.{ne_eqb, le-ltb}
 use Rattle.unit.proofs.Cases.{by_eqb}
 use Rattle.numeral.specs.Ascii.{ascii}
 use Rattle.numeral.specs.Print.{decimal}
-use Rattle.numeral.specs.Place.{overwrite}
 use Rattle.numeral.proofs.PlaceLaws.{length-overwrite}
 use Rattle.text.specs.Text.{Text, ended, text_where}
 use Rattle.text.specs.OwnPut.{Puts}
@@ -29,7 +27,7 @@ use Rattle.item_answer.specs.OwnKept.{Kept}
 use Rattle.item_answer.proofs.Room.{head-room}
 use Rattle.item_answer.proofs.Moment.{step-soon}
 use Rattle.item_replay.specs.Replay.{plus}
-use Rattle.item_replay.specs.Going.{Rest, none, Going, expected_of, rest_step, texts, Went}
+use Rattle.item_replay.specs.Going.{none, expected_of, rest_step, texts, Went}
 use Rattle.item_replay.specs.OwnFeed.{has_feed, before_feed}
 use Rattle.item_replay.specs.OwnTurn.{held, done_with, within, Parts}
 use Rattle.item_replay.proofs.Turns.{no-feed, went-held, went_line, went-begun}
@@ -40,8 +38,8 @@ use Rattle.item_replay_code.specs.declared.RestRan.{RestRan}
 use Rattle.item_replay_code.specs.declared.TicksBegun.{TicksBegun}
 use Rattle.item_replay_code.specs.OwnHeld.{Holds}
 use Rattle.item_replay_code.specs.OwnRest.{ending_of, RestRuns, TicksRun}
-use Rattle.item_replay_code.specs.OwnState.{rest_of, going_of, Fits, Few, Small}
-use Rattle.item_replay_code.specs.OwnTurn.{LineDone, LineHeld, LineLeft, LineAnswered, Whole, Outcome, Turns, ticks_tally, AfterRest, Begins}
+use Rattle.item_replay_code.specs.OwnState.{rest_of, going_of, Fits}
+use Rattle.item_replay_code.specs.OwnTurn.{LineDone, LineHeld, LineLeft, LineAnswered, Turns, ticks_tally, AfterRest, Begins}
 use Rattle.item_replay_code.proofs.TurnLaws.{rest-split, ran-item, state-done, over-text, over-item, over-adds, more-text, ending-least, went-as, few-most, ran-kept, ran-fits, small-done}
 
 -- the replay of a state in which no tick is left

@@ -1,20 +1,17 @@
 -- The ticks of a line that is under way. Assumes nothing.
-use Prim.Native.Nat.{ℕ, ◌+◌, ◌-◌, ◌≤◌, ◌<◌}
+use Prim.Native.Nat.{ℕ, ◌+◌, ◌-◌, ◌≤◌}
 use native.Mathlib.Omega.{arith}
-use mathlib.Core.Bool.{Bool, true}
-use mathlib.Core.List.{List, [], ◌++◌}
-use mathlib.Core.Path.{◌≡◌, refl, sym, ap, ◌∙◌}
+use mathlib.Core.Bool.{Bool}
+use mathlib.Core.List.{List}
+use mathlib.Core.Path.{◌≡◌, refl}
 use lib.ListN.{length}
-use Rattle.unit.specs.declared.Ticks.{Ticks}
-use Rattle.text.specs.Text.{Text, ended, text_where}
 use Rattle.text.specs.OwnPut.{Puts}
 use Rattle.text.proofs.Putting.{puts_then}
 use Rattle.item_line.specs.Line.{Expected}
 use Rattle.item_answer.specs.declared.Carried.{Carried}
-use Rattle.item_answer.specs.Answer.{ticked}
 use Rattle.item_ticks_code.specs.declared.RanTicks.{RanTicks}
 use Rattle.item_ticks_code.specs.OwnRan.{Ran}
-use Rattle.item_replay_code.specs.OwnRest.{line_ending, ending_of, RestRuns}
+use Rattle.item_replay_code.specs.OwnRest.{ending_of, RestRuns}
 
 pub rest-runs :
     (c : Carried) (left first : ℕ) (differs : Bool) (x : Expected) (l k l' : List ℕ) (at end : ℕ) (r : RanTicks) →

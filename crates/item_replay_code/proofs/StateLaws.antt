@@ -1,5 +1,5 @@
 -- The numbers of a state stay within their types. Assumes nothing.
-use Prim.Native.Nat.{ℕ, ◌+◌, ◌≤◌}
+use Prim.Native.Nat.{ℕ, ◌+◌}
 use native.Mathlib.Omega.{arith}
 use mathlib.Core.Path.{sym, subst}
 use Rattle.item_answer.specs.declared.Carried.{Carried}

@@ -1,18 +1,15 @@
 -- Turns of a replay, by what code ensures of a line. Assumes nothing.
 use Prim.Native.Nat.{ℕ, ◌+◌, ◌-◌, ◌*◌, ◌≤◌, ◌<◌}
-use native.Mathlib.Nat.{add-zero, add_assoc}
+use native.Mathlib.Nat.{add_assoc}
 use native.Mathlib.Omega.{arith}
-use mathlib.Core.Bool.{Bool, true, false, true≢false}
+use mathlib.Core.Bool.{Bool, true≢false}
 use mathlib.Core.List.{List, [], ◌∷◌, ◌++◌, append-nil, append_assoc}
 use mathlib.Core.Path.{◌≡◌, refl, sym, ap, subst, ◌∙◌}
 use lib.Dec.{eqb}
 use lib.IntN.{ℤ}
-use lib.ListN.{length, take, drop, length-drop, length-append}
-use borrow.Author.Tests.{eq-eqb, ne_eqb}
-use Rattle.unit.specs.Choice.{pick}
+use lib.ListN.{length, take, drop, length-append}
+use borrow.Author.Tests.{ne_eqb}
 use Rattle.unit.proofs.Cases.{by-test, by_eqb}
-use Rattle.device.specs.declared.Model.{Model}
-use Rattle.device.specs.Model.{is_sound}
 use Rattle.text.specs.Text.{Text, ended, text_where}
 use Rattle.text.specs.OwnPut.{Puts}
 use Rattle.text.proofs.Lengths.{where-most}
@@ -21,22 +18,21 @@ use Rattle.item_line.specs.Reading.{line_of}
 use Rattle.item_line.specs.OwnBounds.{ExpectedBound}
 use Rattle.item_answer.specs.declared.Carried.{Carried}
 use Rattle.item_answer.specs.declared.Counts.{Counts}
-use Rattle.item_answer.specs.Answer.{Item, Run, reported_before, with_model, ticked}
-use Rattle.item_answer.specs.Step.{Step, step, expected_text}
+use Rattle.item_answer.specs.Answer.{Item, with_model, ticked}
+use Rattle.item_answer.specs.Step.{Step, expected_text}
 use Rattle.item_answer.specs.OwnView.{item_of, tally_of}
 use Rattle.item_answer.specs.OwnKept.{Kept}
 use Rattle.item_answer.proofs.Room.{expected-most}
 use Rattle.item_ticks_code.proofs.Ticks.{ticked-then}
-use Rattle.item_replay.specs.Replay.{plus}
-use Rattle.item_replay.specs.Going.{Rest, none, ticks, Going, expected_of, rest_step, texts, Went}
-use Rattle.item_replay.specs.OwnTurn.{held, done_with, within, Parts}
+use Rattle.item_replay.specs.Going.{ticks, Going, expected_of, rest_step, texts, Went}
+use Rattle.item_replay.specs.OwnTurn.{done_with, within, Parts}
 use Rattle.item_replay.proofs.Turns.{went-more, went-over}
 use Rattle.item_replay_code.specs.declared.State.{State}
 use Rattle.item_replay_code.specs.declared.Turn.{Turn}
 use Rattle.item_replay_code.specs.declared.RestRan.{RestRan}
 use Rattle.item_replay_code.specs.OwnRest.{line_ending, ending_of, RestRuns}
 use Rattle.item_replay_code.specs.OwnState.{rest_of, going_of, Fits, Few, Small}
-use Rattle.item_replay_code.specs.OwnTurn.{LineDone, LineLeft, Whole, Outcome, Turns, ticks_tally, AfterRest, Bounded, Under, TurnsOn}
+use Rattle.item_replay_code.specs.OwnTurn.{LineDone, LineLeft, Turns, ticks_tally, AfterRest, Bounded, Under, TurnsOn}
 
 -- ---- ticks in two parts
 

@@ -1,5 +1,5 @@
 -- What the lines of a piece come to, as code answers them. Assumes nothing.
-use Rattle.std.specs.Prelude.{ℕ, ◌+◌, ◌*◌, ◌≤◌, ◌<◌, Bool, true, List, [], ◌∷◌, ◌++◌, ◌≡◌, ltb, ℤ, length, set}
+use Rattle.std.specs.Prelude.{ℕ, ◌+◌, ◌*◌, ◌≤◌, Bool, List, [], ◌∷◌, ◌++◌, ◌≡◌, ltb, ℤ, length, set}
 use Rattle.unit.specs.Choice.{pick}
 use Rattle.device.specs.Reply.{flag}
 use Rattle.numeral.specs.Place.{overwrite}

@@ -1,5 +1,5 @@
 -- The bytes of a line that are kept until it ends. Assumes nothing.
-use Rattle.std.specs.Prelude.{ℕ, ◌+◌, ◌≤◌, ◌<◌, Bool, true, false, List, ◌++◌, ◌≡◌, length, take, drop}
+use Rattle.std.specs.Prelude.{ℕ, ◌+◌, ◌≤◌, ◌<◌, true, false, ◌++◌, ◌≡◌, length, take, drop}
 use Rattle.text.specs.Text.{Text}
 use Rattle.item_replay.specs.OwnFeed.{has_feed, before_feed}
 use Rattle.item_replay_code.specs.declared.Held.{Held}

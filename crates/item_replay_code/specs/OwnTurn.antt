@@ -8,13 +8,11 @@ use Rattle.item_line.specs.Reading.{line_of}
 use Rattle.item_line.specs.OwnBounds.{ExpectedBound}
 use Rattle.item_answer.specs.declared.Carried.{Carried}
 use Rattle.item_answer.specs.declared.Counts.{Counts}
-use Rattle.item_answer.specs.Answer.{Item}
-use Rattle.item_answer.specs.Step.{Tally, Step, step, expects}
+use Rattle.item_answer.specs.Step.{Tally, Step, expects}
 use Rattle.item_answer.specs.OwnView.{item_of, tally_of}
 use Rattle.item_answer.specs.OwnKept.{Kept}
 use Rattle.item_replay.specs.Replay.{plus}
-use Rattle.item_replay.specs.Going.{Going, expected_of, rest_step, texts, Went}
-use Rattle.item_replay.specs.OwnTurn.{Parts}
+use Rattle.item_replay.specs.Going.{expected_of, texts, Went}
 use Rattle.item_replay_code.specs.declared.State.{State}
 use Rattle.item_replay_code.specs.declared.RestRan.{RestRan}
 use Rattle.item_replay_code.specs.declared.TicksBegun.{TicksBegun}

@@ -1,11 +1,12 @@
 // The state after a line.
-ghost use Rattle.std.specs.Prelude.{◌≡◌, ◌<◌};
+ghost use Rattle.std.specs.Prelude.{◌<◌};
 ghost use Rattle.item_replay_code.specs.OwnState.{Few};
 ghost use Rattle.item_replay_code.specs.OwnTurn.{Begins, LineDone, LineHeld, LineLeft};
 
-use crate::count::{add, nothing};
+use crate::count::add;
 use crate::{State, Turn};
 use item_answer::{Carried, Counts};
+use item_keep_code::counts::no_counts;
 use unit::Ticks;
 
 // A line is done.
@@ -13,20 +14,16 @@ pub fn line_done(s: State, taken: usize, c: Carried, adds: Counts, end: usize) -
     requires { Few s.counts 9223372036854775807 × Few adds 80 × (s.number < 9223372036854775807) }
     ensures { LineDone s taken c adds end result }
 {
-    let before = s.counts;
-    let counts = add(before, adds);
-    let left = Ticks(0);
-    let state = State {
-        number: s.number + 1,
-        carried: c,
-        counts,
-        begun: 0,
-        left,
-        next: 0,
-        differs: false,
-    };
     Turn {
-        state,
+        state: State {
+            number: s.number + 1,
+            carried: c,
+            counts: add(s.counts, adds),
+            begun: 0,
+            left: Ticks(0),
+            next: 0,
+            differs: false,
+        },
         taken,
         used: end,
         done: true,
@@ -39,43 +36,25 @@ pub fn line_done(s: State, taken: usize, c: Carried, adds: Counts, end: usize) -
 pub fn with_begun(s: State, begun: usize) -> State
     ensures { Begins s begun result }
 {
-    let c = s.carried;
-    let counts = s.counts;
-    let left = s.left;
-    State {
-        number: s.number,
-        carried: c,
-        counts,
-        begun,
-        left,
-        next: s.next,
-        differs: s.differs,
-    }
+    State { begun, ..s }
 }
 
 // More of a line has begun, and the piece is over.
 pub fn line_held(s: State, taken: usize, begun: usize, at: usize) -> Turn
     ensures { LineHeld s taken begun at result }
 {
-    let c = s.carried;
-    let counts = s.counts;
-    let adds = nothing();
-    let left = Ticks(0);
-    let state = State {
-        number: s.number,
-        carried: c,
-        counts,
-        begun,
-        left,
-        next: 0,
-        differs: false,
-    };
     Turn {
-        state,
+        state: State {
+            begun,
+            left: Ticks(0),
+            next: 0,
+            differs: false,
+            ..s
+        },
         taken,
         used: at,
         done: false,
-        adds,
+        adds: no_counts(),
         more: false,
     }
 }
@@ -92,23 +71,18 @@ pub fn line_left(
 ) -> Turn
     ensures { LineLeft s taken c left.0 next differs end result }
 {
-    let counts = s.counts;
-    let adds = nothing();
-    let state = State {
-        number: s.number,
-        carried: c,
-        counts,
-        begun: s.begun,
-        left,
-        next,
-        differs,
-    };
     Turn {
-        state,
+        state: State {
+            carried: c,
+            left,
+            next,
+            differs,
+            ..s
+        },
         taken,
         used: end,
         done: false,
-        adds,
+        adds: no_counts(),
         more: false,
     }
 }

@@ -1,7 +1,6 @@
-// Counts, and the state after a line.
+// Counts, added up.
 ghost use Rattle.std.specs.Prelude.{◌≡◌, ℕ, ◌+◌};
 ghost use Rattle.item_answer.specs.OwnView.{tally_of};
-ghost use Rattle.item_answer.specs.Step.{no_tally};
 ghost use Rattle.item_replay.specs.Replay.{plus};
 ghost use Rattle.item_replay_code.specs.OwnState.{Few};
 
@@ -20,19 +19,5 @@ pub fn add(s: Counts, t: Counts) -> Counts
         bad: s.bad + t.bad,
         expectations: s.expectations + t.expectations,
         differ: s.differ + t.differ,
-    }
-}
-
-// What a line adds that adds nothing.
-pub fn nothing() -> Counts
-    ensures { tally_of result ≡ no_tally }
-{
-    Counts {
-        calls: 0,
-        refused: 0,
-        unannounced: 0,
-        bad: 0,
-        expectations: 0,
-        differ: 0,
     }
 }

@@ -14,8 +14,9 @@ use crate::{Held, State, Turn};
 use item_answer_code::answer_line;
 use item_keep_code::bad::put_bad;
 use item_keep_code::counts::{bad_counts, no_counts};
-use item_line::{ExpectedRead, FaultRead, LineRead};
+use item_line::{FaultRead, LineRead};
 use item_page_code::put_page;
+use text::Span;
 use unit::Ticks;
 
 // The line `tick`.
@@ -24,7 +25,7 @@ pub fn tick_line(
     h: Held,
     text: &[u8],
     n: Ticks,
-    x: ExpectedRead,
+    x: Option<Span>,
     answers: &mut [u8],
     at: usize,
 ) -> Turn
@@ -41,15 +42,14 @@ pub fn at_line(
     h: Held,
     text: &[u8],
     t: Ticks,
-    x: ExpectedRead,
+    x: Option<Span>,
     answers: &mut [u8],
     at: usize,
 ) -> Turn
     requires { LineReady s h × (line_of text.now ≡ Line.call (Call.at t.0) (as_expected text.now x)) × (at + 100000 ≤ length answers.old) }
     ensures { LineBeside s h text.now answers.old at result answers.new }
 {
-    let c = s.carried;
-    let moment = c.moment;
+    let moment = s.carried.moment;
     if unit::wide(t.0) < moment {
         return past_line(s, h, text, t, x, answers, at);
     }
@@ -72,17 +72,15 @@ fn past_line(
     h: Held,
     text: &[u8],
     t: Ticks,
-    x: ExpectedRead,
+    x: Option<Span>,
     answers: &mut [u8],
     at: usize,
 ) -> Turn
     requires { LineReady s h × (line_of text.now ≡ Line.call (Call.at t.0) (as_expected text.now x)) × (at + 100000 ≤ length answers.old) × (t.0 < s.carried.moment) }
     ensures { LineBeside s h text.now answers.old at result answers.new }
 {
-    let c = s.carried;
     let end = put_bad(answers, at, s.number, text, FaultRead::Past);
-    let adds = bad_counts();
-    line_done(s, h.next, c, adds, end)
+    line_done(s, h.next, s.carried, bad_counts(), end)
 }
 
 // The line `show`.
@@ -90,10 +88,8 @@ pub fn show_line(s: State, h: Held, text: &[u8], answers: &mut [u8], at: usize) 
     requires { LineReady s h × (line_of text.now ≡ Line.show) × (at + 100000 ≤ length answers.old) }
     ensures { LineBeside s h text.now answers.old at result answers.new }
 {
-    let c = s.carried;
-    let end = put_page(answers, at, c.model);
-    let adds = no_counts();
-    line_done(s, h.next, c, adds, end)
+    let end = put_page(answers, at, s.carried.model);
+    line_done(s, h.next, s.carried, no_counts(), end)
 }
 
 // Every other line.
@@ -112,11 +108,8 @@ pub fn other_line(
     requires { LineReady s h × Ready (line_of text.now) s.carried flash.old recorded.old probes.old × Kept (item_of s.carried flash.old recorded.old probes.old) × (as_line text.now numbers.now said ≡ line_of text.now) × (at + 100000 ≤ length answers.old) }
     ensures { LineTurns s h text.now flash.old recorded.old probes.old answers.old at result flash.new recorded.new probes.new answers.new }
 {
-    let c = s.carried;
     let r = answer_line(
-        s.number, text, said, numbers, c, flash, recorded, probes, answers, at,
+        s.number, text, said, numbers, s.carried, flash, recorded, probes, answers, at,
     );
-    let after = r.carried;
-    let adds = r.adds;
-    line_done(s, h.next, after, adds, r.end)
+    line_done(s, h.next, r.carried, r.adds, r.end)
 }

@@ -1,5 +1,5 @@
 // A turn on a line of ticks.
-ghost use Rattle.std.specs.Prelude.{◌≡◌, true, ◌+◌, ◌≤◌, ◌<◌, length, take};
+ghost use Rattle.std.specs.Prelude.{◌≡◌, true, ◌+◌, ◌≤◌, length, take};
 ghost use Rattle.device.specs.Model.{is_sound};
 ghost use Rattle.item_line.specs.OwnRead.{as_expected};
 ghost use Rattle.item_replay_code.specs.OwnTurn.{Bounded, TicksTurn, Under, TurnsOn};
@@ -8,7 +8,7 @@ use crate::rest::run_rest;
 use crate::ticks::begin_ticks;
 use crate::under::after_rest;
 use crate::{State, Turn};
-use item_line::ExpectedRead;
+use text::Span;
 use text_code::first_bytes;
 use unit::Ticks;
 
@@ -17,7 +17,7 @@ pub fn go_on(
     s: State,
     from: usize,
     line: &[u8],
-    x: ExpectedRead,
+    x: Option<Span>,
     answers: &mut [u8],
     at: usize,
 ) -> Turn
@@ -25,12 +25,8 @@ pub fn go_on(
     ensures { TurnsOn s from line.now answers.old at result answers.new }
 {
     let text = first_bytes(line, s.begun);
-    let c = s.carried;
-    let left = s.left;
-    let next = s.next;
-    let differs = s.differs;
-    let r = run_rest(c, left, next, differs, text, x, answers, at);
-    after_rest(s, from, text, x, r, differs)
+    let r = run_rest(s.carried, s.left, s.next, s.differs, text, x, answers, at);
+    after_rest(s, from, text, x, r, s.differs)
 }
 
 // Begins a line of n ticks, the first of them tick `next`; `head` is the line's first word with a blank, and x is what the line expects.
@@ -42,15 +38,13 @@ pub fn start(
     n: Ticks,
     next: u64,
     text: &[u8],
-    x: ExpectedRead,
+    x: Option<Span>,
     answers: &mut [u8],
     at: usize,
 ) -> Turn
     requires { Bounded s × (is_sound s.carried.model ≡ true) × (next + n.0 ≤ 4294967296) × (1100 ≤ length answers.old) }
     ensures { TicksTurn s taken head.now number.0 n.0 next (as_expected text.now x) answers.old at result answers.new }
 {
-    let c = s.carried;
-    let b = begin_ticks(c, head, number, n, next, text, x, answers, at);
-    let rest = b.rest;
-    after_rest(s, taken, text, x, rest, b.differs)
+    let b = begin_ticks(s.carried, head, number, n, next, text, x, answers, at);
+    after_rest(s, taken, text, x, b.rest, b.differs)
 }

@@ -1,6 +1,5 @@
 // The bytes of a line, kept until it ends.
-ghost use Rattle.std.specs.Prelude.{◌≡◌, ◌+◌, ◌≤◌, ◌<◌, length, drop};
-ghost use Rattle.item_replay.specs.OwnFeed.{before_feed};
+ghost use Rattle.std.specs.Prelude.{◌≡◌, ◌≤◌, length};
 ghost use Rattle.item_replay_code.specs.OwnHeld.{Copied, Ends, Holds};
 
 use crate::Held;
@@ -34,14 +33,8 @@ fn line_end(text: &[u8], from: usize) -> usize
     requires { from ≤ length text.now }
     ensures { Ends text.now from result }
 {
-    let mut i = from;
-    while i < text.len() {
-        if text[i] == 10 {
-            return i;
-        }
-        i += 1;
-    }
-    i
+    let rest = &text[from..];
+    from + rest.iter().position(|c| *c == b'\n').unwrap_or(rest.len())
 }
 
 // Puts bytes after those that are kept, as many as have room.
@@ -49,7 +42,5 @@ fn copy(bytes: &[u8], line: &mut [u8], begun: usize) -> usize
     requires { (length line.old ≡ 1002) × (begun ≤ 1002) }
     ensures { Copied bytes.now line.old begun result line.new }
 {
-    let room = HELD - begun;
-    let some = text_code::first_bytes(bytes, room);
-    numeral::put_text(line, begun, some)
+    numeral::put_text(line, begun, text_code::first_bytes(bytes, HELD - begun))
 }

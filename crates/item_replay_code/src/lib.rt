@@ -15,8 +15,8 @@ mod under;
 
 pub use hold::HELD;
 use item_answer::{Carried, Counts};
-use item_line::ExpectedRead;
 pub use lines::go;
+use text::Span;
 use unit::Ticks;
 
 // What a replay keeps between pieces of its text, beside the lists that are lent: the number of the line that comes next or is under way, the
@@ -81,8 +81,8 @@ pub struct TicksBegun {
 // What a line that was read asks of its turn: to run ticks, to put the page, or neither.
 #[derive(Clone, Copy)]
 pub enum Sort {
-    Tick(Ticks, ExpectedRead),
-    At(Ticks, ExpectedRead),
+    Tick(Ticks, Option<Span>),
+    At(Ticks, Option<Span>),
     Show,
     Other,
 }

@@ -1,11 +1,11 @@
 // The lines of a piece of text, one after the other.
 ghost use Rattle.std.specs.Prelude.{◌≡◌, ◌+◌, ◌<◌, leb, ltb, length};
 ghost use Rattle.unit.specs.Choice.{both};
+ghost use Rattle.device.specs.Reply.{flag};
 ghost use Rattle.item_answer.specs.OwnView.{tally_of};
 ghost use Rattle.item_replay_code.specs.OwnGone.{Goes, Marked, Ready, bits_of};
 
 use crate::turning::turn;
-use crate::under::one;
 use crate::{Gone, State};
 use item_answer::Counts;
 
@@ -35,6 +35,7 @@ pub fn go(
     let mut used = 0;
     let mut count = 0;
     let mut more = true;
+    // A while: a turn takes what it takes of the piece, and no index counts turns.
     while more && has_room(answers.len(), used, marks.len(), count) {
         let t = turn(
             text,
@@ -48,10 +49,8 @@ pub fn go(
             answers,
             used,
         );
-        let next = t.state;
-        let adds = t.adds;
-        count = mark(marks, count, used, t.used, t.done, adds);
-        state = next;
+        count = mark(marks, count, used, t.used, t.done, t.adds);
+        state = t.state;
         taken = t.taken;
         used = t.used;
         more = t.more;
@@ -68,15 +67,19 @@ pub fn go(
 fn has_room(places: usize, used: usize, marks: usize, count: usize) -> bool
     ensures { result ≡ both (leb (used + 100000) places) (both (ltb count marks) (ltb count 16777216)) }
 {
-    if places < ROOM {
-        return false;
-    }
-    if used <= places - ROOM {
-        if count < marks {
-            return count < LINES;
-        }
-    }
-    false
+    has_places(places, used) && has_marks(marks, count)
+}
+
+fn has_places(places: usize, used: usize) -> bool
+    ensures { result ≡ leb (used + 100000) places }
+{
+    ROOM <= places && used <= places - ROOM
+}
+
+fn has_marks(marks: usize, count: usize) -> bool
+    ensures { result ≡ both (ltb count marks) (ltb count 16777216) }
+{
+    count < marks && count < LINES
 }
 
 // The mark of a line that is done: the place after its answer, times 32, and its outcome.
@@ -85,8 +88,7 @@ fn mark(marks: &mut [u64], count: usize, at: usize, used: usize, done: bool, add
     ensures { Marked marks.old count at used done adds result marks.new }
 {
     if done {
-        let b = bits(at < used, adds);
-        marks[count] = used as u64 * 32 + b;
+        marks[count] = used as u64 * 32 + bits(at < used, adds);
         return count + 1;
     }
     count
@@ -96,10 +98,17 @@ fn mark(marks: &mut [u64], count: usize, at: usize, used: usize, done: bool, add
 fn bits(answered: bool, c: Counts) -> u64
     ensures { (result ≡ bits_of answered (tally_of c)) × (result < 32) }
 {
-    let a = one(answered);
-    let b = one(0 < c.refused);
-    let d = one(c.unannounced < c.refused);
-    let e = one(0 < c.differ);
-    let f = one(0 < c.bad);
+    let a = bit(answered);
+    let b = bit(0 < c.refused);
+    let d = bit(c.unannounced < c.refused);
+    let e = bit(0 < c.differ);
+    let f = bit(0 < c.bad);
     a + 2 * b + 4 * d + 8 * e + 16 * f
+}
+
+// A truth value as a number, with its bound.
+fn bit(b: bool) -> u64
+    ensures { (result ≡ flag b) × (result < 2) }
+{
+    u64::from(b)
 }

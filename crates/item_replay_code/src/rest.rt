@@ -8,8 +8,8 @@ ghost use Rattle.item_replay_code.specs.OwnRest.{RestRuns, ending_of, line_endin
 
 use crate::RestRan;
 use item_answer::Carried;
-use item_line::ExpectedRead;
 use item_ticks_code::run_ticks;
+use text::Span;
 use text_code::{part_of, put_spaced};
 use unit::Ticks;
 
@@ -23,7 +23,7 @@ pub fn run_rest(
     next: u64,
     differs: bool,
     line: &[u8],
-    x: ExpectedRead,
+    x: Option<Span>,
     answers: &mut [u8],
     at: usize,
 ) -> RestRan
@@ -31,21 +31,17 @@ pub fn run_rest(
     ensures { RestRuns c left.0 next differs (as_expected line.now x) answers.old at result answers.new }
 {
     let stop = answers.len() - ENDING;
-    let m = c.model;
-    let r = run_ticks(m, left, next, answers, at, stop);
-    let model = r.model;
-    let after = r.left;
-    let ran = left.0 - after.0;
-    let end = put_ending(after, differs, line, x, answers, r.end);
-    let carried = Carried {
-        model,
-        moment: c.moment + ran as u64,
-        recorded: c.recorded,
-        probes: c.probes,
-    };
+    let r = run_ticks(c.model, left, next, answers, at, stop);
+    let ran = left.0 - r.left.0;
+    let moment = c.moment + ran as u64;
+    let end = put_ending(r.left, differs, line, x, answers, r.end);
     RestRan {
-        carried,
-        left: after,
+        carried: Carried {
+            model: r.model,
+            moment,
+            ..c
+        },
+        left: r.left,
         next: r.next,
         end,
     }
@@ -56,7 +52,7 @@ fn put_ending(
     left: Ticks,
     differs: bool,
     line: &[u8],
-    x: ExpectedRead,
+    x: Option<Span>,
     answers: &mut [u8],
     at: usize,
 ) -> usize
@@ -71,7 +67,7 @@ fn put_ending(
 fn put_line_ending(
     differs: bool,
     line: &[u8],
-    x: ExpectedRead,
+    x: Option<Span>,
     answers: &mut [u8],
     at: usize,
 ) -> usize
@@ -85,12 +81,12 @@ fn put_line_ending(
 }
 
 // ` expected ` and the words that a line expects.
-fn put_expected(line: &[u8], x: ExpectedRead, answers: &mut [u8], at: usize) -> usize
+fn put_expected(line: &[u8], x: Option<Span>, answers: &mut [u8], at: usize) -> usize
     ensures { Puts answers.old at (expected_text (as_expected line.now x)) result answers.new }
 {
     match x {
-        ExpectedRead::Unmarked => at,
-        ExpectedRead::Marked(span) => {
+        None => at,
+        Some(span) => {
             let a = numeral::put_text(answers, at, b" expected ");
             put_spaced(answers, a, part_of(line, span))
         }

@@ -7,19 +7,20 @@ ghost use Rattle.item_replay.specs.Going.{expected_of};
 ghost use Rattle.item_replay_code.specs.OwnLine.{OfSort, Sorts};
 
 use crate::Sort;
-use item_line::{CallRead, ExpectedRead, LineRead};
+use item_line::{CallRead, LineRead};
+use text::Span;
 
 // What a line expects.
-pub fn expected_of(said: LineRead) -> ExpectedRead
+pub fn expected_of(said: LineRead) -> Option<Span>
     ensures { (text : Text) (numbers : List ℕ) → as_expected text result ≡ expected_of (as_line text numbers said) }
 {
     match said {
-        LineRead::Silent => ExpectedRead::Unmarked,
-        LineRead::Bad(_) => ExpectedRead::Unmarked,
-        LineRead::Item(_) => ExpectedRead::Unmarked,
-        LineRead::Show => ExpectedRead::Unmarked,
-        LineRead::Expect(_, _) => ExpectedRead::Unmarked,
-        LineRead::Read(_, _) => ExpectedRead::Unmarked,
+        LineRead::Silent => None,
+        LineRead::Bad(_) => None,
+        LineRead::Item(_) => None,
+        LineRead::Show => None,
+        LineRead::Expect(_, _) => None,
+        LineRead::Read(_, _) => None,
         LineRead::Call(_, x) => x,
         LineRead::Ask(_, x) => x,
         LineRead::Keep(_, x) => x,
@@ -43,7 +44,7 @@ pub fn sort(said: LineRead) -> Sort
     }
 }
 
-fn sort_call(call: CallRead, x: ExpectedRead) -> Sort
+fn sort_call(call: CallRead, x: Option<Span>) -> Sort
     ensures { (text : Text) (numbers : List ℕ) → OfSort (Line.call (as_call numbers call) (as_expected text x)) text result }
 {
     match call {

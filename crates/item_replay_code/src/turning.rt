@@ -30,8 +30,7 @@ pub fn turn(
     requires { TurnReady s line.old flash.old recorded.old probes.old × (length numbers.old ≡ 512) × (from ≤ length text.now) × (at + 100000 ≤ length answers.old) }
     ensures { Turns text.now from s line.old flash.old recorded.old probes.old answers.old at result line.new flash.new recorded.new probes.new answers.new }
 {
-    let left = s.left;
-    if 0 < left.0 {
+    if 0 < s.left.0 {
         return under_way(s, from, line, numbers, answers, at);
     }
     let h = hold_line(text, from, line, s.begun);

@@ -5,18 +5,19 @@ use mathlib.Core.List.{List, [], ◌∷◌}
 use mathlib.Core.Path.{◌≡◌, refl}
 use lib.ListN.{replicate}
 use Rattle.device.specs.declared.Answer.TheVariants.{Refused, Accepted, Good, Failed}
-use Rattle.device.specs.declared.Told.TheVariants.{Value, Refused as Untold}
 use Rattle.device.specs.Reply.{number_in}
 use Rattle.numeral.specs.Ascii.{ascii}
 use Rattle.numeral.specs.Place.{overwrite, next_place, written, put_each}
 use Rattle.item_state.specs.Log.{added, said, call_counted, counted, called, refusals}
 use Rattle.item_state.specs.Told.{told_value}
+use Rattle.refusal.specs.declared.Refusal.{Refusal}
+use Rattle.std.specs.Prelude.{Ok, Err}
 
 abbrev zeros : List ℕ
 zeros = replicate 22 0
 
 -- A refusal is a call and a refusal, the answers ending at 12; an acceptance is a call. Every other count stays.
-a-refusal : counted zeros (refusals (Refused 9)) 12
+a-refusal : counted zeros (refusals (Refused Refusal.SetUp)) 12
     ≡ 12 ∷ 0 ∷ 0 ∷ 1 ∷ 1 ∷ 0 ∷ 0 ∷ 0 ∷ 0 ∷ 0 ∷ 0 ∷ 0 ∷ 0 ∷ 0 ∷ 0 ∷ 0 ∷ 0 ∷ 0 ∷ 0 ∷ 0 ∷ 0 ∷ 0 ∷ []
 unfolding counted call_counted added refusals number_in
 a-refusal = refl
@@ -36,7 +37,7 @@ most : added (18446744073709551615 ∷ []) 0 1 ≡ 18446744073709551615 ∷ []
 unfolding added
 most = refl
 
-told : (told_value (Value 7) ≡ 7) × (told_value (Untold 4) ≡ 0)
+told : (told_value (Ok 7) ≡ 7) × (told_value (Err Refusal.Address) ≡ 0)
 unfolding told_value
 told = (refl, refl)
 

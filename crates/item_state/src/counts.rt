@@ -66,11 +66,7 @@ pub const PROBE_PLACES: usize = 1024;
 pub fn more(n: usize, k: usize) -> usize
     ensures { result ≡ min (n + k) 18446744073709551615 }
 {
-    if n <= usize::MAX - k {
-        n + k
-    } else {
-        usize::MAX
-    }
+    n.saturating_add(k)
 }
 
 // 1 for a refusal.

@@ -5,30 +5,40 @@ ghost use Rattle.std.specs.Prelude.{◌≡◌, take, drop};
 pub fn first_bytes(bytes: &[u8], n: usize) -> &[u8]
     ensures { result.now ≡ take n bytes.now }
 {
-    if n <= bytes.len() { &bytes[..n] } else { bytes }
+    first(bytes, n)
 }
 
 // The bytes from the place n on; none where it has fewer.
 pub fn bytes_from(bytes: &[u8], n: usize) -> &[u8]
     ensures { result.now ≡ drop n bytes.now }
 {
-    let end = bytes.len();
-    if n <= end { &bytes[n..] } else { &bytes[end..] }
+    from(bytes, n)
 }
 
 // The first n words of a buffer; all of it where it has fewer.
 pub fn first_words(words: &[u32], n: usize) -> &[u32]
     ensures { result.now ≡ take n words.now }
 {
-    if n <= words.len() { &words[..n] } else { words }
+    first(words, n)
 }
 
 // The words from the place n on; none where it has fewer.
 pub fn words_from(words: &[u32], n: usize) -> &[u32]
     ensures { result.now ≡ drop n words.now }
 {
-    let end = words.len();
-    if n <= end { &words[n..] } else { &words[end..] }
+    from(words, n)
+}
+
+fn first<T>(items: &[T], n: usize) -> &[T]
+    ensures { result.now ≡ take n items.now }
+{
+    &items[..n.min(items.len())]
+}
+
+fn from<T>(items: &[T], n: usize) -> &[T]
+    ensures { result.now ≡ drop n items.now }
+{
+    &items[n.min(items.len())..]
 }
 
 // Answers that are not written yet may use this many places when another is begun. Behind them the

@@ -2,14 +2,14 @@
 ghost use Rattle.std.specs.Prelude.{◌≡◌};
 ghost use Rattle.item_state.specs.Told.{told_value};
 
-use device::Told;
+use refusal::Refusal;
 
 // The number told, or 0.
-pub fn value(told: Told) -> u32
+pub fn value(told: Result<u32, Refusal>) -> u32
     ensures { result ≡ told_value told }
 {
     match told {
-        Told::Value(v) => v,
-        Told::Refused(_) => 0,
+        Ok(v) => v,
+        Err(_) => 0,
     }
 }

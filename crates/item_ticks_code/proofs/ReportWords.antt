@@ -1,5 +1,5 @@
 -- Each report of a tick is one word of the answer. Assumes nothing.
-use Prim.Native.Nat.{ℕ, zero, suc, ◌+◌, ◌-◌, ◌/◌, ◌%◌, ◌<◌}
+use Prim.Native.Nat.{ℕ, zero, suc, ◌+◌, ◌/◌, ◌%◌, ◌<◌}
 use Prim.Native.String.{String}
 use mathlib.Core.Bool.{Bool, true, false}
 use mathlib.Core.List.{List, [], ◌∷◌, ◌++◌, append-nil, append_assoc}
@@ -25,6 +25,7 @@ use Rattle.item_answer.specs.Words.{report, reports, reports_at}
 use Rattle.item_answer.specs.Answer.{ticked}
 use Rattle.item_words_code.specs.OwnReports.{reports_in}
 use Rattle.item_ticks_code.specs.OwnHeld.{word_where, report_word, report_words, ticks_differ}
+use Rattle.refusal.specs.Number.{number}
 
 -- ---- texts without blanks
 
@@ -163,7 +164,7 @@ module _ (a b c d : Bool) (i : ℕ) (t : Text) where
 
 ends_at : (i : ℕ) (a : Answer) (t : Text) → EndsWord t → EndsWord (reports_at i a ++ t)
 unfolding reports_at
-ends_at i (Refused number) t ends = ends
+ends_at i (Refused r) t ends = ends
 ends_at i (Accepted f g) t ends = ends
 ends_at i (Ticked f g) t ends = ends-reports f.failed f.started g.failed g.started i t ends
 ends_at i (Stretched f g) t ends =

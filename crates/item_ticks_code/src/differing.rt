@@ -23,14 +23,13 @@ pub fn ticks_differ(m: Model, n: Ticks, next: u64, number: Ticks, expected: &[u8
     let mut model = m;
     let mut left = n;
     let mut i = next;
+    // A while: each turn takes as many ticks as nothing happens in, and no index counts them.
     while goes_on(left, h) {
         let moved = move_on(model, left);
-        let ran = moved.ran;
-        let later = i + unit::wide(ran.0);
-        let fewer = Ticks(left.0 - ran.0);
+        let later = i + unit::wide(moved.ran.0);
         h = hold_reports(h, expected, moved.flight, moved.temperature, later - 1);
         model = moved.model;
-        left = fewer;
+        left = Ticks(left.0 - moved.ran.0);
         i = later;
     }
     differs_at_end(h)
@@ -40,19 +39,13 @@ pub fn ticks_differ(m: Model, n: Ticks, next: u64, number: Ticks, expected: &[u8
 fn goes_on(left: Ticks, h: Held) -> bool
     ensures { result ≡ both (ltb 0 left.0) (ltb h.start h.end) }
 {
-    if 0 < left.0 {
-        return h.start < h.end;
-    }
-    false
+    0 < left.0 && h.start < h.end
 }
 
 fn differs_at_end(h: Held) -> bool
     ensures { result ≡ either h.differs (ltb h.start h.end) }
 {
-    if h.differs {
-        return true;
-    }
-    h.start < h.end
+    h.differs || h.start < h.end
 }
 
 // The words from a place on.
@@ -94,13 +87,11 @@ fn hold(h: Held, expected: &[u8], what: &[u8], i: u64) -> Held
     requires { (h.end ≤ length expected.now) × (length what.now ≤ 24) }
     ensures { HeldAgainst expected.now h (λ ws. (what.now ++ decimal i) ∷ ws) result }
 {
-    let start = h.start;
-    let end = h.end;
-    if end <= start {
+    if h.end <= h.start {
         return h;
     }
-    if word_fits(&expected[start..end], what, i) {
-        return expect_from(expected, end, h.differs);
+    if word_fits(&expected[h.start..h.end], what, i) {
+        return expect_from(expected, h.end, h.differs);
     }
     Held {
         start: 0,

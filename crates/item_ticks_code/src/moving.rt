@@ -34,9 +34,8 @@ fn move_quietly(m: Model, n: Ticks, most: Ticks) -> Moved
         started: false,
         failed: false,
     };
-    let model = quiet_ticks(m, n);
     Moved {
-        model,
+        model: quiet_ticks(m, n),
         ran: n,
         flight: none,
         temperature: none,
@@ -48,15 +47,10 @@ fn move_by_one(m: Model, most: Ticks) -> Moved
     requires { (is_sound m ≡ true) × (0 < most.0) }
     ensures { MovedOn m most.0 result }
 {
-    let flight = m.flight;
-    let temperature = m.temperature;
-    let f = report_of(flight.schedule);
-    let t = report_of(temperature.schedule);
-    let model = tick_model(m);
     Moved {
-        model,
+        model: tick_model(m),
         ran: Ticks(1),
-        flight: f,
-        temperature: t,
+        flight: report_of(m.flight.schedule),
+        temperature: report_of(m.temperature.schedule),
     }
 }

@@ -31,6 +31,7 @@ pub fn run_ticks(
         next,
         end: at,
     };
+    // A while: each turn takes as many ticks as nothing happens in, and no index counts them.
     while goes_on(r, stop) {
         r = turn(r, buf);
     }
@@ -41,20 +42,13 @@ pub fn run_ticks(
 fn goes_on(r: RanTicks, stop: usize) -> bool
     ensures { result ≡ both (ltb 0 r.left.0) (leb (r.end + 256) stop) }
 {
-    let left = r.left;
-    if 0 < left.0 {
-        return has_room(r.end, stop);
-    }
-    false
+    0 < r.left.0 && has_room(r.end, stop)
 }
 
 fn has_room(at: usize, stop: usize) -> bool
     ensures { result ≡ leb (at + 256) stop }
 {
-    if stop < ROOM_OF_REPORTS {
-        return false;
-    }
-    at <= stop - ROOM_OF_REPORTS
+    ROOM_OF_REPORTS <= stop && at <= stop - ROOM_OF_REPORTS
 }
 
 // At least one tick more.
@@ -62,16 +56,12 @@ fn turn(r: RanTicks, buf: &mut [u8]) -> RanTicks
     requires { (is_sound r.model ≡ true) × (0 < r.left.0) × (r.next + r.left.0 < 9223372036854775808) }
     ensures { Turned r buf.old result buf.new }
 {
-    let all = r.left;
-    let moved = move_on(r.model, all);
-    let ran = moved.ran;
-    let model = moved.model;
-    let next = r.next + unit::wide(ran.0);
+    let moved = move_on(r.model, r.left);
+    let next = r.next + unit::wide(moved.ran.0);
     let end = put_reports(buf, r.end, moved.flight, moved.temperature, next - 1);
-    let left = Ticks(all.0 - ran.0);
     RanTicks {
-        model,
-        left,
+        model: moved.model,
+        left: Ticks(r.left.0 - moved.ran.0),
         next,
         end,
     }

@@ -1,5 +1,5 @@
-pub mod Words
 pub mod Named
 pub mod Turns
 pub mod Digits
 pub mod Last
+pub mod Flags

@@ -31,19 +31,16 @@ pub leads-end : {l l₀ : List ℕ} {at at₀ : ℕ} {rest whole : Text} → res
 leads-end {l} {l₀} {at} e lead = lead at l (rw e (puts_none l at))
 
 -- The words of registers.
-module _ (m : Model) (a n i : ℕ) where
-  pub words-on : i < n
-      → spaced_each (map word (registers m (a + i) (n - i)))
-      ≡ ascii " " ++ word (register_word m (a + i)) ++ spaced_each (map word (registers m (a + (i + 1)) (n - (i + 1))))
+module _ (m : Model) (a end : ℕ) where
+  pub words-on : a < end
+      → spaced_each (map word (registers m a (end - a)))
+      ≡ ascii " " ++ word (register_word m a) ++ spaced_each (map word (registers m (a + 1) (end - (a + 1))))
   unfolding registers spaced_each
-  words-on less =
-      let e : n - i ≡ suc (n - (i + 1)) = omega arith in
-      let next : a + i + 1 ≡ a + (i + 1) = omega arith in
-      rw (e, next)
+  words-on less = let e : end - a ≡ suc (end - (a + 1)) = omega arith in rw e
 
-  pub words-end : n ≤ i → spaced_each (map word (registers m (a + i) (n - i))) ≡ []
+  pub words-end : end ≤ a → spaced_each (map word (registers m a (end - a))) ≡ []
   unfolding registers spaced_each
-  words-end all = let e : n - i ≡ 0 = omega arith in rw e
+  words-end all = let e : end - a ≡ 0 = omega arith in rw e
 
 -- Lines of registers.
 module _ (m : Model) (a n i : ℕ) where

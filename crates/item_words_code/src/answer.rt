@@ -4,7 +4,7 @@ ghost use Rattle.numeral.specs.Ascii.{ascii};
 ghost use Rattle.text.specs.OwnPut.{Puts};
 ghost use Rattle.item_answer.specs.Words.{started, answer_text, output_text};
 
-use crate::refusal::put_refusal;
+use crate::refusals::put_refusal;
 use device::Answer;
 
 // What stands after the first word of a line: nothing of a tick or a stretch that is no refusal.
@@ -12,7 +12,7 @@ pub fn put_answer(buf: &mut [u8], at: usize, answer: Answer) -> usize
     ensures { Puts buf.old at (answer_text answer) result buf.new }
 {
     match answer {
-        Answer::Refused(number) => put_refusal(buf, at, number),
+        Answer::Refused(refusal) => put_refusal(buf, at, refusal.number()),
         Answer::Accepted(flight, temperature) => put_accepted(buf, at, flight, temperature),
         Answer::Good => numeral::put_text(buf, at, b"good"),
         Answer::Failed => numeral::put_text(buf, at, b"failed"),

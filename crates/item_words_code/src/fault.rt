@@ -50,11 +50,8 @@ fn put_shown_bytes(buf: &mut [u8], at: usize, bytes: &[u8]) -> usize
     ensures { Puts buf.old at (map shown_byte bytes.now) result buf.new }
 {
     let mut place = at;
-    let mut i = 0;
-    while i < bytes.len() {
-        let byte = [shown_byte(bytes[i])];
-        place = numeral::put_text(buf, place, &byte);
-        i += 1;
+    for byte in bytes {
+        place = numeral::put_text(buf, place, &[shown_byte(*byte)]);
     }
     place
 }

@@ -6,6 +6,6 @@ pub mod answer;
 pub mod expectation;
 pub mod fault;
 pub mod kept;
-pub mod refusal;
+pub mod refusals;
 pub mod register_lines;
 pub mod reports;

@@ -22,12 +22,9 @@ fn put_eight(buf: &mut [u8], at: usize, m: Model, a: u32) -> usize
     ensures { Puts buf.old at (spaced_each (map word (registers m a 8))) result buf.new }
 {
     let mut place = at;
-    let mut i = 0;
-    while i < 8 {
-        let w = register_word(m, a + i);
+    for address in a..a + 8 {
         let blank = numeral::put_text(buf, place, b" ");
-        place = numeral::put_hex(buf, blank, 4, w);
-        i += 1;
+        place = numeral::put_hex(buf, blank, 4, register_word(m, address));
     }
     place
 }
@@ -37,11 +34,9 @@ pub fn put_further_lines(buf: &mut [u8], at: usize, m: Model) -> usize
     ensures { Puts buf.old at (ended_each (register_lines m 0xB8 9)) result buf.new }
 {
     let mut place = at;
-    let mut i = 0;
-    while i < 9 {
-        let end = put_register_line(buf, place, m, 184 + 8 * i);
+    for i in 0..9 {
+        let end = put_register_line(buf, place, m, 0xb8 + 8 * i);
         place = numeral::put_text(buf, end, b"\n");
-        i += 1;
     }
     place
 }

@@ -4,7 +4,7 @@ ghost use Rattle.numeral.specs.Print.{decimal};
 ghost use Rattle.device.specs.declared.Answer.TheVariants.{Stretched};
 ghost use Rattle.text.specs.Text.{text_where};
 ghost use Rattle.text.specs.OwnPut.{Puts};
-ghost use Rattle.item_answer.specs.Words.{reports, reports_at, reports_to};
+ghost use Rattle.item_answer.specs.Words.{reports_at, reports_to};
 ghost use Rattle.item_words_code.specs.OwnReports.{sooner as OwnReports·sooner, next_named, reports_in, reports_after};
 
 use device::{Answer, Report, StretchReport};
@@ -54,6 +54,7 @@ pub fn put_reports_after(
     let mut place = at;
     let mut passed = 0;
     let mut next = next_named(flight, temperature, passed);
+    // A while: it goes from one named tick to the next, and no index counts them.
     while next <= last {
         let f = named_in(flight, next);
         let t = named_in(temperature, next);

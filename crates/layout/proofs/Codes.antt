@@ -9,8 +9,9 @@ use Rattle.device.specs.declared.Model.{Model}
 use Rattle.device.specs.declared.Answer.{Answer}
 use Rattle.layout.specs.Layout.{stored}
 use Rattle.layout.specs.Code.{code_of, words_of, filled, Gives, kept, model_after}
+use Rattle.refusal.specs.declared.Refusal.{Refusal}
 
-codes : (code_of (Answer.Refused 6) ≡ 6) × (code_of (Answer.Accepted true false) ≡ 0xFFFFFFFF) × (code_of Answer.Good ≡ 0xFFFFFFFF)
+codes : (code_of (Answer.Refused Refusal.Busy) ≡ 6) × (code_of (Answer.Accepted true false) ≡ 0xFFFFFFFF) × (code_of Answer.Good ≡ 0xFFFFFFFF)
     × (code_of Answer.Failed ≡ 0xFFFFFFFE)
 unfolding code_of
 codes = (refl, refl, refl, refl)
@@ -36,7 +37,7 @@ first-words = (refl, refl)
 
 -- A model goes into 233 bytes, and into no other number of them; a refusal leaves them.
 bytes_after : (m : Model) → (model_after Answer.Failed m (replicate 233 0) ≡ stored m) × (model_after Answer.Failed m (replicate 232 7) ≡ replicate 232 7)
-    × (model_after (Answer.Refused 6) m (replicate 233 0) ≡ replicate 233 0)
+    × (model_after (Answer.Refused Refusal.Busy) m (replicate 233 0) ≡ replicate 233 0)
 unfolding model_after kept
 bytes_after m = (refl, refl, refl)
 

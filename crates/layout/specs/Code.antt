@@ -8,6 +8,7 @@ use Rattle.device.specs.declared.Reply.{Reply}
 use Rattle.device.specs.declared.Answer.{Answer}
 use Rattle.device.specs.declared.Answer.TheVariants.{Refused, Accepted, Ticked, Stretched, Good, Failed}
 use Rattle.layout.specs.Layout.{stored}
+use Rattle.refusal.specs.Number.{number}
 
 -- "the refusal's number, or for acceptance a value that is none of them"; a delivery is good or failed
 abbrev pub accepted : ℕ
@@ -20,7 +21,7 @@ abbrev pub code_in : List ℕ → ℕ
 code_in numbers = get_or numbers 0 accepted
 
 unfoldable pub code_of : Answer → ℕ
-code_of (Refused n) = n
+code_of (Refused r) = number r
 code_of (Accepted f t) = accepted
 code_of (Ticked f t) = accepted
 code_of (Stretched f t) = accepted
@@ -30,7 +31,7 @@ code_of Failed = failed
 -- The words of an answer: flight, then temperature. A tick names for each whether one started and whether one failed, a stretch the
 -- ticks in which they did. Yes is 1, no is 0.
 unfoldable pub words_of : Answer → List ℕ
-words_of (Refused n) = []
+words_of (Refused r) = []
 words_of (Accepted f t) = bool_byte f ∷ bool_byte t ∷ []
 words_of (Ticked f t) = bool_byte f.started ∷ bool_byte f.failed ∷ bool_byte t.started ∷ bool_byte t.failed ∷ []
 words_of (Stretched f t) = f.started.0 ∷ f.failed.0 ∷ t.started.0 ∷ t.failed.0 ∷ []
@@ -42,7 +43,7 @@ abbrev pub filled : {A : Type 0} → List A → List A → List A
 filled buffer words = sets buffer 0 words
 
 -- A question's or an analysis's answer `a`, handed over: the code by its number, and its values in the first places of the buffer.
-pub record Gives {A : Type 0} (number values : A → List ℕ) (a : A) (words : List ℕ) (code : ℕ) (words' : List ℕ) : Type 0 where
+pub record Gives {A V : Type 0} (number : A → List ℕ) (values : A → List V) (a : A) (words : List V) (code : ℕ) (words' : List V) : Type 0 where
   pub coded : code ≡ code_in (number a)
   pub worded : words' ≡ filled words (values a)
 
@@ -52,7 +53,7 @@ kept m bytes = pick (eqb (length bytes) 233) (stored m) bytes
 
 -- "a refusal changes nothing"
 unfoldable pub model_after : Answer → Model → List ℕ → List ℕ
-model_after (Refused n) m bytes = bytes
+model_after (Refused r) m bytes = bytes
 model_after (Accepted f t) m bytes = kept m bytes
 model_after (Ticked f t) m bytes = kept m bytes
 model_after (Stretched f t) m bytes = kept m bytes

@@ -1,15 +1,15 @@
 -- Where a line ends. Assumes nothing.
-use Prim.Native.Nat.{ℕ, zero, suc, ◌+◌, ◌-◌, ◌≤◌, ◌<◌}
+use Prim.Native.Nat.{ℕ, suc, ◌+◌, ◌-◌, ◌≤◌, ◌<◌}
 use mathlib.Core.Bool.{Bool, true, false, cond, false≢true}
-use mathlib.Core.List.{List, [], ◌∷◌, ◌++◌}
+use mathlib.Core.List.{List, [], ◌∷◌}
 use mathlib.Core.Path.{◌≡◌, refl, sym, ap, ◌∙◌}
 use native.Mathlib.Decide.{dec_lt}
-use native.Mathlib.Nat.{zero-add, add-zero, add_comm}
+use native.Mathlib.Nat.{zero-add}
 use native.Mathlib.Numerals.{add-one}
 use native.Mathlib.Omega.{arith}
 use lib.Dec.{eqb, ltb}
-use lib.ListN.{length, get_or, set, take, drop, length-drop, drop_of_length-le}
-use lib.Seq.{drop-cons, take-suc, take-suc-set, get_or-drop, drop-drop, drop-set-lt}
+use lib.ListN.{length, get_or, take, drop, length-drop, drop_of_length-le}
+use lib.Seq.{drop-cons, drop-drop}
 use borrow.Author.Tests.{eq-eqb, ne_eqb, lt-ltb, le-ltb}
 use Rattle.line_buffer.specs.Lines.{has_line, line_of, behind_line, line_end}
 
@@ -116,9 +116,6 @@ module _ (bytes : List ℕ) (i end : ℕ) (there : end ≡ line_end i bytes) whe
 
 -- Eight places, one after the other.
 module _ (bytes : List ℕ) (i : ℕ) (room : i + 8 ≤ length bytes) where
-  pub begun : line_end i bytes ≡ line_end (i + 0) bytes
-  begun = rw (add-zero i)
-
   pub passed : (k : ℕ) → k < 8 → ¬ (get_or bytes (i + k) 0 ≡ 10) → line_end i bytes ≡ line_end (i + k) bytes
       → line_end i bytes ≡ line_end (i + (k + 1)) bytes
   passed k small other e =
@@ -126,21 +123,3 @@ module _ (bytes : List ℕ) (i : ℕ) (room : i + 8 ≤ length bytes) where
 
   pub found : (k : ℕ) → k < 8 → get_or bytes (i + k) 0 ≡ 10 → line_end i bytes ≡ line_end (i + k) bytes → i + k ≡ line_end i bytes
   found k small same e = sym (e ∙ end-here bytes (i + k) (omega arith) same)
-
--- Bytes brought to the front, one more: the first ones, and those not reached yet.
-module _ (bytes bytes₀ : List ℕ) (from i : ℕ) (long : length bytes ≡ length bytes₀) (room : from + i < length bytes₀)
-    (rest : drop i bytes ≡ drop i bytes₀) where
-  same : get_or bytes (from + i) 0 ≡ get_or bytes₀ (from + i) 0
-  same =
-      rw (add_comm from i)
-      (sym (get_or-drop i bytes from 0) ∙ ap (λ (l : List ℕ). get_or l from 0) rest ∙ get_or-drop i bytes₀ from 0)
-
-  pub first_on : take i bytes ≡ take i (drop from bytes₀)
-      → take (i + 1) (set bytes i (get_or bytes (from + i) 0)) ≡ take (i + 1) (drop from bytes₀)
-  first_on first =
-      let here : i < length (drop from bytes₀) = omega (arith, length-drop from bytes₀) in
-      rw (add-one i, take-suc-set bytes i (get_or bytes (from + i) 0) (omega (arith, long)), take-suc (drop from bytes₀) i 0 here, first, same, get_or-drop from bytes₀ i 0)
-
-  pub rest-on : (v : ℕ) → drop (i + 1) (set bytes i v) ≡ drop (i + 1) bytes₀
-  rest-on v =
-      drop-set-lt (i + 1) bytes i v (omega arith) ∙ sym (drop-drop 1 i bytes) ∙ ap (λ (l : List ℕ). drop 1 l) rest ∙ drop-drop 1 i bytes₀

@@ -16,7 +16,7 @@ use line::{Content, Counted, Form, Keyword, Said, Tally};
 use numeral::Number;
 
 // The count of numbers that no list reaches.
-const EVERY: usize = 18446744073709551615;
+pub(crate) const EVERY: usize = usize::MAX;
 
 // Reads a line, without its line feed.
 pub fn read_line(line: &[u8], numbers: &mut [u32]) -> Said
@@ -43,7 +43,7 @@ pub(crate) fn content_length(line: &[u8]) -> usize
     if n < 1 {
         return 0;
     }
-    if line[n - 1] == 13 { n - 1 } else { n }
+    if line[n - 1] == b'\r' { n - 1 } else { n }
 }
 
 fn words_call(s: &[u8], numbers: &mut [u32]) -> Said
@@ -58,7 +58,7 @@ fn words_call(s: &[u8], numbers: &mut [u32]) -> Said
             expected: 0,
         };
     }
-    if s[start] == 35 {
+    if s[start] == b'#' {
         return Said {
             content: Content::Nothing,
             expected: 0,
@@ -260,18 +260,11 @@ fn flight_of(count: usize, slashes: usize, up: usize) -> Content
     if 16 < up {
         return Content::WrongCount;
     }
-    let down = less(count, up);
+    let down = count.saturating_sub(up);
     if 16 < down {
         return Content::WrongCount;
     }
     Content::Flight { up, down }
-}
-
-// a - b, or 0.
-fn less(a: usize, b: usize) -> usize
-    ensures { result ≡ a - b }
-{
-    if a < b { 0 } else { a - b }
 }
 
 fn temperature_call(s: &[u8], at: usize, numbers: &mut [u32]) -> Content

@@ -13,6 +13,7 @@ pub(crate) fn decimals(s: &[u8], at: usize, signed: bool, numbers: &mut [u32]) -
     requires { at ≤ length s.now }
     ensures { record { tally = result; numbers = numbers.new } ≡ listed signed 0 numbers.old (words (drop at s.now)) }
 {
+    // Kept as a while: a turn takes a word, and goes on behind it.
     let mut i = at;
     let mut count: usize = 0;
     while i < s.len() {

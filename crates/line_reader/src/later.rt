@@ -4,15 +4,12 @@ ghost use Rattle.std.specs.Prelude.{◌≡◌, ◌≤◌, length, drop};
 ghost use Rattle.line.specs.Words.{words};
 ghost use Rattle.line.specs.Line.{reading, numbered as Line·numbered, decimal_call, set_words, set_from, set_reading, probe_reading, record_reading, degrees_reading, hex_call, listing_call};
 
-use crate::calls::alone;
+use crate::calls::{EVERY, alone};
 use crate::decimals::decimals;
 use crate::numbers::tally;
 use crate::words::{next_word, same};
 use line::{Content, Counted, Form, Tally};
 use numeral::Number;
-
-// The count of numbers that no list reaches.
-const EVERY: usize = 18446744073709551615;
 
 // `tick N`, `at T`, `stretch N` and `quietest W`.
 pub(crate) fn decimal_call(k: Counted, s: &[u8], at: usize) -> Content

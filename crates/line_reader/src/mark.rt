@@ -35,6 +35,7 @@ fn marked_part(s: &[u8], at: usize) -> Span
     requires { (at ≤ length s.now) × (at < length s.now → is_blank (get_or s.now at 0) ≡ true) }
     ensures { CallPart true s.now at result.start result.end }
 {
+    // Kept as a while: a turn takes a word, and goes on behind it.
     let mut i = at;
     while i < s.len() {
         let word = next_word(s, i);

@@ -1,5 +1,5 @@
 // The numbers of a line.
-ghost use Rattle.std.specs.Prelude.{◌≡◌, true, cond, ◌+◌, ◌≤◌, ◌<◌, eqb, length, get_or, set, drop};
+ghost use Rattle.std.specs.Prelude.{◌≡◌, true, cond, ◌+◌, ◌≤◌, ◌<◌, eqb, length, get_or, set, drop, IfSome};
 ghost use Rattle.line.specs.Words.{is_blank, words};
 ghost use Rattle.line.specs.Numbers.{is_slash, list_word, tallied};
 ghost use Rattle.line.specs.Clean.{DigitsAt, WholeAt, PairAt, Passed};
@@ -13,6 +13,7 @@ pub(crate) fn tally(s: &[u8], at: usize, form: Form, numbers: &mut [u32]) -> Tal
     requires { at ≤ length s.now }
     ensures { record { tally = result; numbers = numbers.new } ≡ tallied form 0 0 0 numbers.old (words (drop at s.now)) }
 {
+    // Kept as a while: a turn takes a word, and goes on behind it.
     let mut i = at;
     let mut count: usize = 0;
     let mut slashes: usize = 0;
@@ -53,12 +54,11 @@ fn clean_numbers(s: &[u8], at: usize, form: Form, n: usize, numbers: &mut [u32])
     requires { at ≤ length s.now }
     ensures { Passed form s.now at n numbers.old result.at result.count numbers.new }
 {
-    if form.most == 2 {
-        if form.least == 2 {
-            return pairs(s, at, form, n, numbers);
-        }
+    if form.most == 2 && form.least == 2 {
+        return pairs(s, at, form, n, numbers);
     }
-    let room = less_of(form.looked, numbers.len());
+    let room = form.looked.min(numbers.len());
+    // Kept as a while: a turn takes a word, and goes on behind it.
     let mut i = at;
     let mut count = n;
     while i < s.len() {
@@ -85,14 +85,14 @@ fn pairs(s: &[u8], at: usize, form: Form, n: usize, numbers: &mut [u32]) -> Reac
     requires { (at ≤ length s.now) × (form.most ≡ 2) × (form.least ≡ 2) }
     ensures { Passed form s.now at n numbers.old result.at result.count numbers.new }
 {
-    let room = less_of(form.looked, numbers.len());
+    let room = form.looked.min(numbers.len());
+    // Kept as a while: a turn takes three places, and goes no further than there are three.
     let mut i = at;
     let mut count = n;
     while s.len() - i >= 3 {
-        let v = pair_at(s, i);
-        if 256 <= v {
+        let Some(v) = pair_at(s, i) else {
             return Reached { at: i, count };
-        }
+        };
         if room <= count {
             return Reached { at: i, count };
         }
@@ -103,53 +103,32 @@ fn pairs(s: &[u8], at: usize, form: Form, n: usize, numbers: &mut [u32]) -> Reac
     Reached { at: i, count }
 }
 
-// The number of the two digits behind the blank at i, which no third follows, or 256.
-fn pair_at(s: &[u8], i: usize) -> u32
+// The number of the two digits behind the blank at i, where no third follows.
+fn pair_at(s: &[u8], i: usize) -> Option<u32>
     requires { i + 3 ≤ length s.now }
-    ensures { result < 256 → PairAt s.now i result }
+    ensures { IfSome result (λ v. PairAt s.now i v) }
 {
     let high = numeral::hex_digit(s[i + 1]);
     let low = numeral::hex_digit(s[i + 2]);
-    if s[i] != 32 {
-        return 256;
-    }
-    if 16 <= high {
-        return 256;
-    }
-    if 16 <= low {
-        return 256;
-    }
-    if stops_at(s, i + 3) {
-        high * 16 + low
+    if s[i] == b' ' && high < 16 && low < 16 && stops_at(s, i + 3) {
+        Some(high * 16 + low)
     } else {
-        256
+        None
     }
-}
-
-fn less_of(a: usize, b: usize) -> usize
-    ensures { (result ≤ a) × (result ≤ b) }
-{
-    if a < b { a } else { b }
 }
 
 // The bytes from `start` to `end` are some, at least `least`, and no word goes on after them.
 fn is_whole(s: &[u8], start: usize, end: usize, least: usize) -> bool
     ensures { result ≡ true → WholeAt s.now start end least }
 {
-    if end <= start {
-        return false;
-    }
-    if end - start < least {
-        return false;
-    }
-    stops_at(s, end)
+    start < end && least <= end - start && stops_at(s, end)
 }
 
 // No word goes on at the place i.
 fn stops_at(s: &[u8], i: usize) -> bool
     ensures { result ≡ true → i < length s.now → is_blank (get_or s.now i 0) ≡ true }
 {
-    if i < s.len() { is_blank(s[i]) } else { true }
+    s.len() <= i || is_blank(s[i])
 }
 
 // The digits from the place `start` on, `most` of them and eight at most.
@@ -157,30 +136,16 @@ fn digits_at(s: &[u8], start: usize, most: usize) -> Digits
     requires { start ≤ length s.now }
     ensures { DigitsAt s.now start result.end most result.value }
 {
-    let stop = stop_of(s.len(), start, most);
+    let stop = start + most.min(8).min(s.len() - start);
     let mut value: u32 = 0;
-    let mut i = start;
-    while i < stop {
+    for i in start..stop {
         let d = numeral::hex_digit(s[i]);
         if 16 <= d {
             return Digits { end: i, value };
         }
         value = value * 16 + d;
-        i += 1;
     }
-    Digits { end: i, value }
-}
-
-fn stop_of(len: usize, start: usize, most: usize) -> usize
-    requires { start ≤ len }
-    ensures { (result ≤ len) × (result ≤ start + most) × (result ≤ start + 8) }
-{
-    let wanted = less_of(most, 8);
-    if wanted < len - start {
-        start + wanted
-    } else {
-        len
-    }
+    Digits { end: stop, value }
 }
 
 // What a word is after n numbers.
@@ -202,7 +167,7 @@ fn list_word(word: &[u8], form: Form, n: usize) -> ListWord
 fn is_slash(slash: bool, word: &[u8]) -> bool
     ensures { result ≡ is_slash slash word.now }
 {
-    if slash { same(word, b"/") } else { false }
+    slash && same(word, b"/")
 }
 
 // The numbers before the first slash, at another slash.

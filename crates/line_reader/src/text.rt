@@ -35,6 +35,7 @@ fn put_blanked(buf: &mut [u8], at: usize, s: &[u8], from: usize) -> usize
     requires { from ≤ length s.now }
     ensures { record { next = result; bytes = buf.new } ≡ put_each buf.old at (blanked (words (drop from s.now))) }
 {
+    // Kept as a while: a turn takes a word, and goes on behind it.
     let mut place = at;
     let mut i = from;
     while i < s.len() {

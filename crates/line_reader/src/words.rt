@@ -24,15 +24,12 @@ pub(crate) fn skip_blanks(s: &[u8], at: usize) -> usize
     requires { at ≤ length s.now }
     ensures { Skipped s.now at result }
 {
-    let mut i = at;
-    while i < s.len() {
-        if is_blank(s[i]) {
-            i += 1;
-        } else {
+    for i in at..s.len() {
+        if !is_blank(s[i]) {
             return i;
         }
     }
-    i
+    s.len()
 }
 
 // The end of the word that starts at a place.
@@ -40,37 +37,22 @@ fn word_end(s: &[u8], start: usize) -> usize
     requires { (start < length s.now) × (is_blank (get_or s.now start 0) ≡ false) }
     ensures { Ended s.now start result }
 {
-    let mut i = start + 1;
-    while i < s.len() {
+    for i in start + 1..s.len() {
         if is_blank(s[i]) {
             return i;
         }
-        i += 1;
     }
-    i
+    s.len()
 }
 
 pub(crate) fn is_blank(c: u8) -> bool
     ensures { result ≡ is_blank c }
 {
-    if 32 < c {
-        return false;
-    }
-    if c == 32 { true } else { c == 9 }
+    c == b' ' || c == b'\t'
 }
 
 pub(crate) fn same(a: &[u8], b: &[u8]) -> bool
     ensures { result ≡ same_bytes a.now b.now }
 {
-    let mut i = 0;
-    while i < a.len() {
-        if b.len() <= i {
-            return false;
-        }
-        if a[i] != b[i] {
-            return false;
-        }
-        i += 1;
-    }
-    b.len() <= i
+    a == b
 }

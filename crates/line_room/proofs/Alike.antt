@@ -9,7 +9,6 @@ use lib.IntN.{ℤ}
 use lib.ListN.{length, get_or, set, take, drop, length-set, length-append, length-take, length-drop}
 use Rattle.unit.proofs.Cases.{by-test, by-ltb, by-leb}
 use Rattle.numeral.specs.Place.{joined}
-use Rattle.listing.specs.declared.Listed.{Listed}
 use Rattle.listing.specs.Listing.{capture_digits, line_length, last_above, listing}
 use Rattle.listing.proofs.Meaning.{Fit, lines-length}
 use Rattle.line.specs.declared.Content.{Content}
@@ -29,6 +28,9 @@ use Rattle.answer_text.proofs.Analysis.{recorded-fit}
 use Rattle.answer_text.proofs.Line.{line-page, line-aside}
 use Rattle.session.specs.Line.{State, with_flash, line_done, line_begun, line_ended}
 use Rattle.line_room.proofs.Room.{put-long}
+use Rattle.refusal.specs.declared.Refusal.{Refusal}
+use Rattle.refusal.specs.Number.{number}
+use Rattle.std.specs.Prelude.{Result, Ok, Err}
 
 -- One log has as many counts and as long a buffer as another.
 pub record Alike (l l' : Log) : Type 0 where
@@ -149,10 +151,10 @@ listed-long d values first l at fit =
     (omega (arith, length-take at l, length-drop at l, listing-long d values first (drop at l) fit)))
     (λ h e. rw e)
 
-told-alike : (x : Listed) (at : ℕ) (l : Log) → Alike l (listing_told x at l)
+told-alike : (x : Result ℕ Refusal) (at : ℕ) (l : Log) → Alike l (listing_told x at l)
 unfolding listing_told
-told-alike (Listed.Written n) at l = counts-alike (counted l.counts 0 (min (at + n) 18446744073709551615)) l (counted-long l.counts 0 _)
-told-alike (Listed.Refused number) at l = called-alike 1 (refused (ascii "listing") number) l
+told-alike (Ok n) at l = counts-alike (counted l.counts 0 (min (at + n) 18446744073709551615)) l (counted-long l.counts 0 _)
+told-alike (Err r) at l = called-alike 1 (refused (ascii "listing") (number r)) l
 
 listing-alike : (old : Bool) (first : ℕ) (differences : List ℤ) (l : Log) → Fit differences → Alike l (listing_line old first differences l)
 unfolding listing_line

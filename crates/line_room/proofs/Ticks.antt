@@ -16,9 +16,6 @@ use Rattle.device.specs.declared.Answer.TheVariants.{Refused, Accepted, Ticked, 
 use Rattle.device.specs.Model.{is_sound}
 use Rattle.device.specs.Call.{Call}
 use Rattle.device.specs.Reply.{reply}
-use Rattle.thermometer.specs.declared.InDegrees.{InDegrees}
-use Rattle.thermometer.specs.declared.InDegrees.TheVariants.{Thousandths, Refused as NoDegrees}
-use Rattle.quietest.specs.declared.Place.{Place}
 use Rattle.listing.specs.Listing.{last_above}
 use Rattle.line.specs.declared.Content.{Content}
 use Rattle.wording.specs.Wording.{Texts}
@@ -32,6 +29,8 @@ use Rattle.session.specs.Line.{Replay}
 use Rattle.line_text.specs.Text.{head_told, begun_told, fault_told, item_told, bare, own_told, head_of, own_of}
 use Rattle.line_text.proofs.Told.{begun-long, fault-aside, item-aside}
 use Rattle.line_room.specs.Form.{ticks_of, ticks_left}
+use Rattle.refusal.specs.declared.Refusal.{Refusal}
+use Rattle.std.specs.Prelude.{Result, Ok, Err}
 
 -- ---- counts that leave count 21 as it was
 
@@ -59,7 +58,7 @@ item-left counts =
 
 start_left : (answer : Answer) (counts : List ℕ) → get_or (start_moment answer counts) 21 0 ≡ get_or counts 21 0
 unfolding start_moment
-start_left (Refused number) counts = refl
+start_left (Refused r) counts = refl
 start_left (Accepted true temperature) counts = get_or-set_other counts 9 21 0 0 (λ e. omega arith)
 start_left (Accepted false true) counts = get_or-set_other counts 9 21 0 0 (λ e. omega arith)
 start_left (Accepted false false) counts = refl
@@ -217,10 +216,10 @@ record-left : (ws : List ℕ) (differences : List ℤ) (counts : List ℕ) → g
 unfolding told_of_record
 record-left ws differences counts = get_or-set_other counts 10 21 _ 0 (λ e. omega arith)
 
-in-degrees-left : (d : InDegrees) (counts : List ℕ) → get_or (told_in_degrees d counts).counts 21 0 ≡ get_or counts 21 0
+in-degrees-left : (d : Result ℕ Refusal) (counts : List ℕ) → get_or (told_in_degrees d counts).counts 21 0 ≡ get_or counts 21 0
 unfolding told_in_degrees
-in-degrees-left (Thousandths n) counts = called-left 0 counts
-in-degrees-left (NoDegrees number) counts = called-left 1 counts
+in-degrees-left (Ok n) counts = called-left 0 counts
+in-degrees-left (Err r) counts = called-left 1 counts
 
 degrees-left : (numbers probes counts : List ℕ) → get_or (told_of_degrees numbers probes counts).counts 21 0 ≡ get_or counts 21 0
 unfolding told_of_degrees
@@ -232,10 +231,10 @@ unfolding told_of_listing
 listing-left d first values used counts =
     either_left (last_above d first (length values)) _ _ (get_or counts 21 0) (called-left 1 counts) (called-left 0 counts)
 
-place-left : (q : Place) (values : List ℤ) (width : ℕ) (counts : List ℕ) → get_or (told_of_place q values width counts).counts 21 0 ≡ get_or counts 21 0
+place-left : (q : Result ℕ Refusal) (values : List ℤ) (width : ℕ) (counts : List ℕ) → get_or (told_of_place q values width counts).counts 21 0 ≡ get_or counts 21 0
 unfolding told_of_place
-place-left (Place.At start) values width counts = called-left 0 counts
-place-left (Place.Refused number) values width counts = called-left 1 counts
+place-left (Ok start) values width counts = called-left 0 counts
+place-left (Err r) values width counts = called-left 1 counts
 
 quietest-left : (width : ℕ) (values : List ℤ) (counts : List ℕ) → get_or (told_of_quietest width values counts).counts 21 0 ≡ get_or counts 21 0
 unfolding told_of_quietest

@@ -15,9 +15,6 @@ use Rattle.device.specs.declared.Answer.TheVariants.{Refused, Accepted, Ticked, 
 use Rattle.device.specs.Model.{is_sound}
 use Rattle.device.specs.Call.{Call}
 use Rattle.device.specs.Reply.{reply}
-use Rattle.thermometer.specs.declared.InDegrees.{InDegrees}
-use Rattle.thermometer.specs.declared.InDegrees.TheVariants.{Thousandths, Refused as NoDegrees}
-use Rattle.quietest.specs.declared.Place.{Place}
 use Rattle.listing.specs.Listing.{capture_digits, lines, last_above}
 use Rattle.setup_frames.specs.Frames.{frames}
 use Rattle.line.specs.declared.Content.{Content}
@@ -29,6 +26,9 @@ use Rattle.item_questions.specs.Answers.{question_line}
 use Rattle.item_analysis.specs.Lines.{degrees_of, width_of, probe_line, record_line, analysis_line}
 use Rattle.answer_text.specs.Texts.{Told, silent, behind, answered, told_of_transaction, told_of_bus, told_of_set, told_of_single, told_of_head, told_of_part, told_of_ticks, told_of_tick, told_of_at, told_of_stretch, told_of_delivery, call_told, told_of_expect, told_of_frames, question_told, told_of_probe, told_in_degrees, told_of_degrees, told_of_record, told_of_listing, told_of_place, told_of_quietest, recorded, analysis_told}
 use Rattle.answer_text.specs.Line.{line_left, line_told, told_of_kept}
+use Rattle.refusal.specs.declared.Refusal.{Refusal}
+use Rattle.refusal.specs.Number.{number}
+use Rattle.std.specs.Prelude.{Result, Ok, Err}
 
 module _ (p v : ℕ) (low : 11 < p) (high : p < 21) where
   -- the same with another number in the place
@@ -64,7 +64,7 @@ module _ (p v : ℕ) (low : 11 < p) (high : p < 21) where
 
   start-placed : (answer : Answer) (counts : List ℕ) → start_moment answer (set counts p v) ≡ set (start_moment answer counts) p v
   unfolding start_moment
-  start-placed (Refused number) counts = refl
+  start-placed (Refused r) counts = refl
   start-placed (Accepted true temperature) counts = set_comm counts p 9 v 0 (λ e. omega arith)
   start-placed (Accepted false true) counts = set_comm counts p 9 v 0 (λ e. omega arith)
   start-placed (Accepted false false) counts = refl
@@ -321,10 +321,10 @@ module _ (p v : ℕ) (low : 11 < p) (high : p < 21) where
   record-placed ws differences counts =
       rw (get_or-set_other counts p 10 v 0 (λ e. omega arith), set_comm counts p 10 v _ (λ e. omega arith))
 
-  in-degrees-placed : (d : InDegrees) → Placed (told_in_degrees d)
+  in-degrees-placed : (d : Result ℕ Refusal) → Placed (told_in_degrees d)
   unfolding told_in_degrees
-  in-degrees-placed (Thousandths n) counts = answered-placed 0 _ counts
-  in-degrees-placed (NoDegrees number) counts = answered-placed 1 _ counts
+  in-degrees-placed (Ok n) counts = answered-placed 0 _ counts
+  in-degrees-placed (Err r) counts = answered-placed 1 _ counts
 
   degrees-placed : (numbers probes : List ℕ) → Placed (told_of_degrees numbers probes)
   unfolding told_of_degrees
@@ -332,14 +332,14 @@ module _ (p v : ℕ) (low : 11 < p) (high : p < 21) where
       let d = degrees_of (take (get_or counts 11 0) probes) (get_or numbers 0 0) (get_or numbers 1 0) in
       rw (get_or-set_other counts p 11 v 0 (λ e. omega arith), in-degrees-placed d counts) (go d (ltb (length numbers) 2))
     where
-      go : (d : InDegrees) (b : Bool) → cond b (silent (set counts p v)) (placed (told_in_degrees d counts)) ≡ placed (cond b (silent counts) (told_in_degrees d counts))
+      go : (d : Result ℕ Refusal) (b : Bool) → cond b (silent (set counts p v)) (placed (told_in_degrees d counts)) ≡ placed (cond b (silent counts) (told_in_degrees d counts))
       go d true = refl
       go d false = refl
 
-  place-placed : (q : Place) (values : List ℤ) (width : ℕ) → Placed (told_of_place q values width)
+  place-placed : (q : Result ℕ Refusal) (values : List ℤ) (width : ℕ) → Placed (told_of_place q values width)
   unfolding told_of_place
-  place-placed (Place.At start) values width counts = answered-placed 0 _ counts
-  place-placed (Place.Refused number) values width counts = answered-placed 1 _ counts
+  place-placed (Ok start) values width counts = answered-placed 0 _ counts
+  place-placed (Err r) values width counts = answered-placed 1 _ counts
 
   quietest-placed : (width : ℕ) (values : List ℤ) → Placed (told_of_quietest width values)
   unfolding told_of_quietest

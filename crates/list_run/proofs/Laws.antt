@@ -1,5 +1,5 @@
 -- What a call that fits has, and what a run of one more call is.
-use Prim.Native.Nat.{ℕ, zero, suc, ◌+◌, ◌-◌, ◌*◌, ◌/◌, ◌≤◌, ◌<◌}
+use Prim.Native.Nat.{ℕ, zero, suc, ◌+◌, ◌-◌, ◌*◌, ◌/◌, ◌≤◌, ◌<◌, min}
 use native.Mathlib.Omega.{arith}
 use native.Mathlib.Numerals.{add-one}
 use mathlib.Core.Bool.{Bool, true, false}
@@ -20,7 +20,7 @@ use Rattle.device.specs.Call.{Call, transaction, tick, flight, temperature, stre
 use Rattle.device.specs.Reply.{reply, refuse, output, memory, buffer_of, memory_of}
 use Rattle.device.specs.Tick.{tick_model}
 use Rattle.device.specs.Stretch.{model_ticked}
-use Rattle.device.specs.StretchSteps.{least, quiet_for}
+use Rattle.device.specs.StretchSteps.{quiet_for}
 use Rattle.device.proofs.Replies.{reply-tick}
 use Rattle.ticking.proofs.Quiet.{next-flight, next-temperature}
 use Rattle.reply_parts.proofs.Decode.{reply-unsound}
@@ -31,6 +31,7 @@ use Rattle.call_list.specs.declared.Place.{Place}
 use Rattle.call_list.specs.declared.Progress.{Progress}
 use Rattle.call_list.specs.CallList.{answers_after, beginning, Run, part, within, entry_at, entry_fits, call_fits, call_of, output_after, flash_after, place_after, step, step_by, fits, runs}
 use Rattle.list_run.specs.Room.{AllTicks, Moved, Near, Room, Told, quiet_answer, quiet_answers, quiet_progress}
+use Rattle.refusal.specs.declared.Refusal.{Refusal}
 
 -- The parts of a call that fits.
 pub frame-fits :
@@ -259,13 +260,13 @@ pub unsound-step :
     (frames hits : List ℕ) (e : Entry) (s : Run) (r : Progress) (answers : List ℕ) →
     is_sound s.progress.model ≡ false →
     r ≡ record { model = s.progress.model; place = place_after e s.progress.place } →
-    answers ≡ answers_after (Answer.Refused 0) (5 * s.progress.place.calls) s.answers →
+    answers ≡ answers_after (Answer.Refused Refusal.NotSound) (5 * s.progress.place.calls) s.answers →
     ◌≡◌ {A = Run} record { progress = r; output = s.output; flash = s.flash; answers = answers } (step frames hits e s)
 unfolding step
 unsound-step frames hits e s r answers h a b =
     let c : Call = call_of e s.progress.place frames hits s.output s.flash in
     let (o, f) = unsound-leaves e s.progress.place s.progress.model frames hits s.output s.flash h in
-    rw a (step_is e c s (refuse 0 s.progress.model) _ _ _ _ (reply-unsound s.progress.model c h).0 refl o f b)
+    rw a (step_is e c s (refuse Refusal.NotSound s.progress.model) _ _ _ _ (reply-unsound s.progress.model c h).0 refl o f b)
 
 -- A run of one more call, and where it ends.
 pub run-one :
@@ -566,11 +567,6 @@ module _ (n : ℕ) (sound : Bool) (calls frames hits : List ℕ) (s t : Run) (e 
   pub going-ends : n ≤ t.progress.place.calls → t ≡ runs n calls frames hits s
   going-ends h = sym (g.same ∙ run-done n calls frames hits t h)
 
--- The smaller of two numbers has what both have.
-pub least-of : (a b k : ℕ) → k < a → k < b → (k < least a b) × (least a b ≤ a) × (least a b ≤ b)
-unfolding least
-least-of a b k h i = by-ltb b a (λ l e. rw e (omega arith, omega arith, omega arith)) (λ l e. rw e (omega arith, omega arith, omega arith))
-
 -- What the parts of the code leave.
 pub told_of :
     (e : Entry) (c : Call) (p r : Progress) (s : Reply) (before after : List ℕ) →
@@ -650,23 +646,15 @@ no_room : (e : Entry) (p : Place) (f h o a : ℕ) → a / 5 ≤ p.calls → call
 unfolding call_fits
 no_room e p f h o a l = let m : a - 5 * p.calls < 5 = omega arith in rw (lt-leb _ _ m) refl
 
-pub least-left : (a b k : ℕ) → k < least a b → (k < a) × (k < b)
-unfolding least
-least-left a b k = by-ltb b a (λ l e. rw e (λ h. (omega arith, omega arith))) (λ l e. rw e (λ h. (omega arith, omega arith)))
-
-over : (a b k : ℕ) → least a b ≤ k → k < a → b ≤ k
-unfolding least
-over a b k = by-ltb b a (λ l x. rw x (λ p q. p)) (λ l x. rw x (λ p q. absurd (omega arith)))
-
 -- a list is done where all its calls are, or where there is no room for a further answer
 pub going-over :
     (n : ℕ) (sound : Bool) (calls frames hits : List ℕ) (s t : Run) →
     Going n sound calls frames hits s t →
-    least n (length t.answers / 5) ≤ t.progress.place.calls →
+    min n (length t.answers / 5) ≤ t.progress.place.calls →
     t ≡ runs n calls frames hits s
 going-over n sound calls frames hits s t g h =
     let e : Entry = entry_at calls t.progress.place.calls in
     by-ltb t.progress.place.calls n
     (λ l _. going-stops n sound calls frames hits s t e g l refl
-    (no_room e t.progress.place _ _ _ _ (over n (length t.answers / 5) t.progress.place.calls h l)))
+    (no_room e t.progress.place _ _ _ _ (omega arith)))
     (λ l _. going-ends n sound calls frames hits s t e g l)

@@ -5,7 +5,7 @@
 ghost use Rattle.std.specs.Prelude.{true, ◌≡◌, ◌+◌, ◌*◌, ◌/◌, ◌<◌, ◌≤◌, length, get_or};
 ghost use Rattle.device.specs.Model.{is_sound};
 ghost use Rattle.device.specs.Call.{Call};
-ghost use Rattle.device.specs.StretchSteps.{least, quiet_for};
+ghost use Rattle.device.specs.StretchSteps.{quiet_for};
 ghost use Rattle.device.specs.Reply.{reply, output, memory};
 ghost use Rattle.call_list.specs.CallList.{answers_after, beginning, entry_at, entry_fits, part, place_after, runs, within};
 ghost use Rattle.list_run.specs.Room.{AllTicks, Moved, Near, Room, Told, quiet_answers, quiet_progress};
@@ -13,10 +13,10 @@ ghost use Rattle.list_run.specs.Room.{AllTicks, Moved, Near, Room, Told, quiet_a
 use bus::sound_transaction;
 use call_list::{Entry, Place, Progress};
 use device::{Answer, Model, Reply, Report};
-use model::refusal::NOT_SOUND;
 use model::reply::refuse;
 use model::state::is_sound;
 use outcome::put_answer;
+use refusal::Refusal;
 use sound_calls::{sound_flight_delivery, sound_stretch, sound_temperature_delivery, tick_reply};
 use ticking::stretch::{quiet_for, quiet_ticks};
 use unit::Ticks;
@@ -106,36 +106,30 @@ fn place_after(e: Entry, p: Place) -> Place
 {
     let first = e.first as usize;
     let second = e.second as usize;
+    let calls = p.calls + 1;
     if e.kind == TRANSACTION {
         return Place {
-            calls: p.calls + 1,
+            calls,
             frames: p.frames + first,
-            hits: p.hits,
             output: p.output + second,
+            ..p
         };
     }
     if e.kind == FLIGHT {
         return Place {
-            calls: p.calls + 1,
-            frames: p.frames,
+            calls,
             hits: p.hits + first + second,
-            output: p.output,
+            ..p
         };
     }
     if e.kind == TEMPERATURE {
         return Place {
-            calls: p.calls + 1,
-            frames: p.frames,
+            calls,
             hits: p.hits + first,
-            output: p.output,
+            ..p
         };
     }
-    Place {
-        calls: p.calls + 1,
-        frames: p.frames,
-        hits: p.hits,
-        output: p.output,
-    }
+    Place { calls, ..p }
 }
 
 // A call's answer, in five words of the answers.
@@ -218,17 +212,11 @@ fn temperature_call(p: Progress, e: Entry, hits: &[u32], answers: &mut [u32]) ->
 // Any call, on a model that is not sound.
 fn unsound_call(p: Progress, e: Entry, answers: &mut [u32]) -> Progress
     requires { Near p.place (length answers.old) }
-    ensures { (result ≡ record { model = p.model; place = place_after e p.place }) × (answers.new ≡ answers_after (Answer.Refused 0) (5 * p.place.calls) answers.old) }
+    ensures { (result ≡ record { model = p.model; place = place_after e p.place }) × (answers.new ≡ answers_after (Answer.Refused Refusal.NotSound) (5 * p.place.calls) answers.old) }
 {
     let place = p.place;
-    let r = refuse(p.model, NOT_SOUND);
+    let r = refuse(p.model, Refusal::NotSound);
     settle(e, place, r, answers)
-}
-
-fn lesser(a: usize, b: usize) -> usize
-    ensures { result ≡ least a b }
-{
-    if b < a { b } else { a }
 }
 
 // q, or the room where that is less.
@@ -244,15 +232,12 @@ fn ticks_ahead(calls: &[u32], k: usize, most: u32) -> u32
     requires { (1 ≤ most) × (3 * (k + most) ≤ length calls.now) × (get_or calls.now (3 * k) 0 ≡ 1) }
     ensures { (1 ≤ result) × (result ≤ most) × AllTicks calls.now k result }
 {
-    let mut n: u32 = 1;
-    while n < most {
-        if calls[3 * (k + n as usize)] == TICK {
-            n += 1;
-        } else {
+    for n in 1..most {
+        if calls[3 * (k + n as usize)] != TICK {
             return n;
         }
     }
-    n
+    most
 }
 
 // How many of them, q at most, have room for their answers too.
@@ -260,7 +245,7 @@ fn quiet_ahead(calls: &[u32], k: usize, q: u32, answers: usize) -> u32
     requires { (1 ≤ q) × (k < length calls.now / 3) × (5 * k + 5 ≤ answers) × (get_or calls.now (3 * k) 0 ≡ 1) }
     ensures { (1 ≤ result) × (result ≤ q) × (k + result ≤ length calls.now / 3) × (5 * (k + result) ≤ answers) × AllTicks calls.now k result }
 {
-    let end = lesser(calls.len() / 3, answers / 5);
+    let end = (calls.len() / 3).min(answers / 5);
     ticks_ahead(calls, k, fewer(end - k, q))
 }
 
@@ -273,10 +258,8 @@ fn tell_quiet(k: usize, n: u32, answers: &mut [u32])
         failed: false,
     };
     let a = Answer::Ticked(none, none);
-    let mut i: u32 = 0;
-    while i < n {
+    for i in 0..n {
         tell(a, 5 * (k + i as usize), answers);
-        i += 1;
     }
 }
 
@@ -288,9 +271,11 @@ fn quiet(p: Progress, n: u32, answers: &mut [u32]) -> Progress
     let place = p.place;
     tell_quiet(place.calls, n, answers);
     let model = quiet_ticks(p.model, Ticks(n));
-    let mut next = place;
-    next.calls = place.calls + n as usize;
-    Progress { model, place: next }
+    let calls = place.calls + n as usize;
+    Progress {
+        model,
+        place: Place { calls, ..place },
+    }
 }
 
 // One call that fits, or several ticks in which nothing happens.
@@ -357,17 +342,17 @@ pub fn run(
     ensures { record { progress = result; output = out.new; flash = flash.new; answers = answers.new } ≡ runs (length calls.now / 3) calls.now frames.now hits.now record { progress = beginning m; output = out.old; flash = flash.old; answers = answers.old } }
 {
     // the calls that have room for an answer
-    let n = lesser(calls.len() / 3, answers.len() / 5);
+    let n = (calls.len() / 3).min(answers.len() / 5);
     let sound = is_sound(m);
     let mut p = begin(m);
+    // Kept as a while: a step does one call, or several ticks at once.
     while p.place.calls < n {
         let place = p.place;
         let e = entry_at(calls, place.calls);
         let frames_left = frames.len() - place.frames;
         let hits_left = hits.len() - place.hits;
         if entry_fits(e, frames_left, hits_left, out.len() - place.output) {
-            let next = advance(sound, p, e, calls, frames, hits, out, flash, answers);
-            p = next;
+            p = advance(sound, p, e, calls, frames, hits, out, flash, answers);
         } else {
             return p;
         }

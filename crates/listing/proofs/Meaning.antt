@@ -17,11 +17,12 @@ use Rattle.numeral.specs.Print.{width_from, decimal_width, decimal, ten_thousand
 use Rattle.numeral.proofs.DigitLaws.{length_digits, are-digits, value-digits}
 use Rattle.numeral.specs.Print.{Nearest}
 use Rattle.numeral.proofs.PrintLaws.{rounded, four-decimals-value, decimal-first, length-decimal}
-use Rattle.listing.specs.declared.Listed.TheVariants.{Written}
 use Rattle.listing.specs.Listing.{sign, right_justified, line, line_length, lines, last_above, Outcome, refused, written, listing}
-use Rattle.listing.specs.Listing.{number_listed, value_listed}
 use Rattle.listing.proofs.Time.{time-fits, length-time}
 use Rattle.listing.proofs.Sequence.{line-length}
+use Rattle.std.specs.Prelude.{Result, Ok, Err}
+use Rattle.refusal.specs.declared.Refusal.{Refusal}
+use Rattle.refusal.specs.Number.{number, number_told, values_told, value_told}
 
 -- ---- a line, part by part
 
@@ -151,13 +152,11 @@ apart : {t : Bool} → t ≡ true → ¬ (t ≡ false)
 apart p q = let z : ◌≡◌ {A = ℕ} 0 1 = cc in omega arith
 
 -- what an answer says, of a refusal and of lines written
-refused_says : (n : ℕ) (out : List ℕ) {o : Outcome} → o ≡ refused n out → (number_listed o.answer ≡ n ∷ []) × (value_listed o.answer ≡ [])
-unfolding number_listed value_listed
-refused_says n out s = (ap (λ (p : Outcome). number_listed p.answer) s, ap (λ (p : Outcome). value_listed p.answer) s)
+refused_says : (r : Refusal) (out : List ℕ) {o : Outcome} → o ≡ refused r out → (number_told o.answer ≡ number r ∷ []) × (value_told o.answer ≡ [])
+refused_says r out s = (ap (λ (p : Outcome). number_told p.answer) s, ap (λ (p : Outcome). value_told p.answer) s)
 
-written-says : (text out : List ℕ) {o : Outcome} → o ≡ written text out → (number_listed o.answer ≡ []) × (value_listed o.answer ≡ length text ∷ [])
-unfolding number_listed value_listed
-written-says text out s = (ap (λ (p : Outcome). number_listed p.answer) s, ap (λ (p : Outcome). value_listed p.answer) s)
+written-says : (text out : List ℕ) {o : Outcome} → o ≡ written text out → (number_told o.answer ≡ []) × (value_told o.answer ≡ length text ∷ [])
+written-says text out s = (ap (λ (p : Outcome). number_told p.answer) s, ap (λ (p : Outcome). value_told p.answer) s)
 
 says_nothing : {n : ℕ} {G : Type 0} → [] ≡ n ∷ [] → G
 says_nothing e = let z : ◌≡◌ {A = ℕ} 0 1 = ap length e in absurd (omega arith)
@@ -173,8 +172,8 @@ module _ (d : ℕ) (ds : List ℤ) (first : ℕ) (out : List ℕ) where
   done = listing d ds first out
 
   by-outcome : {G : Type 0}
-      → (Above d first (length ds) → done ≡ refused 20 out → G)
-      → (¬ Above d first (length ds) → length out < length ds * line_length d → done ≡ refused 21 out → G)
+      → (Above d first (length ds) → done ≡ refused Refusal.LastCapture out → G)
+      → (¬ Above d first (length ds) → length out < length ds * line_length d → done ≡ refused Refusal.ShortListing out → G)
       → (¬ Above d first (length ds) → length ds * line_length d ≤ length out → done ≡ written (lines d first ds) out → G)
       → G
   unfolding listing
@@ -184,51 +183,51 @@ module _ (d : ℕ) (ds : List ℤ) (first : ℕ) (out : List ℕ) where
       (λ e. let low : ¬ Above d first (length ds) = λ a. apart (means.1 a) e in
       by-ltb (length out) (length ds * line_length d) (λ l t. g low l (rw (e, t))) (λ l t. h low l (rw (e, t))))
 
-  pub twenty-exactly : (number_listed done.answer ≡ 20 ∷ []) ↔ Above d first (length ds)
+  pub twenty-exactly : (number_told done.answer ≡ 20 ∷ []) ↔ Above d first (length ds)
   twenty-exactly = (there, back)
     where
-      there : number_listed done.answer ≡ 20 ∷ [] → Above d first (length ds)
+      there : number_told done.answer ≡ 20 ∷ [] → Above d first (length ds)
       there e =
           by-outcome (λ a s. a)
-          (λ a l s. let z : ◌≡◌ {A = ℕ} 21 20 = says_same (sym (refused_says 21 out s).0 ∙ e) in absurd (omega arith))
+          (λ a l s. let z : ◌≡◌ {A = ℕ} 21 20 = says_same (sym (refused_says Refusal.ShortListing out s).0 ∙ e) in absurd (omega arith))
           (λ a l s. says_nothing (sym (written-says (lines d first ds) out s).0 ∙ e))
 
-      back : Above d first (length ds) → number_listed done.answer ≡ 20 ∷ []
-      back a = by-outcome (λ b s. (refused_says 20 out s).0) (λ n l s. absurd (n a)) (λ n l s. absurd (n a))
+      back : Above d first (length ds) → number_told done.answer ≡ 20 ∷ []
+      back a = by-outcome (λ b s. (refused_says Refusal.LastCapture out s).0) (λ n l s. absurd (n a)) (λ n l s. absurd (n a))
 
   -- "then number 21 when the output is shorter than 17 bytes a line"
-  pub twenty-one-exactly : (number_listed done.answer ≡ 21 ∷ []) ↔ ((¬ Above d first (length ds)) × (length out < length ds * line_length d))
+  pub twenty-one-exactly : (number_told done.answer ≡ 21 ∷ []) ↔ ((¬ Above d first (length ds)) × (length out < length ds * line_length d))
   twenty-one-exactly = (there, back)
     where
-      there : number_listed done.answer ≡ 21 ∷ [] → (¬ Above d first (length ds)) × (length out < length ds * line_length d)
+      there : number_told done.answer ≡ 21 ∷ [] → (¬ Above d first (length ds)) × (length out < length ds * line_length d)
       there e =
           by-outcome
-          (λ a s. let z : ◌≡◌ {A = ℕ} 20 21 = says_same (sym (refused_says 20 out s).0 ∙ e) in absurd (omega arith))
+          (λ a s. let z : ◌≡◌ {A = ℕ} 20 21 = says_same (sym (refused_says Refusal.LastCapture out s).0 ∙ e) in absurd (omega arith))
           (λ n l s. (n, l))
           (λ n l s. says_nothing (sym (written-says (lines d first ds) out s).0 ∙ e))
 
-      back : (¬ Above d first (length ds)) × (length out < length ds * line_length d) → number_listed done.answer ≡ 21 ∷ []
-      back p = by-outcome (λ a s. absurd (p.0 a)) (λ n l s. (refused_says 21 out s).0) (λ n l s. absurd (omega (arith, p.1)))
+      back : (¬ Above d first (length ds)) × (length out < length ds * line_length d) → number_told done.answer ≡ 21 ∷ []
+      back p = by-outcome (λ a s. absurd (p.0 a)) (λ n l s. (refused_says Refusal.ShortListing out s).0) (λ n l s. absurd (omega (arith, p.1)))
 
-  pub only-numbers : (n : ℕ) → number_listed done.answer ≡ n ∷ [] → (n ≡ 20) ⊎ (n ≡ 21)
+  pub only-numbers : (n : ℕ) → number_told done.answer ≡ n ∷ [] → (n ≡ 20) ⊎ (n ≡ 21)
   only-numbers n e =
-      by-outcome (λ a s. inl (says_same (sym e ∙ (refused_says 20 out s).0))) (λ a l s. inr (says_same (sym e ∙ (refused_says 21 out s).0)))
+      by-outcome (λ a s. inl (says_same (sym e ∙ (refused_says Refusal.LastCapture out s).0))) (λ a l s. inr (says_same (sym e ∙ (refused_says Refusal.ShortListing out s).0)))
       (λ a l s. says_nothing (sym (written-says (lines d first ds) out s).0 ∙ e))
 
   -- "nothing is written then"
-  pub refused-keeps : (n : ℕ) → number_listed done.answer ≡ n ∷ [] → done.bytes ≡ out
+  pub refused-keeps : (n : ℕ) → number_told done.answer ≡ n ∷ [] → done.bytes ≡ out
   refused-keeps n e = by-outcome (λ a s. left s) (λ a l s. left s) (λ a l s. says_nothing (sym (written-says (lines d first ds) out s).0 ∙ e))
 
   -- the lines from the start on; "Places past the last line keep their values"
-  pub written-means : Fit ds → (n : ℕ) → value_listed done.answer ≡ n ∷ []
+  pub written-means : Fit ds → (n : ℕ) → value_told done.answer ≡ n ∷ []
       → (n ≡ length ds * line_length d) × (take n done.bytes ≡ lines d first ds) × (drop n done.bytes ≡ drop n out)
   written-means fit n e =
-      by-outcome (λ a s. says_nothing (sym (refused_says 20 out s).1 ∙ e)) (λ a l s. says_nothing (sym (refused_says 21 out s).1 ∙ e))
+      by-outcome (λ a s. says_nothing (sym (refused_says Refusal.LastCapture out s).1 ∙ e)) (λ a l s. says_nothing (sym (refused_says Refusal.ShortListing out s).1 ∙ e))
       (λ a l s. let text = lines d first ds in
       let count : n ≡ length text = says_same (sym e ∙ (written-says (lines d first ds) out s).1) in
       (count ∙ lines-length d first ds fit, rw (left s, count) (take-append_seam text (drop (length text) out)), rw (left s, count) (drop-append_seam text (drop (length text) out))))
 
 -- "an empty list writes nothing and is accepted with any first"
-pub empty-accepted : (d first : ℕ) (out : List ℕ) → listing d [] first out ≡ record { answer = Written 0; bytes = out }
+pub empty-accepted : (d first : ℕ) (out : List ℕ) → listing d [] first out ≡ record { answer = Ok 0; bytes = out }
 unfolding listing last_above lines
 empty-accepted d first out = rw (zero-mul, le-ltb (length out) 0 (omega arith))

@@ -1,13 +1,13 @@
 -- A listing of differences, as it is printed. What stands in quotation marks is the request's.
-use Rattle.std.specs.Prelude.{ℕ, zero, suc, ◌+◌, ◌-◌, ◌*◌, ◌^◌, Bool, false, List, [], ◌∷◌, ◌++◌, ltb, leb, ℤ, pos, nat_abs, length, drop, replicate}
+use Rattle.std.specs.Prelude.{ℕ, zero, suc, ◌+◌, ◌-◌, ◌*◌, ◌^◌, Bool, false, List, [], ◌∷◌, ◌++◌, ltb, leb, ℤ, pos, nat_abs, length, drop, replicate, Result, Ok, Err}
 use Rattle.std.specs.Int.Signed.{lt_z}
 use Rattle.unit.specs.Choice.{pick}
 use Rattle.numeral.specs.Digit.{digits}
 use Rattle.numeral.specs.Print.{nanoseconds}
 use Rattle.listing.specs.declared.Width.{Width}
 use Rattle.listing.specs.declared.Width.TheVariants.{Two, Eight}
-use Rattle.listing.specs.declared.Listed.{Listed}
-use Rattle.listing.specs.declared.Listed.TheVariants.{Written, Refused}
+use Rattle.refusal.specs.declared.Refusal.{Refusal}
+use Rattle.refusal.specs.Number.{number_told, value_told}
 
 -- "The width of the number is said by one definition that serves the old page and the new": the hexadecimal digits of a capture number
 abbrev pub capture_digits : Width → ℕ
@@ -48,36 +48,28 @@ last_above d first (suc n) = leb (16 ^ d) (first + n)
 
 -- what a call answers, and the output when it is done
 pub record Outcome : Type 0 where
-  pub answer : Listed
+  pub answer : Result ℕ Refusal
   pub bytes : List ℕ
 
 -- "nothing is written then"
-abbrev pub refused : ℕ → List ℕ → Outcome
-refused number out = record { answer = Refused number; bytes = out }
+abbrev pub refused : Refusal → List ℕ → Outcome
+refused refusal out = record { answer = Err refusal; bytes = out }
 
 -- "Places past the last line keep their values"
 abbrev pub written : List ℕ → List ℕ → Outcome
-written text out = record { answer = Written (length text); bytes = text ++ drop (length text) out }
+written text out = record { answer = Ok (length text); bytes = text ++ drop (length text) out }
 
 -- "Turned away: number 20 when the last capture is above FF, then number 21 when the output is shorter than 17 bytes a line";
 -- "Numbers 20 and 21 follow the chosen width"
 unfoldable pub listing : ℕ → List ℤ → ℕ → List ℕ → Outcome
 listing d differences first out =
-    pick (last_above d first (length differences)) (refused 20 out)
-    (pick (ltb (length out) (length differences * line_length d)) (refused 21 out)
+    pick (last_above d first (length differences)) (refused Refusal.LastCapture out)
+    (pick (ltb (length out) (length differences * line_length d)) (refused Refusal.ShortListing out)
     (written (lines d first differences) out))
 
--- What an answer says: the number of a refusal; how many bytes were written.
-unfoldable pub number_listed : Listed → List ℕ
-number_listed (Refused number) = number ∷ []
-number_listed (Written count) = []
-
-unfoldable pub value_listed : Listed → List ℕ
-value_listed (Refused number) = []
-value_listed (Written count) = count ∷ []
-
+-- What a call's answer says: the number of a refusal; how many bytes were written.
 abbrev pub number_out : Outcome → List ℕ
-number_out o = number_listed o.answer
+number_out o = number_told o.answer
 
 abbrev pub value_out : Outcome → List ℕ
-value_out o = value_listed o.answer
+value_out o = value_told o.answer

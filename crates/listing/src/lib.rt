@@ -9,11 +9,7 @@ mod line;
 mod lines;
 
 use crate::lines::REST;
-
-// Numbers of refusals: the last capture has too many digits; the output is too short.
-const LAST_CAPTURE: u32 = 20;
-
-const SHORT_OUTPUT: u32 = 21;
+use refusal::Refusal;
 
 // How many hexadecimal digits a capture number has.
 #[derive(Clone, Copy)]
@@ -22,23 +18,21 @@ pub enum Width {
     Eight,
 }
 
-// How many bytes were written, or the number of a refusal.
-#[derive(Clone, Copy)]
-pub enum Listed {
-    Written(usize),
-    Refused(u32),
-}
-
-// Lists the differences, whose captures count up from `first`, in the first places of `out`; a capture
-// number has eight digits.
-pub fn write_listing(differences: &[i32], first: u32, out: &mut [u8]) -> Listed
+// Lists the differences, whose captures count up from `first`, in the first places of `out`, and answers how many bytes these
+// take; a capture number has eight digits.
+pub fn write_listing(differences: &[i32], first: u32, out: &mut [u8]) -> Result<usize, Refusal>
     ensures { Says number_out value_out record { answer = result; bytes = out.new } (listing (capture_digits usual) differences.now first out.old) }
 {
     write_listing_as(Width::Eight, differences, first, out)
 }
 
 // Lists the differences as `write_listing` does, a capture number having as many digits as `width` names.
-pub fn write_listing_as(width: Width, differences: &[i32], first: u32, out: &mut [u8]) -> Listed
+pub fn write_listing_as(
+    width: Width,
+    differences: &[i32],
+    first: u32,
+    out: &mut [u8],
+) -> Result<usize, Refusal>
     ensures { Says number_out value_out record { answer = result; bytes = out.new } (listing (capture_digits width) differences.now first out.old) }
 {
     write_digits(capture_digits(width), differences, first, out)
@@ -53,18 +47,23 @@ fn capture_digits(width: Width) -> usize
     }
 }
 
-fn write_digits(digits: usize, differences: &[i32], first: u32, out: &mut [u8]) -> Listed
+fn write_digits(
+    digits: usize,
+    differences: &[i32],
+    first: u32,
+    out: &mut [u8],
+) -> Result<usize, Refusal>
     requires { digits ≤ 8 }
     ensures { record { answer = result; bytes = out.new } ≡ listing digits differences.now first out.old }
 {
     let count = differences.len();
     if lines::last_above(digits, first, count) {
-        return Listed::Refused(LAST_CAPTURE);
+        return Err(Refusal::LastCapture);
     }
     let size = count * (digits + REST);
     if out.len() < size {
-        return Listed::Refused(SHORT_OUTPUT);
+        return Err(Refusal::ShortListing);
     }
     lines::put_lines(digits, differences, first, out);
-    Listed::Written(size)
+    Ok(size)
 }

@@ -1,5 +1,5 @@
 // One line: the capture number, the sign and the nanoseconds.
-ghost use Rattle.std.specs.Prelude.{◌≡◌, [], ◌∷◌, ◌+◌, ◌≤◌, length, nat_abs};
+ghost use Rattle.std.specs.Prelude.{◌≡◌, [], ◌∷◌, ◌+◌, ◌≤◌, length};
 ghost use Rattle.numeral.specs.Place.{overwrite, Put};
 ghost use Rattle.numeral.specs.Print.{nanoseconds};
 ghost use Rattle.listing.specs.Listing.{right_justified, sign, line, line_length};
@@ -8,16 +8,6 @@ ghost use Rattle.listing.specs.Listing.{right_justified, sign, line, line_length
 const PLACES: usize = 12;
 
 const FIELD: usize = 24;
-
-fn magnitude(difference: i32) -> u32
-    ensures { (result ≡ nat_abs difference) × (result ≤ 2147483648) }
-{
-    if difference < 0 {
-        (0 - difference as i64) as u32
-    } else {
-        difference as u32
-    }
-}
 
 // A blank and the sign.
 fn put_sign(out: &mut [u8], at: usize, difference: i32) -> usize
@@ -47,6 +37,6 @@ pub fn put_line(out: &mut [u8], at: usize, digits: usize, capture: u32, differen
 {
     let number = numeral::put_hex(out, at, digits, capture);
     let signed = put_sign(out, number, difference);
-    let time = put_time(out, signed, magnitude(difference));
+    let time = put_time(out, signed, difference.unsigned_abs());
     numeral::put_text(out, time, b"\n");
 }

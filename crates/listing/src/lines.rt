@@ -25,10 +25,11 @@ pub fn last_above(digits: usize, first: u32, count: usize) -> bool
         return false;
     }
     let numbers = numbers_of(digits);
-    if numbers <= first as u64 {
+    let first = u64::from(first);
+    if numbers <= first {
         return true;
     }
-    numbers - (first as u64) < count as u64
+    numbers - first < count as u64
 }
 
 // Puts them into the places from 0 on.
@@ -38,12 +39,10 @@ pub fn put_lines(digits: usize, differences: &[i32], first: u32, out: &mut [u8])
     requires digits_in_bounds { length differences.now * line_length digits ≤ length out.old }
     ensures { (out.new ≡ overwrite out.old 0 (lines digits first differences.now)) × (length (lines digits first differences.now) ≡ length differences.now * line_length digits) }
 {
-    let mut i = 0;
     let mut at = 0;
-    while i < differences.len() {
+    for (i, difference) in differences.iter().enumerate() {
         let capture = first + i as u32;
-        put_line(out, at, digits, capture, differences[i]);
+        put_line(out, at, digits, capture, *difference);
         at += digits + REST;
-        i += 1;
     }
 }

@@ -1,10 +1,11 @@
 // Questions about a model, which change nothing. Each value goes to the first place of the lent words.
 #![tactic(auto)]
 
-ghost use Rattle.std.specs.Prelude.{◌≡◌};
-ghost use Rattle.device.specs.Question.{number_told, value_told, interrupt_pending, awaited_told, regulator_on, peek};
-ghost use Rattle.run_state.specs.State.{initialised_told, left_told, number_left, values_left};
-ghost use Rattle.run_state.specs.Event.{place_told, number_placed, values_of, values_placed};
+ghost use Rattle.std.specs.Prelude.{◌≡◌, Some};
+ghost use Rattle.refusal.specs.Number.{number_told, value_told};
+ghost use Rattle.device.specs.Question.{interrupt_pending, awaited_told, regulator_on, peek};
+ghost use Rattle.run_state.specs.State.{initialised_told, left_told, values_left};
+ghost use Rattle.run_state.specs.Event.{event_values, place_told, values_placed};
 ghost use Rattle.max35101_questions.specs.Frames.{SetUp};
 ghost use Rattle.layout.specs.Layout.{loaded};
 ghost use Rattle.layout.specs.Code.{Gives, filled};
@@ -15,9 +16,11 @@ use converter::{
 };
 use finding::{framed, told};
 use outcome::{ACCEPTED, put, put_four};
-use run_state::{Left, Place, Placed};
+use refusal::Refusal;
+use run_state::Place;
 use setup_frames::setup_frames;
 use snapshot::load;
+use unit::Ticks;
 
 // The INT answer: 1 for yes, 0 for no.
 #[unsafe(no_mangle)]
@@ -43,22 +46,22 @@ pub extern "C" fn max35101_temperature_awaited(model: &[u8], answer: &mut [u32])
     told(temperature_awaited(load(model)), answer)
 }
 
-fn left(l: Left, words: &mut [u32]) -> u32
-    ensures { Gives number_left values_left l words.old result words.new }
+fn left(answer: Result<Ticks, Refusal>, words: &mut [u32]) -> u32
+    ensures { Gives number_told values_left answer words.old result words.new }
 {
-    match l {
-        Left::Refused(number) => number,
-        Left::After(ticks) => {
+    match answer {
+        Ok(ticks) => {
             put(words, 0, ticks.0);
             ACCEPTED
         }
+        Err(refusal) => refusal.number(),
     }
 }
 
 // In how many ticks the awaited flight measurement fails; 0 where none is awaited.
 #[unsafe(no_mangle)]
 pub extern "C" fn max35101_flight_left(model: &[u8], answer: &mut [u32]) -> u32
-    ensures { Gives number_left values_left (left_told (loaded model.now) (loaded model.now).flight.schedule) answer.old result answer.new }
+    ensures { Gives number_told values_left (left_told (loaded model.now) (loaded model.now).flight.schedule) answer.old result answer.new }
 {
     left(flight_left(load(model)), answer)
 }
@@ -66,13 +69,13 @@ pub extern "C" fn max35101_flight_left(model: &[u8], answer: &mut [u32]) -> u32
 // In how many ticks the awaited temperature measurement fails; 0 where none is awaited.
 #[unsafe(no_mangle)]
 pub extern "C" fn max35101_temperature_left(model: &[u8], answer: &mut [u32]) -> u32
-    ensures { Gives number_left values_left (left_told (loaded model.now) (loaded model.now).temperature.schedule) answer.old result answer.new }
+    ensures { Gives number_told values_left (left_told (loaded model.now) (loaded model.now).temperature.schedule) answer.old result answer.new }
 {
     left(temperature_left(load(model)), answer)
 }
 
 fn put_place(p: Place, words: &mut [u32])
-    ensures { words.new ≡ filled words.old (values_of p) }
+    ensures { words.new ≡ filled words.old (event_values (Some p)) }
 {
     let next = p.next;
     put_four(
@@ -87,19 +90,24 @@ fn put_place(p: Place, words: &mut [u32])
     put(words, 6, p.continuous as u32);
 }
 
-fn placed(p: Placed, words: &mut [u32]) -> u32
-    ensures { Gives number_placed values_placed p words.old result words.new }
+fn put_event(event: Option<Place>, words: &mut [u32])
+    ensures { words.new ≡ filled words.old (event_values event) }
 {
-    match p {
-        Placed::Refused(number) => number,
-        Placed::NoEvent => {
-            put(words, 0, 0);
+    match event {
+        Some(place) => put_place(place, words),
+        None => put(words, 0, 0),
+    }
+}
+
+fn placed(answer: Result<Option<Place>, Refusal>, words: &mut [u32]) -> u32
+    ensures { Gives number_told values_placed answer words.old result words.new }
+{
+    match answer {
+        Ok(event) => {
+            put_event(event, words);
             ACCEPTED
         }
-        Placed::Event(place) => {
-            put_place(place, words);
-            ACCEPTED
-        }
+        Err(refusal) => refusal.number(),
     }
 }
 
@@ -107,7 +115,7 @@ fn placed(p: Placed, words: &mut [u32]) -> u32
 // started, settled and good, the ticks until the next start, and whether it is a continuous event.
 #[unsafe(no_mangle)]
 pub extern "C" fn max35101_flight_place(model: &[u8], answer: &mut [u32]) -> u32
-    ensures { Gives number_placed values_placed (place_told (loaded model.now) (loaded model.now).flight.schedule) answer.old result answer.new }
+    ensures { Gives number_told values_placed (place_told (loaded model.now) (loaded model.now).flight.schedule) answer.old result answer.new }
 {
     placed(flight_place(load(model)), answer)
 }
@@ -115,7 +123,7 @@ pub extern "C" fn max35101_flight_place(model: &[u8], answer: &mut [u32]) -> u32
 // The same of the event of temperatures.
 #[unsafe(no_mangle)]
 pub extern "C" fn max35101_temperature_place(model: &[u8], answer: &mut [u32]) -> u32
-    ensures { Gives number_placed values_placed (place_told (loaded model.now) (loaded model.now).temperature.schedule) answer.old result answer.new }
+    ensures { Gives number_told values_placed (place_told (loaded model.now) (loaded model.now).temperature.schedule) answer.old result answer.new }
 {
     placed(temperature_place(load(model)), answer)
 }

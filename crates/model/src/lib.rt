@@ -1,6 +1,5 @@
 // Fresh, sound and busy models, and the reply that hands a model back.
 #![tactic(auto)]
 
-pub mod refusal;
 pub mod reply;
 pub mod state;

@@ -4,12 +4,13 @@ ghost use Rattle.device.specs.Reply.{refuse};
 ghost use Rattle.device.specs.Parts.{accept};
 
 use device::{Answer, Model, Reply};
+use refusal::Refusal;
 
-pub fn refuse(m: Model, number: u32) -> Reply
-    ensures { result ≡ refuse number m }
+pub fn refuse(m: Model, refusal: Refusal) -> Reply
+    ensures { result ≡ refuse refusal m }
 {
     Reply {
-        answer: Answer::Refused(number),
+        answer: Answer::Refused(refusal),
         model: m,
     }
 }

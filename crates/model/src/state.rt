@@ -9,15 +9,13 @@ use unit::Quanta;
 pub fn no_flight() -> Flight
     ensures { result ≡ no_flight }
 {
-    let schedule = no_schedule();
-    let sum = Quanta(0);
     Flight {
-        schedule,
+        schedule: no_schedule(),
         up: false,
         down: false,
-        sum,
-        ups: [0, 0, 0, 0, 0, 0, 0],
-        downs: [0, 0, 0, 0, 0, 0, 0],
+        sum: Quanta(0),
+        ups: [0; 7],
+        downs: [0; 7],
         difference: 0,
     }
 }
@@ -25,31 +23,24 @@ pub fn no_flight() -> Flight
 pub fn no_temperature() -> Temperature
     ensures { result ≡ no_temperature }
 {
-    let schedule = no_schedule();
-    let zero = Quanta(0);
-    let sums = [zero, zero, zero, zero];
     Temperature {
-        schedule,
-        sums,
-        ports: [0, 0, 0, 0],
+        schedule: no_schedule(),
+        sums: [Quanta(0); 4],
+        ports: [0; 4],
     }
 }
 
 pub fn fresh_with(status: Status) -> Model
     ensures { result ≡ fresh_with status }
 {
-    let clock = clock::date::start();
-    let setup = setup::factory();
-    let flight = no_flight();
-    let temperature = no_temperature();
     Model {
-        clock,
-        setup,
+        clock: clock::date::start(),
+        setup: setup::factory(),
         status,
         initialised: false,
         regulator: false,
-        flight,
-        temperature,
+        flight: no_flight(),
+        temperature: no_temperature(),
     }
 }
 
@@ -58,77 +49,43 @@ fn sum_fits(sum: Quanta, good: u16, most: Quanta) -> bool
     requires { most.0 ≤ 4294967296 }
     ensures { result ≡ sum_fits sum good most }
 {
-    if good as u64 * most.0 < sum.0 {
-        false
-    } else {
-        true
-    }
+    sum.0 <= u64::from(good) * most.0
 }
 
 fn flight_sound(f: Flight) -> bool
     ensures { result ≡ flight_sound f }
 {
-    let k = f.schedule;
-    if schedule_sound(k) {
-        let most = Quanta(4294967296);
-        return sum_fits(f.sum, k.good, most);
-    }
-    false
+    schedule_sound(f.schedule) && sum_fits(f.sum, f.schedule.good, Quanta(4294967296))
 }
 
 fn temperature_sound(t: Temperature) -> bool
     ensures { result ≡ temperature_sound t }
 {
-    let k = t.schedule;
-    let sums = t.sums;
-    let most = Quanta(2147483648);
-    if schedule_sound(k) {
-        if sum_fits(sums[0], k.good, most) {
-            if sum_fits(sums[1], k.good, most) {
-                if sum_fits(sums[2], k.good, most) {
-                    return sum_fits(sums[3], k.good, most);
-                }
-                return false;
-            }
-            return false;
-        }
-        return false;
-    }
-    false
+    let good = t.schedule.good;
+    schedule_sound(t.schedule)
+        && t.sums
+            .iter()
+            .all(|sum| sum_fits(*sum, good, Quanta(2147483648)))
 }
 
 pub fn is_sound(m: Model) -> bool
     ensures { result ≡ is_sound m }
 {
-    let clock = m.clock;
-    let flight = m.flight;
-    let temperature = m.temperature;
-    let setup = m.setup;
-    if clock::date::clock_valid(clock) {
-        if clock::words::alarm_valid(setup::alarm_word(setup)) {
-            if flight_sound(flight) {
-                return temperature_sound(temperature);
-            }
-            return false;
-        }
-        return false;
-    }
-    false
+    clock::date::clock_valid(m.clock)
+        && clock::words::alarm_valid(setup::alarm_word(m.setup))
+        && flight_sound(m.flight)
+        && temperature_sound(m.temperature)
 }
 
 fn kind_busy(k: Schedule) -> bool
     ensures { result ≡ kind_busy k }
 {
-    if is_awaited(k) { true } else { in_event(k) }
+    is_awaited(k) || in_event(k)
 }
 
 // Whether a measurement is awaited or an event runs.
 pub fn is_busy(m: Model) -> bool
     ensures { result ≡ is_busy m }
 {
-    let flight = m.flight;
-    let temperature = m.temperature;
-    let f = flight.schedule;
-    let t = temperature.schedule;
-    if kind_busy(f) { true } else { kind_busy(t) }
+    kind_busy(m.flight.schedule) || kind_busy(m.temperature.schedule)
 }

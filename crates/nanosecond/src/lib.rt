@@ -7,5 +7,5 @@ ghost use Rattle.nanosecond.specs.Nanosecond.{Nanoseconds};
 pub fn nanoseconds(quanta: i32) -> f64
     ensures { Nanoseconds quanta result }
 {
-    quanta as f64 * 250.0 / 65536.0
+    f64::from(quanta) * 250.0 / 65536.0
 }

@@ -5,15 +5,16 @@ ghost use Rattle.numeral.specs.Place.{overwrite, Put};
 ghost use Rattle.numeral.specs.Print.{low_bytes, hex_bytes, decimal_width, decimal, four_decimals, nanoseconds, signed_nanoseconds, signed_decimal, pointed, thousandths};
 
 // The answer where there is no room.
-pub const NO_ROOM: usize = 18446744073709551615;
+pub const NO_ROOM: usize = usize::MAX;
 
 // The bytes of a text.
 pub fn put_text(buf: &mut [u8], at: usize, text: &[u8]) -> usize
     ensures { Put buf.old at text.now result buf.new }
 {
     if has_room(buf.len(), at, text.len()) {
-        fill_text(buf, at, text);
-        at + text.len()
+        let end = at + text.len();
+        buf[at..end].copy_from_slice(text);
+        end
     } else {
         NO_ROOM
     }
@@ -35,33 +36,28 @@ pub fn put_low_bytes(buf: &mut [u8], at: usize, words: &[u32]) -> usize
 pub fn put_hex(buf: &mut [u8], at: usize, count: usize, v: u32) -> usize
     ensures { Put buf.old at (digits 16 count v) result buf.new }
 {
-    put_digits(buf, at, 16, count, v as u64)
+    put_digits(buf, at, 16, count, u64::from(v))
 }
 
 // Two hexadecimal digits for each byte, in capitals.
 pub fn put_hex_bytes(buf: &mut [u8], at: usize, bytes: &[u8]) -> usize
     ensures { Put buf.old at (hex_bytes bytes.now) result buf.new }
 {
-    if buf.len() < at {
-        return NO_ROOM;
+    if at <= buf.len() && bytes.len() <= (buf.len() - at) / 2 {
+        fill_hex_bytes(buf, at, bytes);
+        at + 2 * bytes.len()
+    } else {
+        NO_ROOM
     }
-    if (buf.len() - at) / 2 < bytes.len() {
-        return NO_ROOM;
-    }
-    fill_hex_bytes(buf, at, bytes);
-    at + 2 * bytes.len()
 }
 
 fn fill_hex_bytes(buf: &mut [u8], at: usize, bytes: &[u8])
     requires { at + 2 * length bytes.now ≤ length buf.old }
     ensures { buf.new ≡ overwrite buf.old at (hex_bytes bytes.now) }
 {
-    let mut i = 0;
-    while i < bytes.len() {
-        let b = bytes[i];
-        buf[at + 2 * i] = glyph((b / 16 % 16) as u64);
-        buf[at + 2 * i + 1] = glyph((b % 16) as u64);
-        i += 1;
+    for (i, b) in bytes.iter().enumerate() {
+        buf[at + 2 * i] = glyph(u64::from(*b / 16));
+        buf[at + 2 * i + 1] = glyph(u64::from(*b % 16));
     }
 }
 
@@ -77,14 +73,14 @@ pub fn put_signed(buf: &mut [u8], at: usize, word: u32) -> usize
     ensures { Put buf.old at (signed_decimal word) result buf.new }
 {
     if word < 2147483648 {
-        return put_decimal(buf, at, word as u64);
+        return put_decimal(buf, at, u64::from(word));
     }
     if buf.len() <= at {
         return NO_ROOM;
     }
-    let next = put_decimal(buf, at + 1, 4294967296 - word as u64);
+    let next = put_decimal(buf, at + 1, 4294967296 - u64::from(word));
     if next != NO_ROOM {
-        buf[at] = 45;
+        buf[at] = b'-';
     }
     next
 }
@@ -93,7 +89,7 @@ pub fn put_signed(buf: &mut [u8], at: usize, word: u32) -> usize
 pub fn put_nanoseconds(buf: &mut [u8], at: usize, word: u32) -> usize
     ensures { Put buf.old at (nanoseconds word) result buf.new }
 {
-    put_four_decimals(buf, at, (word as u64 * 2500000 + 32768) / 65536)
+    put_four_decimals(buf, at, (u64::from(word) * 2500000 + 32768) / 65536)
 }
 
 // A two's complement word of quanta, in nanoseconds.
@@ -109,10 +105,10 @@ pub fn put_signed_nanoseconds(buf: &mut [u8], at: usize, word: u32) -> usize
     let next = put_four_decimals(
         buf,
         at + 1,
-        ((4294967296 - word as u64) * 2500000 + 32768) / 65536,
+        ((4294967296 - u64::from(word)) * 2500000 + 32768) / 65536,
     );
     if next != NO_ROOM {
-        buf[at] = 45;
+        buf[at] = b'-';
     }
     next
 }
@@ -128,7 +124,7 @@ fn put_four_decimals(buf: &mut [u8], at: usize, n: u64) -> usize
 pub fn put_thousandths(buf: &mut [u8], at: usize, n: u32) -> usize
     ensures { Put buf.old at (thousandths n) result buf.new }
 {
-    put_pointed(buf, at, n as u64 / 1000, 3, n as u64 % 1000)
+    put_pointed(buf, at, u64::from(n) / 1000, 3, u64::from(n) % 1000)
 }
 
 // A decimal, a point and the last `places` digits of another.
@@ -141,7 +137,7 @@ fn put_pointed(buf: &mut [u8], at: usize, whole: u64, places: usize, rest: u64) 
     if has_room(buf.len(), at, count) {
         let point = at + width;
         fill_digits(buf, at, 10, width, whole);
-        buf[point] = 46;
+        buf[point] = b'.';
         fill_digits(buf, point + 1, 10, places, rest);
         at + count
     } else {
@@ -165,31 +161,15 @@ fn put_digits(buf: &mut [u8], at: usize, base: u64, count: usize, v: u64) -> usi
 fn has_room(len: usize, at: usize, count: usize) -> bool
     ensures { result ≡ leb (at + count) len }
 {
-    if len < at {
-        return false;
-    }
-    count <= len - at
-}
-
-fn fill_text(buf: &mut [u8], at: usize, text: &[u8])
-    requires { at + length text.now ≤ length buf.old }
-    ensures { buf.new ≡ overwrite buf.old at text.now }
-{
-    let mut i = 0;
-    while i < text.len() {
-        buf[at + i] = text[i];
-        i += 1;
-    }
+    at <= len && count <= len - at
 }
 
 fn fill_low_bytes(buf: &mut [u8], at: usize, words: &[u32])
     requires { at + length words.now ≤ length buf.old }
     ensures { buf.new ≡ overwrite buf.old at (low_bytes words.now) }
 {
-    let mut i = 0;
-    while i < words.len() {
-        buf[at + i] = (words[i] % 256) as u8;
-        i += 1;
+    for (i, word) in words.iter().enumerate() {
+        buf[at + i] = (*word % 256) as u8;
     }
 }
 
@@ -198,10 +178,8 @@ fn fill_digits(buf: &mut [u8], at: usize, base: u64, count: usize, v: u64)
     requires { (0 < base) × (base ≤ 16) × (at + count ≤ length buf.old) }
     ensures { buf.new ≡ overwrite buf.old at (digits base count v) }
 {
-    let mut i = count;
     let mut rest = v;
-    while 0 < i {
-        i -= 1;
+    for i in (0..count).rev() {
         buf[at + i] = glyph(rest % base);
         rest /= base;
     }
@@ -211,18 +189,19 @@ fn glyph(d: u64) -> u8
     requires { d < 16 }
     ensures { result ≡ Digit·glyph d }
 {
-    if d < 10 { 48 + d as u8 } else { 55 + d as u8 }
+    if d < 10 {
+        b'0' + d as u8
+    } else {
+        b'A' - 10 + d as u8
+    }
 }
 
 // How many digits v has in decimal.
 fn decimal_width(v: u64) -> usize
     ensures { (result ≡ decimal_width v) × (result ≤ 20) }
 {
-    let mut n = 1;
-    let mut rest = v;
-    while 10 <= rest {
-        rest /= 10;
-        n += 1;
+    match v.checked_ilog10() {
+        Some(power) => power as usize + 1,
+        None => 1,
     }
-    n
 }

@@ -9,16 +9,7 @@ use crate::Number;
 pub fn read_hex(s: &[u8], least: usize, most: usize) -> Number
     ensures { result ≡ read_hex least most s.now }
 {
-    if s.len() < 1 {
-        return Number::Bad;
-    }
-    if s.len() < least {
-        return Number::Bad;
-    }
-    if most < s.len() {
-        return Number::Bad;
-    }
-    if 8 < s.len() {
+    if s.len() < 1 || s.len() < least || most < s.len() || 8 < s.len() {
         return Number::Bad;
     }
     value_in(s, 16, 4294967295)
@@ -28,13 +19,10 @@ pub fn read_hex(s: &[u8], least: usize, most: usize) -> Number
 pub fn read_decimal(s: &[u8], limit: u32) -> Number
     ensures { result ≡ read_decimal limit s.now }
 {
-    if s.len() < 1 {
+    if s.len() < 1 || 10 < s.len() {
         return Number::Bad;
     }
-    if 10 < s.len() {
-        return Number::Bad;
-    }
-    value_in(s, 10, limit as u64)
+    value_in(s, 10, u64::from(limit))
 }
 
 // A decimal of one to ten digits, with or without a minus before them, from -2,147,483,648 to
@@ -42,13 +30,9 @@ pub fn read_decimal(s: &[u8], limit: u32) -> Number
 pub fn read_signed(s: &[u8]) -> Number
     ensures { result ≡ read_signed s.now }
 {
-    if s.len() < 1 {
-        return Number::Bad;
-    }
-    if s[0] == 45 {
-        negated(read_decimal(&s[1..], 2147483648))
-    } else {
-        read_decimal(s, 2147483647)
+    match s.strip_prefix(b"-") {
+        Some(digits) => negated(read_decimal(digits, 2147483648)),
+        None => read_decimal(s, 2147483647),
     }
 }
 
@@ -56,13 +40,7 @@ fn negated(n: Number) -> Number
     ensures { result ≡ Read·negated n }
 {
     match n {
-        Number::Value(v) => {
-            if v == 0 {
-                Number::Value(0)
-            } else {
-                Number::Value(4294967295 - v + 1)
-            }
-        }
+        Number::Value(v) => Number::Value(v.wrapping_neg()),
         Number::Bad => Number::Bad,
     }
 }
@@ -72,14 +50,12 @@ fn value_in(s: &[u8], base: u64, limit: u64) -> Number
     ensures { result ≡ value_in base limit s.now }
 {
     let mut n: u64 = 0;
-    let mut i = 0;
-    while i < s.len() {
-        let d = digit(s[i]);
+    for c in s {
+        let d = u64::from(hex_digit(*c));
         if base <= d {
             return Number::Bad;
         }
         n = n * base + d;
-        i += 1;
     }
     if n <= limit {
         Number::Value(n as u32)
@@ -92,25 +68,10 @@ fn value_in(s: &[u8], base: u64, limit: u64) -> Number
 pub fn hex_digit(c: u8) -> u32
     ensures { result ≡ digit_of c }
 {
-    digit(c) as u32
-}
-
-// The value of a digit, or 16.
-fn digit(c: u8) -> u64
-    ensures { result ≡ digit_of c }
-{
-    let d = (c as u64 + 208) % 256;
-    if d < 10 {
-        d
-    } else if c < 65 {
-        16
-    } else if c < 71 {
-        (c - 55) as u64
-    } else if c < 97 {
-        16
-    } else if c < 103 {
-        (c - 87) as u64
-    } else {
-        16
+    match c {
+        b'0'..=b'9' => u32::from(c - b'0'),
+        b'A'..=b'F' => u32::from(c - b'A') + 10,
+        b'a'..=b'f' => u32::from(c - b'a') + 10,
+        _ => 16,
     }
 }

@@ -12,8 +12,8 @@ pub const ACCEPTED: u32 = 0xffffffff;
 
 pub const FAILED: u32 = 0xfffffffe;
 
-// A word at a place of the buffer, where it has one.
-pub fn put(words: &mut [u32], i: usize, w: u32)
+// A word, or a size, at a place of the buffer, where it has one.
+pub fn put<T: Copy>(words: &mut [T], i: usize, w: T)
     ensures { words.new ≡ set words.old i w }
 {
     if i < words.len() {
@@ -74,7 +74,7 @@ pub fn put_answer(a: Answer, words: &mut [u32]) -> u32
     ensures { (result ≡ code_of a) × (words.new ≡ filled words.old (words_of a)) }
 {
     match a {
-        Answer::Refused(number) => number,
+        Answer::Refused(refusal) => refusal.number(),
         Answer::Accepted(f, t) => {
             put_accepted(f, t, words);
             ACCEPTED

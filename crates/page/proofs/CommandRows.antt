@@ -28,6 +28,8 @@ use Rattle.device.proofs.RegisterMeaning.{setup-kept}
 use Rattle.device.proofs.BusMeaning.{is-write}
 use Rattle.device.proofs.FlashMeaning.{write-verdict, read-verdict, erase-verdict}
 use Rattle.numeral.specs.Print.{decimal}
+use Rattle.refusal.specs.declared.Refusal.{Refusal}
+use Rattle.refusal.specs.Number.{number}
 use Rattle.numeral.specs.Ascii.{ascii}
 use Rattle.wording.specs.Wording.{Texts, reported_where, refusal}
 use Rattle.page.specs.Row.{binary}
@@ -40,7 +42,7 @@ use Rattle.page.proofs.Values.{unset-read}
 -- What a row tells of a verdict: `ok`, or the refusal, behind number 9 with the fields that are in the command's way.
 abbrev told : Model → ℕ → Verdict → Texts
 told m op accepted = ascii " ok" ∷ []
-told m op (refused n) = refusal n ++ cond (eqb n 9) (ascii ":" ∷ fields m op) []
+told m op (refused r) = refusal (number r) ++ cond (eqb (number r) 9) (ascii ":" ∷ fields m op) []
 
 -- That is what the page's definitions tell of the answer that the call has.
 pub answer-told : (m : Model) (op : ℕ) (c : Call) → answer_texts m op (number_in (reply m c).answer) ≡ told m op (verdict m c)
@@ -61,9 +63,9 @@ frame-told m label op f = rw (answer-told m op (transaction f (replicate 2 0) (r
 pub command-verdict : (m : Model) (op : ℕ) (o x : List ℕ) → is_command op ≡ true
     → verdict m (transaction (op ∷ []) o x)
     ≡ pick (is_sound m)
-    (pick (command_busy m op) (refused 6)
-    (pick (before_initialize m op) (refused 8) (pick (command_unset m op) (refused 9) accepted)))
-    (refused 0)
+    (pick (command_busy m op) (refused Refusal.Busy)
+    (pick (before_initialize m op) (refused Refusal.NotInitialised) (pick (command_unset m op) (refused Refusal.SetUp) accepted)))
+    (refused Refusal.NotSound)
 unfolding verdict table first_of no_frame not_carried wrong_length past_registers short_output while_busy supply_off unreachable unerased bad_calendar not_initialised bad_setup not_awaited miscounted too_long
 command-verdict m op o x c =
     rw c
@@ -177,13 +179,13 @@ abbrev WriteFrames : (Call → Type 0) → Type 0
 WriteFrames Meets =
     (op n : ℕ) (bytes o x : List ℕ) → 0x30 ≤ op → 1 ≤ n → op + n ≤ 0x44 → length bytes ≡ 2 * n → Meets (transaction (op ∷ bytes) o x)
 
-unsound : (m : Model) (c : Call) → is_sound m ≡ false → verdict m c ≡ refused 0
+unsound : (m : Model) (c : Call) → is_sound m ≡ false → verdict m c ≡ refused Refusal.NotSound
 unfolding verdict table first_of
 unsound m c e = rw e
 
 -- a write's verdict
 write-verdicts : (m : Model) (op n : ℕ) (bytes o x : List ℕ) → is_sound m ≡ true → 0x30 ≤ op → 1 ≤ n → op + n ≤ 0x44 → length bytes ≡ 2 * n
-    → verdict m (transaction (op ∷ bytes) o x) ≡ pick (is_busy m) (refused 6) (pick (write_invalid bytes op n m) (refused 7) accepted)
+    → verdict m (transaction (op ∷ bytes) o x) ≡ pick (is_busy m) (refused Refusal.Busy) (pick (write_invalid bytes op n m) (refused Refusal.Calendar) accepted)
 unfolding verdict table first_of no_frame not_carried wrong_length past_registers short_output while_busy supply_off unreachable unerased bad_calendar not_initialised bad_setup not_awaited miscounted too_long not_whole past_end
 write-verdicts m op n bytes o x s low some high e =
     let w = is-write (op ∷ bytes) (low, omega arith) in
@@ -216,21 +218,21 @@ stored-fits m s =
 -- The row's own frames, by the model.
 flash-asked : (m : Model) → is_sound m ≡ true
     → verdict m (transaction (0x90 ∷ 0 ∷ 0 ∷ 0 ∷ 0 ∷ []) (replicate 2 0) (replicate 8192 0))
-    ≡ pick (is_busy m) (refused 6) (pick m.regulator accepted (refused 15))
+    ≡ pick (is_busy m) (refused Refusal.Busy) (pick m.regulator accepted (refused Refusal.SupplyOff))
 unfolding address_refused wrong_size odd_address beyond
 flash-asked m s = read-verdict m s 0 0 0 0 (replicate 2 0) (replicate 8192 0)
 
 write-asked : (m : Model) → is_sound m ≡ true
-    → verdict m (transaction (0x34 ∷ 0 ∷ 0 ∷ []) (replicate 2 0) (replicate 8192 0)) ≡ pick (is_busy m) (refused 6) accepted
+    → verdict m (transaction (0x34 ∷ 0 ∷ 0 ∷ []) (replicate 2 0) (replicate 8192 0)) ≡ pick (is_busy m) (refused Refusal.Busy) accepted
 write-asked m s =
     write-verdicts m 0x34 1 (0 ∷ 0 ∷ []) (replicate 2 0) (replicate 8192 0) s (omega arith) (omega arith) (omega arith) refl
     ∙ rw (stored-fits m s)
 
 -- what the two rows tell of a verdict, where the number is not 9
-plain : (m : Model) (label : List ℕ) (op : ℕ) (f : List ℕ) (n : ℕ) → ¬ (n ≡ 9)
-    → verdict m (transaction f (replicate 2 0) (replicate 8192 0)) ≡ refused n
-    → frame_row m label op f ≡ label ∷ refusal n
-plain m label op f n h e = frame-told m label op f ∙ rw (e, ne_eqb n 9 h, append-nil (refusal n))
+plain : (m : Model) (label : List ℕ) (op : ℕ) (f : List ℕ) (r : Refusal) → ¬ (number r ≡ 9)
+    → verdict m (transaction f (replicate 2 0) (replicate 8192 0)) ≡ refused r
+    → frame_row m label op f ≡ label ∷ refusal (number r)
+plain m label op f r h e = frame-told m label op f ∙ rw (e, ne_eqb (number r) 9 h, append-nil (refusal (number r)))
 
 fine : (m : Model) (label : List ℕ) (op : ℕ) (f : List ℕ)
     → verdict m (transaction f (replicate 2 0) (replicate 8192 0)) ≡ accepted
@@ -241,8 +243,8 @@ module _ (m : Model) where
   -- The row `30-43` tells `ok`, and then every write is accepted or meets number 7; or it tells a refusal, which every write meets.
   pub write-row :
       ((after m 19 ≡ ascii "30-43  Register writes                    " ∷ ascii " ok" ∷ [])
-      × WriteFrames (λ c. (verdict m c ≡ accepted) ⊎ (verdict m c ≡ refused 7)))
-      ⊎ ((n : ℕ) × (after m 19 ≡ ascii "30-43  Register writes                    " ∷ refusal n) × WriteFrames (λ c. verdict m c ≡ refused n))
+      × WriteFrames (λ c. (verdict m c ≡ accepted) ⊎ (verdict m c ≡ refused Refusal.Calendar)))
+      ⊎ ((r : Refusal) × (after m 19 ≡ ascii "30-43  Register writes                    " ∷ refusal (number r)) × WriteFrames (λ c. verdict m c ≡ refused r))
   unfolding run_rows command_rows write_row
   write-row =
       let label : List ℕ = ascii "30-43  Register writes                    " in
@@ -250,8 +252,8 @@ module _ (m : Model) where
       by-test (is_sound m)
       (λ s. by-test (is_busy m)
       (λ b. inr (
-        6,
-        behind m 19 ∙ plain m label 0x34 f 6 (omega arith) (write-asked m s ∙ rw b),
+        Refusal.Busy,
+        behind m 19 ∙ plain m label 0x34 f Refusal.Busy (omega arith) (write-asked m s ∙ rw b),
         λ op n bytes o x low some high e. write-verdicts m op n bytes o x s low some high e ∙ rw b,
       ))
       (λ b. inl (
@@ -262,16 +264,16 @@ module _ (m : Model) where
             (λ i. inl (write-verdicts m op n bytes o x s low some high e ∙ rw (b, i))),
       )))
       (λ s. inr (
-        0,
-        behind m 19 ∙ plain m label 0x34 f 0 (omega arith) (unsound m _ s),
+        Refusal.NotSound,
+        behind m 19 ∙ plain m label 0x34 f Refusal.NotSound (omega arith) (unsound m _ s),
         λ op n bytes o x low some high e. unsound m _ s,
       ))
 
   -- So the row `10 13`, of flash frames: by `ok` each is accepted or meets number 16 or 17.
   pub flash-row :
       ((after m 18 ≡ ascii "10 13  Flash write, erase, read (90)      " ∷ ascii " ok" ∷ [])
-      × FlashFrames (λ c. (verdict m c ≡ accepted) ⊎ ((verdict m c ≡ refused 16) ⊎ (verdict m c ≡ refused 17))))
-      ⊎ ((n : ℕ) × (after m 18 ≡ ascii "10 13  Flash write, erase, read (90)      " ∷ refusal n) × FlashFrames (λ c. verdict m c ≡ refused n))
+      × FlashFrames (λ c. (verdict m c ≡ accepted) ⊎ ((verdict m c ≡ refused Refusal.FlashAddress) ⊎ (verdict m c ≡ refused Refusal.NotErased))))
+      ⊎ ((r : Refusal) × (after m 18 ≡ ascii "10 13  Flash write, erase, read (90)      " ∷ refusal (number r)) × FlashFrames (λ c. verdict m c ≡ refused r))
   unfolding run_rows command_rows flash_row
   flash-row =
       let label : List ℕ = ascii "10 13  Flash write, erase, read (90)      " in
@@ -279,8 +281,8 @@ module _ (m : Model) where
       by-test (is_sound m)
       (λ s. by-test (is_busy m)
       (λ b. inr (
-        6,
-        behind m 18 ∙ plain m label 0x90 f 6 (omega arith) (flash-asked m s ∙ rw b),
+        Refusal.Busy,
+        behind m 18 ∙ plain m label 0x90 f Refusal.Busy (omega arith) (flash-asked m s ∙ rw b),
         λ high low first second o x. (
           write-verdict m s high low first second o x ∙ rw b,
           erase-verdict m s high low first second o x ∙ rw b,
@@ -306,8 +308,8 @@ module _ (m : Model) where
             ),
       ))
       (λ r. inr (
-        15,
-        behind m 18 ∙ plain m label 0x90 f 15 (omega arith) (flash-asked m s ∙ rw (b, r)),
+        Refusal.SupplyOff,
+        behind m 18 ∙ plain m label 0x90 f Refusal.SupplyOff (omega arith) (flash-asked m s ∙ rw (b, r)),
         λ high low first second o x. (
           write-verdict m s high low first second o x ∙ rw (b, r),
           erase-verdict m s high low first second o x ∙ rw (b, r),
@@ -315,8 +317,8 @@ module _ (m : Model) where
         ),
       ))))
       (λ s. inr (
-        0,
-        behind m 18 ∙ plain m label 0x90 f 0 (omega arith) (unsound m _ s),
+        Refusal.NotSound,
+        behind m 18 ∙ plain m label 0x90 f Refusal.NotSound (omega arith) (unsound m _ s),
         λ high low first second o x. (unsound m _ s, unsound m _ s, λ h. unsound m _ s),
       ))
 

@@ -26,7 +26,6 @@ use Rattle.device.specs.Write.{covers, written, with_word, setup_after, ticks_af
 use Rattle.device.specs.Bus.{must_be_idle, starts_flight, starts_temperature, is_event, command_busy, before_initialize, flight_side_unset, temperature_side_unset, event_side_unset, command_unset}
 use Rattle.device.specs.Call.{verdict, first_of, table, no_frame, not_carried, wrong_length, past_registers, short_output, while_busy, supply_off, unreachable, unerased, bad_calendar, not_initialised, bad_setup, not_awaited, miscounted, too_long}
 use Rattle.device.specs.Reply.{reply, reply_by, accepted_answer, number_in}
-use Rattle.run_state.specs.declared.Placed.TheVariants.{Refused, NoEvent, Event}
 use Rattle.run_state.specs.State.{initialised_told, left_told}
 use Rattle.run_state.specs.Event.{place_by, next_start, place_of, place_told}
 use Rattle.numeral.specs.Ascii.{ascii}
@@ -40,6 +39,8 @@ use Rattle.page.specs.Results.{high_names, low_names, takes_two, status_rows, su
 use Rattle.page.specs.Run.{initialised_row, left_ticks, awaited_row, place_texts, event_texts, wait_texts, next_texts, run_rows}
 use Rattle.page.specs.Commands.{answer_to, flight_fields, temperature_fields, clock_fields, fields, refused_texts, answer_texts, frame_row, command_row, flash_row, write_row, command_rows}
 use Rattle.page.specs.Page.{page}
+use Rattle.refusal.specs.declared.Refusal.{Refusal}
+use Rattle.std.specs.Prelude.{Ok, Err, Some, None}
 
 -- ---- the clock
 
@@ -132,15 +133,15 @@ unfolding joined awaited_row plural decimal decimal_width width_from digits glyp
 awaited = refl
 
 -- 2 of 16 started, 1 of them settled and good, and the next after 16,383 ticks
-event : joined (event_texts (Event (place_by 16 2 1 1 (ticks 16383) true))) ≡ ascii "2 of 16 started, 1 settled, 1 good"
+event : joined (event_texts (Ok (Some (place_by 16 2 1 1 (ticks 16383) true)))) ≡ ascii "2 of 16 started, 1 settled, 1 good"
 unfolding joined event_texts place_texts counted decimal decimal_width width_from digits glyph ascii
 event = refl
 
-next : joined (next_texts (Event (place_by 16 2 1 1 (ticks 16383) true))) ≡ ascii "in 16383 ticks, continuous"
+next : joined (next_texts (Ok (Some (place_by 16 2 1 1 (ticks 16383) true)))) ≡ ascii "in 16383 ticks, continuous"
 unfolding joined next_texts wait_texts plural reported_where decimal decimal_width width_from digits glyph ascii
 next = refl
 
-all-started : joined (next_texts (Event (place_by 16 16 15 15 (ticks 0) false))) ≡ ascii "none"
+all-started : joined (next_texts (Ok (Some (place_by 16 16 15 15 (ticks 0) false)))) ≡ ascii "none"
 unfolding joined next_texts wait_texts reported_where ascii
 all-started = refl
 
@@ -333,16 +334,16 @@ unfolding shown ascii
 not-awaited = (refl, refl)
 
 -- No event is `none`, and so is a refusal.
-no-event : (joined (event_texts NoEvent) ≡ ascii "none")
-    × (joined (next_texts NoEvent) ≡ ascii "none")
-    × (joined (event_texts (Refused 0)) ≡ ascii "none")
-    × (joined (next_texts (Refused 0)) ≡ ascii "none")
+no-event : (joined (event_texts (Ok None)) ≡ ascii "none")
+    × (joined (next_texts (Ok None)) ≡ ascii "none")
+    × (joined (event_texts (Err Refusal.NotSound)) ≡ ascii "none")
+    × (joined (next_texts (Err Refusal.NotSound)) ≡ ascii "none")
 unfolding shown ascii
 no-event = (refl, refl, refl, refl)
 
 -- The next start in one tick, and of a continuous event with all started
-next-starts : (joined (next_texts (Event (place_by 2 1 1 1 (ticks 1) false))) ≡ ascii "in 1 tick")
-    × (joined (next_texts (Event (place_by 2 2 2 2 (ticks 0) true))) ≡ ascii "none, continuous")
+next-starts : (joined (next_texts (Ok (Some (place_by 2 1 1 1 (ticks 1) false)))) ≡ ascii "in 1 tick")
+    × (joined (next_texts (Ok (Some (place_by 2 2 2 2 (ticks 0) true)))) ≡ ascii "none, continuous")
 unfolding shown ascii
 next-starts = (refl, refl)
 

@@ -14,6 +14,8 @@ use Rattle.unit.specs.Choice.{both}
 use Rattle.unit.proofs.Cases.{by-test, by-ltb, by_eqb}
 use Rattle.setup.specs.Table11.{stop_table, timeout_table, stop_row, timeout_row}
 use Rattle.numeral.specs.Digit.{digits, glyph}
+use Rattle.refusal.specs.declared.Refusal.{Refusal}
+use Rattle.refusal.specs.Number.{number}
 use Rattle.numeral.specs.Place.{joined}
 use Rattle.numeral.specs.Print.{width_from, decimal_width, decimal, ten_thousandths, nanoseconds, signed_nanoseconds}
 use Rattle.numeral.proofs.DigitLaws.{length_digits}
@@ -653,14 +655,14 @@ refused-width m op n h =
     (λ e t. rw (t, e, width-append) (omega (arith, nine-width, fields-width m op)))
     (λ e t. rw (t, width-append) (omega (arith, refusal-width n h)))
 
-first-few : (rs : List Row) (n : ℕ) → All (λ (r : Row). r.number ≤ 17) rs → FirstRow rs n → n ≤ 17
+first-few : (rs : List Row) (n : Refusal) → All (λ (r : Row). number r.refusal ≤ 17) rs → FirstRow rs n → number n ≤ 17
 first-few [] n a f = absurd f
-first-few (r ∷ rs) n a f = ⊎_elim (λ h. omega (arith, a.0, h.1)) (λ h. first-few rs n a.1 h.1) f
+first-few (r ∷ rs) n a f = ⊎_elim (λ h. rw h.1 at a.0) (λ h. first-few rs n a.1 h.1) f
 
 -- a transaction is refused with one of the table's numbers
-number-few : (m : Model) (c : Call) (n : ℕ) → verdict m c ≡ refused n → n ≤ 17
+number-few : (m : Model) (c : Call) (r : Refusal) → verdict m c ≡ refused r → number r ≤ 17
 unfolding verdict table
-number-few m c n e = first-few (table m c) n (omega arith, (omega arith, (omega arith, (omega arith, (omega arith, (omega arith, (omega arith, (omega arith, (omega arith, (omega arith, (omega arith, (omega arith, (omega arith, (omega arith, (omega arith, (omega arith, tt)))))))))))))))) ((refused-means (table m c) n).0 e)
+number-few m c r e = first-few (table m c) r (omega arith, (omega arith, (omega arith, (omega arith, (omega arith, (omega arith, (omega arith, (omega arith, (omega arith, (omega arith, (omega arith, (omega arith, (omega arith, (omega arith, (omega arith, (omega arith, tt)))))))))))))))) ((refused-means (table m c) r).0 e)
 
 answer-width : (m : Model) (op : ℕ) (frame : List ℕ) → width (answer_texts m op (number_in (answer_to m frame))) ≤ 38
 unfolding width answer_to answer_texts ascii
@@ -671,7 +673,7 @@ answer-width m op frame = go (verdict m call) refl
 
     go : (v : Verdict) → verdict m call ≡ v → width (answer_texts m op (number_in (reply m call).answer)) ≤ 38
     go accepted e = rw (number-accepted m call e) (omega arith)
-    go (refused n) e = rw (number-refused m call n e) (refused-width m op n (number-few m call n e))
+    go (refused r) e = rw (number-refused m call r e) (refused-width m op (number r) (number-few m call r e))
 
 frame-narrow : (m : Model) (label : List ℕ) (op : ℕ) (frame : List ℕ) → length label ≡ 42 → width (frame_row m label op frame) ≤ 80
 unfolding width frame_row

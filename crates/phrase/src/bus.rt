@@ -2,7 +2,7 @@
 ghost use Rattle.wording.specs.Text.{PutEach};
 ghost use Rattle.wording.specs.Wording.{started, bus_answer, output_buffer, bus, set};
 
-use crate::refusal::put_refusal;
+use crate::refusals::put_refusal;
 use device::Answer;
 
 // `bus`, the answer, and the output buffer.
@@ -28,7 +28,7 @@ fn put_answer(out: &mut [u8], at: usize, answer: Answer) -> usize
     ensures { PutEach out.old at (bus_answer answer) result out.new }
 {
     match answer {
-        Answer::Refused(number) => put_refusal(out, at, number),
+        Answer::Refused(refusal) => put_refusal(out, at, refusal.number()),
         Answer::Accepted(flight, temperature) => put_started(out, at, flight, temperature),
         _ => at,
     }

@@ -2,7 +2,7 @@
 ghost use Rattle.wording.specs.Text.{PutEach};
 ghost use Rattle.wording.specs.Wording.{delivery_answer, delivery};
 
-use crate::refusal::put_refusal;
+use crate::refusals::put_refusal;
 use device::Answer;
 
 // The kind, and the answer.
@@ -18,7 +18,7 @@ fn put_answer(out: &mut [u8], at: usize, answer: Answer) -> usize
     ensures { PutEach out.old at (delivery_answer answer) result out.new }
 {
     match answer {
-        Answer::Refused(number) => put_refusal(out, at, number),
+        Answer::Refused(refusal) => put_refusal(out, at, refusal.number()),
         Answer::Good => numeral::put_text(out, at, b" good"),
         Answer::Failed => numeral::put_text(out, at, b" failed"),
         _ => at,

@@ -1,5 +1,4 @@
 // The set-up as frames.
-ghost use Rattle.std.specs.Prelude.{◌≡◌};
 ghost use Rattle.wording.specs.Text.{PutEach};
 ghost use Rattle.wording.specs.Wording.{byte_texts, frame_texts, frames_head, frames_refused};
 
@@ -28,19 +27,11 @@ fn put_bytes(out: &mut [u8], at: usize, bytes: &[u8]) -> usize
     ensures { PutEach out.old at (byte_texts bytes.now) result out.new }
 {
     let mut place = at;
-    let mut i = 0;
-    while i < bytes.len() {
+    for byte in bytes {
         let blank = numeral::put_text(out, place, b" ");
-        place = numeral::put_hex(out, blank, 2, wide(bytes[i]));
-        i += 1;
+        place = numeral::put_hex(out, blank, 2, u32::from(*byte));
     }
     place
-}
-
-fn wide(b: u8) -> u32
-    ensures { result ≡ b }
-{
-    b as u32
 }
 
 pub fn put_frames_refused(out: &mut [u8], at: usize, number: u32) -> usize

@@ -2,7 +2,7 @@
 ghost use Rattle.wording.specs.Text.{PutEach};
 ghost use Rattle.wording.specs.Wording.{probe, degrees, refused, difference, difference_texts, record_texts, quietest};
 
-use crate::refusal::put_refusal;
+use crate::refusals::put_refusal;
 
 // `probe K`
 pub fn put_probe(out: &mut [u8], at: usize, entries: u64) -> usize
@@ -43,10 +43,8 @@ fn put_differences(out: &mut [u8], at: usize, words: &[u32]) -> usize
     ensures { PutEach out.old at (difference_texts words.now) result out.new }
 {
     let mut place = at;
-    let mut i = 0;
-    while i < words.len() {
-        place = put_difference(out, place, words[i]);
-        i += 1;
+    for word in words {
+        place = put_difference(out, place, *word);
     }
     place
 }

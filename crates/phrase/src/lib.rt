@@ -11,5 +11,5 @@ pub mod frames;
 pub mod heads;
 pub mod kept;
 pub mod question;
-pub mod refusal;
+pub mod refusals;
 pub mod ticks;

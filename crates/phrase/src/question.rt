@@ -37,10 +37,8 @@ fn put_words(out: &mut [u8], at: usize, words: &[u32]) -> usize
     ensures { PutEach out.old at (word_texts words.now) result out.new }
 {
     let mut place = at;
-    let mut i = 0;
-    while i < words.len() {
-        place = put_word(out, place, words[i]);
-        i += 1;
+    for word in words {
+        place = put_word(out, place, *word);
     }
     place
 }

@@ -40,7 +40,7 @@ fn quiet(flight: Report, temperature: Report) -> bool
     if temperature.started {
         return false;
     }
-    if temperature.failed { false } else { true }
+    !temperature.failed
 }
 
 fn put_ticked(out: &mut [u8], at: usize, flight: Report, temperature: Report) -> usize
@@ -79,7 +79,7 @@ pub fn put_stretched(out: &mut [u8], at: usize, answer: Answer, n: Ticks) -> usi
     ensures { PutEach out.old at (stretched answer n.0) result out.new }
 {
     match answer {
-        Answer::Refused(number) => crate::refusal::put_refusal(out, at, number),
+        Answer::Refused(refusal) => crate::refusals::put_refusal(out, at, refusal.number()),
         Answer::Stretched(flight, temperature) => {
             let a = numeral::put_text(out, at, b" ");
             let b = numeral::put_decimal(out, a, n.0 as u64);
@@ -162,7 +162,7 @@ fn put_tick(
 ) -> usize
     ensures { PutEach out.old at (tick_reports flight temperature i.0 done.0) result out.new }
 {
-    let n = Ticks(std::num::wrapping_add_u32(done.0, i.0));
+    let n = Ticks(done.0.wrapping_add(i.0));
     let a = put_report(out, at, same(flight.failed, i), b" failed-flight@", n);
     let b = put_report(out, a, same(flight.started, i), b" started-flight@", n);
     let c = put_report(

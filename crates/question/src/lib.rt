@@ -2,15 +2,17 @@
 #![tactic(auto)]
 
 ghost use Rattle.unit.specs.Says.{Says};
-ghost use Rattle.device.specs.Question.{number_told, value_told, interrupt_pending, awaited_told, regulator_on, peek};
+ghost use Rattle.refusal.specs.Number.{number_told, value_told};
+ghost use Rattle.device.specs.Question.{interrupt_pending, awaited_told, regulator_on, peek};
 
-use device::{Model, Schedule, Told};
+use device::{Model, Schedule};
 use model::state::is_sound;
+use refusal::Refusal;
 use schedule::is_awaited;
 use status::status_word;
 
 // The INT answer: 1 for yes, 0 for no.
-pub fn interrupt_pending(m: Model) -> Told
+pub fn interrupt_pending(m: Model) -> Result<u32, Refusal>
     ensures { Says number_told value_told result (interrupt_pending m) }
 {
     if is_sound(m) {
@@ -18,29 +20,29 @@ pub fn interrupt_pending(m: Model) -> Told
         let status = m.status;
         if setup::interrupt_enabled(setup) {
             if status_word(status) == 0 {
-                return Told::Value(0);
+                return Ok(0);
             }
-            return Told::Value(1);
+            return Ok(1);
         }
-        return Told::Value(0);
+        return Ok(0);
     }
-    Told::Refused(0)
+    Err(Refusal::NotSound)
 }
 
-fn awaited_told(m: Model, k: Schedule) -> Told
+fn awaited_told(m: Model, k: Schedule) -> Result<u32, Refusal>
     ensures { Says number_told value_told result (awaited_told m k) }
 {
     if is_sound(m) {
         if is_awaited(k) {
-            return Told::Value(1);
+            return Ok(1);
         }
-        return Told::Value(0);
+        return Ok(0);
     }
-    Told::Refused(0)
+    Err(Refusal::NotSound)
 }
 
 // Whether a flight measurement is awaited: 1 or 0.
-pub fn flight_awaited(m: Model) -> Told
+pub fn flight_awaited(m: Model) -> Result<u32, Refusal>
     ensures { Says number_told value_told result (awaited_told m m.flight.schedule) }
 {
     let f = m.flight;
@@ -48,7 +50,7 @@ pub fn flight_awaited(m: Model) -> Told
 }
 
 // Whether a temperature measurement is awaited: 1 or 0.
-pub fn temperature_awaited(m: Model) -> Told
+pub fn temperature_awaited(m: Model) -> Result<u32, Refusal>
     ensures { Says number_told value_told result (awaited_told m m.temperature.schedule) }
 {
     let t = m.temperature;
@@ -56,30 +58,30 @@ pub fn temperature_awaited(m: Model) -> Told
 }
 
 // Whether the regulator of the user flash is on: 1 or 0.
-pub fn regulator_on(m: Model) -> Told
+pub fn regulator_on(m: Model) -> Result<u32, Refusal>
     ensures { Says number_told value_told result (regulator_on m) }
 {
     if is_sound(m) {
         if m.regulator {
-            return Told::Value(1);
+            return Ok(1);
         }
-        return Told::Value(0);
+        return Ok(0);
     }
-    Told::Refused(0)
+    Err(Refusal::NotSound)
 }
 
 // The word that a read at address a, B0h to FFh, would give, with nothing cleared.
-pub fn peek(m: Model, a: u32) -> Told
+pub fn peek(m: Model, a: u32) -> Result<u32, Refusal>
     ensures { Says number_told value_told result (peek m a) }
 {
     if is_sound(m) {
         if a < 0xb0 {
-            return Told::Refused(4);
+            return Err(Refusal::Address);
         }
         if 0xff < a {
-            return Told::Refused(4);
+            return Err(Refusal::Address);
         }
-        return Told::Value(registers::read::register_word(m, a));
+        return Ok(registers::read::register_word(m, a));
     }
-    Told::Refused(0)
+    Err(Refusal::NotSound)
 }

@@ -13,9 +13,10 @@ use lib.Seq.{get_or-take, get_or-drop}
 use denote.Ref.{Bor}
 use Rattle.unit.proofs.Cases.{by-test, by-ltb}
 use Rattle.quietest.specs.Quietest.{value_at, larger, smaller, extreme, largest, smallest, spread, quieter, quietest_place}
-use Rattle.quietest.specs.Quietest.{run_spread, number_found, value_found, number_given, PartOf, Handed}
-use Rattle.quietest.specs.declared.Place.{Place}
-use Rattle.quietest.specs.declared.Place.TheVariants.{At, Refused}
+use Rattle.quietest.specs.Quietest.{run_spread, number_given, PartOf, Handed}
+use Rattle.std.specs.Prelude.{Result, Ok, Err}
+use Rattle.refusal.specs.declared.Refusal.{Refusal}
+use Rattle.refusal.specs.Number.{number, number_told, values_told, value_told}
 use Rattle.quietest.proofs.Order.{ge_trans, not-below-itself, one_way, below-at-most, less, at_most, no_less}
 use Rattle.quietest.proofs.Join.{further}
 use Rattle.quietest.proofs.Inside.{by_width, not-refused, none, place-within, apart, same_start}
@@ -111,7 +112,7 @@ size_of (pos n) h = refl
 size_of (negsuc n) h = let z : ◌≡◌ {A = ℕ} 0 1 = cc in absurd (omega arith)
 
 -- what is printed of a run that was handed back is the spread that it was chosen by
-same-value : (values : List ℤ) (start w k : ℕ) → k < w → value_at (take w (drop start values)) k ≡ value_at values (start + k)
+pub same-value : (values : List ℤ) (start w k : ℕ) → k < w → value_at (take w (drop start values)) k ≡ value_at values (start + k)
 same-value values start w k h = get_or-take w (drop start values) k (pos 0) h ∙ get_or-drop start values k (pos 0)
 
 same-extreme :
@@ -173,16 +174,15 @@ pub record Quietest (values : List ℤ) (w start : ℕ) : Type 0 where
   pub earliest : (other : ℕ) → other < start → spread values start w <ℤ spread values other w
 
 -- the place that an answer says
-at_place : (p : Place) {start : ℕ} → value_found p ≡ start ∷ [] → p ≡ At start
-unfolding value_found
-at_place (Refused n) e = none e
-at_place (At s) e = cc
+at_place : (p : Result ℕ Refusal) {start : ℕ} → value_told p ≡ start ∷ [] → p ≡ Ok start
+at_place (Err r) e = none e
+at_place (Ok s) e = cc
 
-pub quietest-run : (values : List ℤ) (w start : ℕ) → value_found (quietest_place values w) ≡ start ∷ [] → Quietest values w start
+pub quietest-run : (values : List ℤ) (w start : ℕ) → value_told (quietest_place values w) ≡ start ∷ [] → Quietest values w start
 quietest-run values w start p =
     by_width values w (λ o e. apart (sym (at_place _ p) ∙ e)) (λ h k e. run h k e)
   where
-    run : 1 ≤ w → w ≤ length values → quietest_place values w ≡ At (quieter values w 0 1 (length values - w)) → Quietest values w start
+    run : 1 ≤ w → w ≤ length values → quietest_place values w ≡ Ok (quieter values w 0 1 (length values - w)) → Quietest values w start
     run h k e =
         let n = length values - w in
         let s : start ≡ quieter values w 0 1 n = same_start (sym (at_place _ p) ∙ e) in
@@ -200,22 +200,19 @@ quietest-only values w a b p q =
 
 -- ---- number 18, exactly for a width of 0 or above the length
 
-pub number-18 : (values : List ℤ) (w : ℕ) → (number_found (quietest_place values w) ≡ 18 ∷ []) ↔ ((w ≡ 0) ⊎ (length values < w))
-unfolding number_found
+pub number-18 : (values : List ℤ) (w : ℕ) → (number_told (quietest_place values w) ≡ 18 ∷ []) ↔ ((w ≡ 0) ⊎ (length values < w))
 number-18 values w =
-    by_width values w (λ o e. (λ _. o, λ _. ap number_found e))
-    (λ h k e. (λ n. none (sym (ap number_found e) ∙ n), λ o. not-refused h k o))
+    by_width values w (λ o e. (λ _. o, λ _. ap number_told e))
+    (λ h k e. (λ n. none (sym (ap number_told e) ∙ n), λ o. not-refused h k o))
 
-pub no_number : (values : List ℤ) (w : ℕ) → (number_found (quietest_place values w) ≡ []) ↔ ((1 ≤ w) × (w ≤ length values))
-unfolding number_found
+pub no_number : (values : List ℤ) (w : ℕ) → (number_told (quietest_place values w) ≡ []) ↔ ((1 ≤ w) × (w ≤ length values))
 no_number values w =
-    by_width values w (λ o e. (λ n. none (sym n ∙ ap number_found e), λ p. not-refused p.0 p.1 o))
-    (λ h k e. (λ _. (h, k), λ _. ap number_found e))
+    by_width values w (λ o e. (λ n. none (sym n ∙ ap number_told e), λ p. not-refused p.0 p.1 o))
+    (λ h k e. (λ _. (h, k), λ _. ap number_told e))
 
-pub only-number : (values : List ℤ) (w n : ℕ) → number_found (quietest_place values w) ≡ n ∷ [] → n ≡ 18
-unfolding number_found
+pub only-number : (values : List ℤ) (w n : ℕ) → number_told (quietest_place values w) ≡ n ∷ [] → n ≡ 18
 only-number values w n p =
-    by_width values w (λ o e. same (sym p ∙ ap number_found e)) (λ h k e. none (sym (ap number_found e) ∙ p))
+    by_width values w (λ o e. same (sym p ∙ ap number_told e)) (λ h k e. none (sym (ap number_told e) ∙ p))
   where
     same : {a b : ℕ} → a ∷ [] ≡ b ∷ [] → a ≡ b
     same f = cc
@@ -231,20 +228,19 @@ module _ (s r : Bor (List ℤ)) (w start : ℕ) (part : PartOf s r start w) wher
 
 module _ (s r : Bor (List ℤ)) (w number : ℕ) (handed : Handed (quietest_place s.now w) w s r)
     (given : number ≡ number_given (quietest_place s.now w)) where
-  abbrev Refusal : Type 0
-  Refusal = (w ≡ 0) ⊎ (length s.now < w)
+  abbrev Refuses : Type 0
+  Refuses = (w ≡ 0) ⊎ (length s.now < w)
 
   by_number : {G : Type 0}
-      → (Refusal → number ≡ 18 → PartOf s r 0 0 → G)
+      → (Refuses → number ≡ 18 → PartOf s r 0 0 → G)
       → (1 ≤ w → w ≤ length s.now → number ≡ 0 → (start : ℕ) → Quietest s.now w start → PartOf s r start w → G)
       → G
-  unfolding number_found value_found
   by_number f g =
       by_width s.now w
       (λ o e. f o (given ∙ ap number_given e) (rw e at handed))
-      (λ h k e. g h k (given ∙ ap number_given e) _ (quietest-run s.now w _ (ap value_found e)) (rw e at handed))
+      (λ h k e. g h k (given ∙ ap number_given e) _ (quietest-run s.now w _ (ap value_told e)) (rw e at handed))
 
-  pub eighteen-given : (number ≡ 18) ↔ Refusal
+  pub eighteen-given : (number ≡ 18) ↔ Refuses
   eighteen-given =
       by_number (λ o e p. (λ _. o, λ _. e)) (λ h k e start q p. (λ n. absurd (omega arith), λ o. not-refused h k o))
 

@@ -7,6 +7,10 @@ use lib.Dec.{T}
 use lib.IntN.{ℤ, pos, negsuc, ◌-ℤ◌}
 use lib.Signed.{lt_z, non_neg, ◌<ℤ◌, ◌≤ℤ◌, lt_z_yes, lt_z_no}
 use borrow.Author.Tests.{lt-ltb, le-ltb, ltb-true, ltb-false}
+use Rattle.std.specs.Int.{int_max, int_min}
+use Rattle.std.proofs.lemmas.Int.{ints}
+use Rattle.unit.proofs.Cases.{by-test}
+use Rattle.quietest.specs.Quietest.{larger, smaller}
 
 never : {A : Type 0} → true ≡ false → A
 never e = let z : ◌≡◌ {A = ℕ} 0 1 = cc in absurd (omega arith)
@@ -66,3 +70,18 @@ no_less (pos a) (negsuc b) e = refl
 no_less (negsuc a) (pos zero) e = cc
 no_less (negsuc a) (pos (suc b)) e = cc
 no_less (negsuc a) (negsuc b) e = rw (le-ltb (suc b) (suc a) (omega (arith, ltb-false b a e)))
+
+level : (a b : ℤ) → lt_z a b ≡ false → lt_z b a ≡ false → b ≡ a
+level a b h k = omega (arith, ints)
+
+-- the library's choices between two values
+pub larger-max : (a b : ℤ) → int_max a b ≡ larger a b
+unfolding larger
+larger-max a b =
+    by-test (lt_z a b)
+    (λ t. rw (t, one_way a b t))
+    (λ t. by-test (lt_z b a) (λ u. rw (t, u)) (λ u. rw (t, u) (level a b t u)))
+
+pub smaller-min : (a b : ℤ) → int_min a b ≡ smaller a b
+unfolding smaller
+smaller-min a b = by-test (lt_z b a) (λ t. rw t) (λ t. rw t)

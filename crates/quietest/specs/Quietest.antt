@@ -1,10 +1,10 @@
 -- The quietest run of neighbours in a list of differences.
-use Rattle.std.specs.Prelude.{ℕ, zero, suc, ◌+◌, ◌-◌, ◌*◌, ◌≡◌, List, [], ◌∷◌, ℤ, pos, nat_abs, ◌-ℤ◌, length, get_or, take, drop, ltb, eqb}
+use Rattle.std.specs.Prelude.{ℕ, zero, suc, ◌+◌, ◌-◌, ◌*◌, ◌≡◌, List, [], ◌∷◌, ℤ, pos, nat_abs, ◌-ℤ◌, length, get_or, take, drop, ltb, eqb, Result, Ok, Err}
 use Rattle.std.specs.Int.Signed.{lt_z}
 use Rattle.std.specs.Borrow.{Bor}
 use Rattle.unit.specs.Choice.{pick, either}
-use Rattle.quietest.specs.declared.Place.{Place}
-use Rattle.quietest.specs.declared.Place.TheVariants.{At, Refused}
+use Rattle.refusal.specs.declared.Refusal.{Refusal}
+use Rattle.refusal.specs.Number.{number_told}
 
 abbrev pub value_at : List ℤ → ℕ → ℤ
 value_at values k = get_or values k (pos 0)
@@ -43,24 +43,15 @@ quieter values w s from (suc n) =
 
 -- "Turned away: number 18, width, for w of 0 or above the record's length"; else "the run of w neighbours whose largest less
 -- smallest is least, the earliest among equals", by its start: one of 0 to the length less w
-unfoldable pub quietest_place : List ℤ → ℕ → Place
+unfoldable pub quietest_place : List ℤ → ℕ → Result ℕ Refusal
 quietest_place values w =
     pick (either (eqb w 0) (ltb (length values) w))
-    (Refused 18)
-    (At (quieter values w 0 1 (length values - w)))
-
--- What an answer says: the number of a refusal; the place of the run.
-unfoldable pub number_found : Place → List ℕ
-number_found (Refused number) = number ∷ []
-number_found (At start) = []
-
-unfoldable pub value_found : Place → List ℕ
-value_found (Refused number) = []
-value_found (At start) = start ∷ []
+    (Err Refusal.Width)
+    (Ok (quieter values w 0 1 (length values - w)))
 
 -- the number beside a part that is handed back: 0 where the answer says none
-abbrev pub number_given : Place → ℕ
-number_given place = get_or (number_found place) 0 0
+abbrev pub number_given : Result ℕ Refusal → ℕ
+number_given place = get_or (number_told place) 0 0
 
 -- r is the part of the slice s itself that holds n values from its place `start` on: it lies in the same memory, four bytes a
 -- value further on
@@ -70,6 +61,6 @@ pub record PartOf (s r : Bor (List ℤ)) (start n : ℕ) : Type 0 where
   pub elements : r.now ≡ take n (drop start s.now)
 
 -- "It must be that part of the caller's record itself"; a refusal comes "with the empty part from the record's start"
-abbrev pub Handed : Place → ℕ → Bor (List ℤ) → Bor (List ℤ) → Type 0
-Handed (At start) w s r = PartOf s r start w
-Handed (Refused number) w s r = PartOf s r 0 0
+abbrev pub Handed : Result ℕ Refusal → ℕ → Bor (List ℤ) → Bor (List ℤ) → Type 0
+Handed (Ok start) w s r = PartOf s r start w
+Handed (Err refusal) w s r = PartOf s r 0 0

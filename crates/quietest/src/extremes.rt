@@ -1,7 +1,5 @@
 // The largest and the smallest value of a run.
-ghost use Rattle.std.specs.Prelude.{◌≡◌, ◌≤◌, ◌+◌, false, nat_abs, length};
-ghost use Rattle.std.specs.Int.Signed.{lt_z};
-ghost use Rattle.quietest.specs.Quietest.{larger, smaller};
+ghost use Rattle.std.specs.Prelude.{◌≡◌, ◌≤◌, ◌+◌, nat_abs, length};
 ghost use Rattle.quietest.specs.Search.{extremes_of, joined, spread_of};
 
 #[derive(Clone, Copy)]
@@ -10,25 +8,13 @@ pub struct Extremes {
     pub low: i32,
 }
 
-fn larger(a: i32, b: i32) -> i32
-    ensures { result ≡ larger a b }
-{
-    if a < b { b } else { a }
-}
-
-fn smaller(a: i32, b: i32) -> i32
-    ensures { result ≡ smaller a b }
-{
-    if b < a { b } else { a }
-}
-
 // The extremes of two runs together.
 pub fn joined(a: Extremes, b: Extremes) -> Extremes
     ensures { result ≡ joined a b }
 {
     Extremes {
-        high: larger(a.high, b.high),
-        low: smaller(a.low, b.low),
+        high: a.high.max(b.high),
+        low: a.low.min(b.low),
     }
 }
 
@@ -36,15 +22,14 @@ pub fn joined(a: Extremes, b: Extremes) -> Extremes
 pub fn spread_of(e: Extremes) -> i64
     ensures { result ≡ spread_of e }
 {
-    e.high as i64 - e.low as i64
+    i64::from(e.high) - i64::from(e.low)
 }
 
 // The same as a number without a sign.
 pub fn distance(e: Extremes) -> u64
-    requires { lt_z e.high e.low ≡ false }
     ensures { result ≡ nat_abs (spread_of e) }
 {
-    (e.high as i64 - e.low as i64) as u64
+    u64::from(e.high.abs_diff(e.low))
 }
 
 // The extremes of `count` neighbours from a place on.
@@ -54,10 +39,9 @@ pub fn extremes_of(values: &[i32], from: usize, count: usize) -> Extremes
 {
     let mut high = values[from];
     let mut low = high;
-    for k in 0..count {
-        let x = values[from + k];
-        high = larger(high, x);
-        low = smaller(low, x);
+    for x in &values[from..from + count] {
+        high = high.max(*x);
+        low = low.min(*x);
     }
     Extremes { high, low }
 }

@@ -4,33 +4,26 @@
 
 ghost use Rattle.std.specs.Prelude.{◌≡◌};
 ghost use Rattle.unit.specs.Says.{Says};
-ghost use Rattle.quietest.specs.Quietest.{quietest_place, number_found, value_found, number_given, Handed, run_spread};
+ghost use Rattle.quietest.specs.Quietest.{quietest_place, number_given, Handed, run_spread};
+ghost use Rattle.refusal.specs.Number.{number_told, value_told};
 
 mod extremes;
 mod search;
 
-// The number of the one refusal: the width is 0 or above the list's length.
-const WIDTH: u32 = 18;
+use refusal::Refusal;
 
-// Where the quietest run starts, or the number of a refusal.
-#[derive(Clone, Copy)]
-pub enum Place {
-    At(usize),
-    Refused(u32),
-}
-
-// The place of the quietest run of `width` neighbours, the earliest among equals.
-pub fn quietest_place(values: &[i32], width: usize) -> Place
-    ensures { Says number_found value_found result (quietest_place values.now width) }
+// Where the quietest run of `width` neighbours starts, the earliest among equals; a width of 0 or above the list's length is refused.
+pub fn quietest_place(values: &[i32], width: usize) -> Result<usize, Refusal>
+    ensures { Says number_told value_told result (quietest_place values.now width) }
 {
     if width == 0 {
-        return Place::Refused(WIDTH);
+        return Err(Refusal::Width);
     }
     if values.len() < width {
-        return Place::Refused(WIDTH);
+        return Err(Refusal::Width);
     }
     let found = search::search_all(values, width);
-    Place::At(found.start)
+    Ok(found.start)
 }
 
 // That run, as a part of the caller's own list, with 0 in `number`; for a refusal its number there, and the empty part from the
@@ -40,12 +33,12 @@ pub fn quietest<'a>(values: &'a [i32], width: usize, number: &mut u32) -> &'a [i
 {
     let place = quietest_place(values, width);
     match place {
-        Place::At(start) => {
+        Ok(start) => {
             *number = 0;
             &values[start..start + width]
         }
-        Place::Refused(n) => {
-            *number = n;
+        Err(refusal) => {
+            *number = refusal.number();
             &values[..0]
         }
     }
@@ -55,7 +48,7 @@ pub fn quietest<'a>(values: &'a [i32], width: usize, number: &mut u32) -> &'a [i
 pub fn run_spread(run: &[i32]) -> u64
     ensures { result ≡ run_spread run.now }
 {
-    if run.len() == 0 {
+    if run.is_empty() {
         return 0;
     }
     extremes::distance(extremes::extremes_of(run, 0, run.len()))

@@ -93,12 +93,6 @@ fn search_block(values: &[i32], width: usize, from: usize, count: usize, best: F
     search(values, width, from, count, shared, best)
 }
 
-fn least(a: usize, b: usize) -> usize
-    ensures { (result ≤ a) × (result ≤ b) × (0 < a → 0 < b → 0 < result) }
-{
-    if a < b { a } else { b }
-}
-
 // Tries every start, `width` of them at a time.
 pub fn search_all(values: &[i32], width: usize) -> Found
     requires { (1 ≤ width) × (width ≤ length values.now) }
@@ -108,13 +102,10 @@ pub fn search_all(values: &[i32], width: usize) -> Found
         start: 0,
         spread: spread_of(extremes_of(values, 0, width)),
     };
-    let mut from = 1;
-    let mut left = values.len() - width;
-    while 0 < left {
-        let count = least(left, width);
+    let end = values.len() - width + 1;
+    for from in (1..end).step_by(width) {
+        let count = width.min(end - from);
         best = search_block(values, width, from, count, best);
-        from += count;
-        left -= count;
     }
     best
 }

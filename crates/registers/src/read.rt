@@ -1,5 +1,5 @@
 // What a read of each register gives, and the model after a read.
-ghost use Rattle.std.specs.Prelude.{◌≡◌, true, ◌<◌, ◌≤◌, ◌+◌, ◌-◌, ◌*◌, min, eqb, length};
+ghost use Rattle.std.specs.Prelude.{◌≡◌, true, ◌<◌, ◌≤◌, ◌+◌, ◌-◌, ◌*◌, ℕ, min, eqb, length, get_or};
 ghost use Rattle.unit.specs.Choice.{pick};
 ghost use Rattle.calendar.specs.Words.{bcd, word30, word31, word32, word33};
 ghost use Rattle.device.specs.Model.{is_sound};
@@ -175,6 +175,14 @@ fn valid_word(m: Model, a: u32) -> u32
     valid33(clock)
 }
 
+// B4h to C3h.
+fn setup_word(setup: [u16; 16], a: u32) -> u32
+    requires { (180 ≤ a) × (a ≤ 195) }
+    ensures { result ≡ get_or setup (a - 180) 0 }
+{
+    u32::from(setup[(a - 0xb4) as usize])
+}
+
 // F8h to FFh.
 fn last_word(s: Status, a: u32) -> u32
     ensures { result ≡ pick (eqb a 0xFE) (status_word s) 0 }
@@ -189,98 +197,54 @@ fn put_word(out: &mut [u8], i: usize, w: u32)
     requires { 2 * i + 2 ≤ length out.old }
     ensures { out.new ≡ put_word out.old i w }
 {
-    out[2 * i] = (w / 256 % 256) as u8;
-    out[2 * i + 1] = (w % 256) as u8;
+    let [_, _, high, low] = w.to_be_bytes();
+    out[2 * i] = high;
+    out[2 * i + 1] = low;
 }
 
 // How many of n registers from a on stand before the end.
 fn until(a: u32, n: usize, end: u32) -> usize
     ensures { result ≡ min n (end - a) }
 {
-    if end <= a {
-        return 0;
-    }
-    let room = (end - a) as usize;
-    if room < n { room } else { n }
+    n.min(end.saturating_sub(a) as usize)
 }
 
-// Of n registers from a on, those of each part of the model. A part by itself: a loop over the whole model would test each register
-// for its part, and hold all of the model in memory.
-fn fill_calendar(m: Model, a: u32, n: usize, out: &mut [u8])
-    requires { (is_sound m ≡ true) × (176 ≤ a) × (a + n ≤ 256) × (2 * n ≤ length out.old) }
-    ensures { Filled m a 0 (min n (180 - a)) out.old out.new }
+// Fills the places from `from` on, below `to`, of a read from register a on with the words that `word` gives of the registers there.
+fn fill_part<F: Fn(u32) -> u32>(out: &mut [u8], a: u32, from: usize, to: usize, word: F)
+    requires room { (from ≤ to) × (a + to ≤ 256) × (2 * to ≤ length out.old) }
+    requires callable { (i : ℕ) → from ≤ i → i < to → F.pre word (a + i) }
+    ensures { (m : _) → ((i w : ℕ) → from ≤ i → i < to → F.post word (a + i) w → w ≡ register_word m (a + i)) → Filled m a from to out.old out.new }
 {
-    let end = until(a, n, 0xb4);
-    let mut i: usize = 0;
-    while i < end {
-        put_word(out, i, valid_word(m, a + i as u32));
-        i += 1;
+    for i in from..to {
+        put_word(out, i, word(a + i as u32));
     }
 }
 
-fn fill_setup(m: Model, a: u32, n: usize, out: &mut [u8])
-    requires { (176 ≤ a) × (a + n ≤ 256) × (2 * n ≤ length out.old) }
-    ensures { Filled m a (min n (180 - a)) (min n (196 - a)) out.old out.new }
-{
-    let setup = m.setup;
-    let end = until(a, n, 0xc4);
-    let mut i: usize = until(a, n, 0xb4);
-    while i < end {
-        let k = a as usize + i - 0xb4;
-        put_word(out, i, setup[k] as u32);
-        i += 1;
-    }
-}
-
-fn fill_flight(m: Model, a: u32, n: usize, out: &mut [u8])
-    requires { (176 ≤ a) × (a + n ≤ 256) × (2 * n ≤ length out.old) }
-    ensures { Filled m a (min n (196 - a)) (min n (231 - a)) out.old out.new }
-{
-    let flight = m.flight;
-    let end = until(a, n, 0xe7);
-    let mut i: usize = until(a, n, 0xc4);
-    while i < end {
-        put_word(out, i, flight_word(flight, a + i as u32));
-        i += 1;
-    }
-}
-
-fn fill_temperature(m: Model, a: u32, n: usize, out: &mut [u8])
-    requires { (176 ≤ a) × (a + n ≤ 256) × (2 * n ≤ length out.old) }
-    ensures { Filled m a (min n (231 - a)) (min n (248 - a)) out.old out.new }
-{
-    let temperature = m.temperature;
-    let end = until(a, n, 0xf8);
-    let mut i: usize = until(a, n, 0xe7);
-    while i < end {
-        put_word(out, i, temperature_word(temperature, a + i as u32));
-        i += 1;
-    }
-}
-
-fn fill_last(m: Model, a: u32, n: usize, out: &mut [u8])
-    requires { (176 ≤ a) × (a + n ≤ 256) × (2 * n ≤ length out.old) }
-    ensures { Filled m a (min n (248 - a)) n out.old out.new }
-{
-    let status = m.status;
-    let end = n;
-    let mut i: usize = until(a, n, 0xf8);
-    while i < end {
-        put_word(out, i, last_word(status, a + i as u32));
-        i += 1;
-    }
-}
-
-// Fills the first 2n bytes with n consecutive registers.
+// Fills the first 2n bytes with n consecutive registers. Each part of the model by itself: a loop over the whole model would test each
+// register for its part, and hold all of the model in memory.
 pub fn fill_words(m: Model, a: u32, n: usize, out: &mut [u8])
     requires { (is_sound m ≡ true) × (176 ≤ a) × (a + n ≤ 256) × (2 * n ≤ length out.old) }
     ensures { out.new ≡ fill_words m a out.old n }
 {
-    fill_calendar(m, a, n, out);
-    fill_setup(m, a, n, out);
-    fill_flight(m, a, n, out);
-    fill_temperature(m, a, n, out);
-    fill_last(m, a, n, out);
+    let setup = m.setup;
+    let flight = m.flight;
+    let temperature = m.temperature;
+    let status = m.status;
+    let calendar_end = until(a, n, 0xb4);
+    let setup_end = until(a, n, 0xc4);
+    let flight_end = until(a, n, 0xe7);
+    let temperature_end = until(a, n, 0xf8);
+    fill_part(out, a, 0, calendar_end, |x| valid_word(m, x));
+    fill_part(out, a, calendar_end, setup_end, |x| setup_word(setup, x));
+    fill_part(out, a, setup_end, flight_end, |x| flight_word(flight, x));
+    fill_part(
+        out,
+        a,
+        flight_end,
+        temperature_end,
+        |x| temperature_word(temperature, x),
+    );
+    fill_part(out, a, temperature_end, n, |x| last_word(status, x));
 }
 
 // The model after an accepted read: reading FEh clears the status.

@@ -31,14 +31,11 @@ fn setup_after(setup: [u16; 16], words: &[u8], op: u32, n: usize) -> [u16; 16]
     ensures { result ≡ setup_after words.now op setup n }
 {
     let mut s = setup;
-    let mut i: usize = 0;
-    while i < n {
-        let w = frame::word_at(words, i) as u16;
+    for i in 0..n {
         let a = op as usize + i;
         if 0x34 <= a {
-            s[a - 0x34] = w;
+            s[a - 0x34] = frame::word_at(words, i) as u16;
         }
-        i += 1;
     }
     s
 }

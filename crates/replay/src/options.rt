@@ -27,11 +27,12 @@ pub fn given(rt: &impl System, n: usize) -> Options
 {
     let mut word = [0u8; 4096];
     let mut reading = arguments::begin();
-    let mut i = 1;
-    while i < n && arguments::is_open(reading) {
+    for i in 1..n {
+        if !arguments::is_open(reading) {
+            break;
+        }
         let length = rt.argument(i, &mut word).unwrap_or(0);
         reading = arguments::next(reading, &word[..length]);
-        i += 1;
     }
     arguments::asked(reading, n)
 }

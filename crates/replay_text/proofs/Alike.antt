@@ -14,9 +14,6 @@ use Rattle.device.specs.declared.Answer.TheVariants.{Refused, Accepted, Ticked, 
 use Rattle.device.specs.Model.{is_sound}
 use Rattle.device.specs.Call.{Call}
 use Rattle.device.specs.Reply.{reply}
-use Rattle.thermometer.specs.declared.InDegrees.{InDegrees}
-use Rattle.thermometer.specs.declared.InDegrees.TheVariants.{Thousandths, Refused as NoDegrees}
-use Rattle.quietest.specs.declared.Place.{Place}
 use Rattle.listing.specs.Listing.{lines, last_above}
 use Rattle.setup_frames.specs.Frames.{frames}
 use Rattle.numeral.specs.Place.{put_each}
@@ -37,6 +34,8 @@ use Rattle.line_text.specs.Text.{fault_told, item_told, bare, judged_counts, clo
 use Rattle.replay_text.specs.Replay.{tick_lines, ticks_told, ticks_done, told_by, done_by, opening, own_whole, done_whole}
 use Rattle.replay_text.proofs.Reading.{is_ticks}
 use Rattle.replay_text.proofs.Numbers.{used_of, SameNumbers, numbers-taken}
+use Rattle.refusal.specs.declared.Refusal.{Refusal}
+use Rattle.std.specs.Prelude.{Result, Ok, Err}
 
 -- The places in which an answer counts: 3 the calls, 4 the refusals, 5 those that are not announced, 7 the expectations, 8 those that
 -- differ, 9 the moment, 10 and 11 what the record and the probe table hold, 15 the end of the item's name.
@@ -125,7 +124,7 @@ module _ (R : List ℕ → List ℕ → Type 0)
 
   start-same : (a : Answer) (c c' : List ℕ) → R c c' → R (start_moment a c) (start_moment a c')
   unfolding start_moment
-  start-same (Refused number) c c' r = r
+  start-same (Refused why) c c' r = r
   start-same (Accepted true temperature) c c' r = kept 9 0 refl c c' r
   start-same (Accepted false true) c c' r = kept 9 0 refl c c' r
   start-same (Accepted false false) c c' r = r
@@ -241,10 +240,10 @@ module _ (R : List ℕ → List ℕ → Type 0)
 
   -- ---- lines on what an item keeps beside its model
 
-  in-degrees-same : (d : InDegrees) (c c' : List ℕ) → R c c' → SameTold R (told_in_degrees d c) (told_in_degrees d c')
+  in-degrees-same : (d : Result ℕ Refusal) (c c' : List ℕ) → R c c' → SameTold R (told_in_degrees d c) (told_in_degrees d c')
   unfolding told_in_degrees
-  in-degrees-same (Thousandths n) c c' r = (refl, call_same 0 c c' r)
-  in-degrees-same (NoDegrees number) c c' r = (refl, call_same 1 c c' r)
+  in-degrees-same (Ok n) c c' r = (refl, call_same 0 c c' r)
+  in-degrees-same (Err why) c c' r = (refl, call_same 1 c c' r)
 
   degrees-same : (numbers numbers' : List ℕ) → SameNumbers Content.Degrees numbers numbers' → (probes c c' : List ℕ) → R c c'
       → SameTold R (told_of_degrees numbers probes c) (told_of_degrees numbers' probes c')
@@ -263,11 +262,11 @@ module _ (R : List ℕ → List ℕ → Type 0)
       either_same (last_above d first (length values)) (answered 1 none c) (answered 0 some c) (answered 1 none c') (answered 0 some c')
       (refl, call_same 1 c c' r) (refl, call_same 0 c c' r)
 
-  place_same : (q : Place) (values : List ℤ) (width : ℕ) (c c' : List ℕ) → R c c'
+  place_same : (q : Result ℕ Refusal) (values : List ℤ) (width : ℕ) (c c' : List ℕ) → R c c'
       → SameTold R (told_of_place q values width c) (told_of_place q values width c')
   unfolding told_of_place
-  place_same (Place.At start) values width c c' r = (refl, call_same 0 c c' r)
-  place_same (Place.Refused number) values width c c' r = (refl, call_same 1 c c' r)
+  place_same (Ok start) values width c c' r = (refl, call_same 0 c c' r)
+  place_same (Err why) values width c c' r = (refl, call_same 1 c c' r)
 
   record-words : (m : Model) (n : ℕ) (numbers numbers' : List ℕ) → take n numbers ≡ take n numbers'
       → record_words m numbers n ≡ record_words m numbers' n

@@ -21,9 +21,6 @@ use Rattle.device.specs.Model.{is_sound}
 use Rattle.device.specs.Call.{Call}
 use Rattle.device.specs.Reply.{reply, number_in}
 use Rattle.device.proofs.Replies.{reply-tick}
-use Rattle.thermometer.specs.declared.InDegrees.{InDegrees}
-use Rattle.thermometer.specs.declared.InDegrees.TheVariants.{Thousandths, Refused as NoDegrees}
-use Rattle.quietest.specs.declared.Place.{Place}
 use Rattle.quietest.specs.Quietest.{quietest_place}
 use Rattle.listing.specs.Listing.{capture_digits, lines, last_above}
 use Rattle.setup_frames.specs.Frames.{frames}
@@ -47,6 +44,9 @@ use Rattle.replay_text.proofs.Refusals.{degrees_refused, place_refused, refused_
 use Rattle.replay_text.proofs.Counts.{begun-alike, begun-fault}
 use Rattle.replay_text.proofs.Gains.{in_own, own_alone}
 use Rattle.replay_text.proofs.Order.{InOrder, text-counts}
+use Rattle.refusal.specs.declared.Refusal.{Refusal}
+use Rattle.refusal.specs.Number.{number}
+use Rattle.std.specs.Prelude.{Result, Ok, Err}
 
 -- ---- a number is no `no`
 
@@ -72,7 +72,7 @@ number-start n wanted rest =
 
 bus-no : (a : Answer) (buffer : List ℕ) → says_no (bus a buffer) ≡ eqb (refusals a) 1
 unfolding bus bus_answer refusal started output_buffer joined ascii begins_with starts_with place_of refusals number_in
-bus-no (Refused number) buffer = refl
+bus-no (Refused r) buffer = refl
 bus-no (Accepted true true) buffer = refl
 bus-no (Accepted true false) buffer = refl
 bus-no (Accepted false true) buffer = refl
@@ -88,7 +88,7 @@ bus-no Failed (b ∷ bs) = refl
 
 set-no : (a : Answer) → says_no (set_texts a) ≡ eqb (refusals a) 1
 unfolding set_texts bus_answer refusal started joined ascii begins_with starts_with place_of refusals number_in
-set-no (Refused number) = refl
+set-no (Refused r) = refl
 set-no (Accepted true true) = refl
 set-no (Accepted true false) = refl
 set-no (Accepted false true) = refl
@@ -100,7 +100,7 @@ set-no Failed = refl
 
 flight-no : (a : Answer) → says_no (delivery (ascii "flight") a) ≡ eqb (refusals a) 1
 unfolding delivery delivery_answer refusal joined ascii begins_with starts_with place_of refusals number_in
-flight-no (Refused number) = refl
+flight-no (Refused r) = refl
 flight-no (Accepted flight temperature) = refl
 flight-no (Ticked flight temperature) = refl
 flight-no (Stretched flight temperature) = refl
@@ -109,7 +109,7 @@ flight-no Failed = refl
 
 temperature-no : (a : Answer) → says_no (delivery (ascii "temperature") a) ≡ eqb (refusals a) 1
 unfolding delivery delivery_answer refusal joined ascii begins_with starts_with place_of refusals number_in
-temperature-no (Refused number) = refl
+temperature-no (Refused r) = refl
 temperature-no (Accepted flight temperature) = refl
 temperature-no (Ticked flight temperature) = refl
 temperature-no (Stretched flight temperature) = refl
@@ -118,7 +118,7 @@ temperature-no Failed = refl
 
 stretch-no : (a : Answer) (n : ℕ) → says_no (stretch a n) ≡ eqb (refusals a) 1
 unfolding stretch stretched refusal joined ascii begins_with place_of starts_with refusals number_in
-stretch-no (Refused number) n = refl
+stretch-no (Refused r) n = refl
 stretch-no (Accepted flight temperature) n = refl
 stretch-no (Ticked flight temperature) n = refl
 stretch-no (Stretched flight temperature) n = number-start n (111 ∷ []) _
@@ -175,10 +175,10 @@ unfolding degrees thousandths joined ascii begins_with place_of
 degrees-some n =
     rw (append_assoc (decimal (n / 1000)) (46 ∷ digits 10 3 (n % 1000)) (line_feed ++ [])) (number-start (n / 1000) (111 ∷ []) ((46 ∷ digits 10 3 (n % 1000)) ++ (line_feed ++ [])))
 
-degrees-no : (d : InDegrees) (c : List ℕ) → says_no (told_in_degrees d c).texts ≡ eqb (degrees_refused d) 1
+degrees-no : (d : Result ℕ Refusal) (c : List ℕ) → says_no (told_in_degrees d c).texts ≡ eqb (degrees_refused d) 1
 unfolding told_in_degrees degrees_refused
-degrees-no (Thousandths n) c = degrees-some n
-degrees-no (NoDegrees number) c = degrees-none number
+degrees-no (Ok n) c = degrees-some n
+degrees-no (Err r) c = degrees-none (number r)
 
 listing-some : (used : ℕ) (rest : Texts) → says_no (listing_head used ++ rest) ≡ false
 unfolding listing_head counted joined ascii begins_with place_of
@@ -194,10 +194,10 @@ quietest-some : (start spread : ℕ) → says_no (quietest start spread) ≡ fal
 unfolding quietest counted joined ascii begins_with place_of
 quietest-some start spread = number-start start (111 ∷ []) _
 
-quietest-no : (q : Place) (values : List ℤ) (width : ℕ) (c : List ℕ) → says_no (told_of_place q values width c).texts ≡ eqb (place_refused q) 1
+quietest-no : (q : Result ℕ Refusal) (values : List ℤ) (width : ℕ) (c : List ℕ) → says_no (told_of_place q values width c).texts ≡ eqb (place_refused q) 1
 unfolding told_of_place place_refused
-quietest-no (Place.At start) values width c = quietest-some start _
-quietest-no (Place.Refused number) values width c = quietest-none number
+quietest-no (Ok start) values width c = quietest-some start _
+quietest-no (Err r) values width c = quietest-none (number r)
 
 -- ---- any call
 

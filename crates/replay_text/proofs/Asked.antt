@@ -17,7 +17,6 @@ use Rattle.numeral.specs.declared.Number.TheVariants.{Value as Number}
 use Rattle.hit.specs.Mean.{All}
 use Rattle.device.specs.declared.Model.{Model}
 use Rattle.device.specs.declared.Schedule.{Schedule}
-use Rattle.device.specs.declared.Told.TheVariants.{Value}
 use Rattle.device.specs.Event.{is_awaited}
 use Rattle.device.specs.Model.{is_sound}
 use Rattle.device.specs.Question.{awaited_told}
@@ -57,6 +56,7 @@ use Rattle.replay_text.proofs.Bad.{line_adds}
 use Rattle.replay_text.proofs.Text.{check-left, good-line-text}
 use Rattle.replay_text.proofs.Carried.{is_carried, line-unmarked}
 use Rattle.replay_text.proofs.Order.{InOrder, order-line, order-first, order-lines}
+use Rattle.std.specs.Prelude.{Ok}
 
 -- ---- what each of these lines tells, and that it leaves the model
 
@@ -145,7 +145,7 @@ awaited-value : (m : Model) (k : Schedule) → is_sound m ≡ true → told_valu
 unfolding awaited_told told_value
 awaited-value m k sound = rw sound (go (is_awaited k))
   where
-    go : (t : Bool) → told_value (pick t (Value 1) (Value 0)) ≡ flag t
+    go : (t : Bool) → told_value (pick t (Ok 1) (Ok 0)) ≡ flag t
     go true = refl
     go false = refl
 

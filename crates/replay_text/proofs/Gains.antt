@@ -18,9 +18,6 @@ use Rattle.device.specs.declared.Answer.TheVariants.{Refused, Accepted, Ticked, 
 use Rattle.device.specs.Model.{is_sound}
 use Rattle.device.specs.Call.{Call}
 use Rattle.device.specs.Reply.{reply}
-use Rattle.thermometer.specs.declared.InDegrees.{InDegrees}
-use Rattle.thermometer.specs.declared.InDegrees.TheVariants.{Thousandths, Refused as NoDegrees}
-use Rattle.quietest.specs.declared.Place.{Place}
 use Rattle.quietest.specs.Quietest.{quietest_place}
 use Rattle.listing.specs.Listing.{capture_digits, lines, last_above}
 use Rattle.setup_frames.specs.Frames.{frames}
@@ -46,6 +43,9 @@ use Rattle.replay_text.specs.LastLine.{counts_of, read_on, line_own, is_bad, is_
 use Rattle.replay_text.proofs.Numbers.{reading-alike}
 use Rattle.replay_text.proofs.Counts.{is_passing, begun-alike, begun-bad, begun-fault}
 use Rattle.replay_text.proofs.Refusals.{degrees_refused, place_refused, refused_of, refused-same}
+use Rattle.refusal.specs.declared.Refusal.{Refusal}
+use Rattle.refusal.specs.Number.{number}
+use Rattle.std.specs.Prelude.{Result, Ok, Err}
 
 abbrev pub most : ℕ
 most = 18446744073709551615
@@ -124,7 +124,7 @@ module _ (k : ℕ) (some : 2 < k) (low : k < 9) where
 
     gains-start : (a : Answer) (v : ℕ) (c' : List ℕ) → Has k v c' → Has k v (start_moment a c')
     unfolding start_moment
-    gains-start (Refused number) v c' h = h
+    gains-start (Refused r) v c' h = h
     gains-start (Accepted true temperature) v c' h = has_other 9 0 v (omega arith) c' h
     gains-start (Accepted false true) v c' h = has_other 9 0 v (omega arith) c' h
     gains-start (Accepted false false) v c' h = h
@@ -143,15 +143,15 @@ module _ (k : ℕ) (some : 2 < k) (low : k < 9) where
     unfolding moved_by
     has-stretch a n = has-cond k (eqb (refusals a) 0) (get_or c k 0) (moved n c) c (has-moved n (get_or c k 0) bound c itself) itself
 
-    gains-degrees : (d : InDegrees) → Gains k (in_call k (degrees_refused d)) c (told_in_degrees d c).counts
+    gains-degrees : (d : Result ℕ Refusal) → Gains k (in_call k (degrees_refused d)) c (told_in_degrees d c).counts
     unfolding told_in_degrees degrees_refused
-    gains-degrees (Thousandths n) = gains-call 0 c itself
-    gains-degrees (NoDegrees number) = gains-call 1 c itself
+    gains-degrees (Ok n) = gains-call 0 c itself
+    gains-degrees (Err r) = gains-call 1 c itself
 
-    gains-place : (q : Place) (values : List ℤ) (width : ℕ) → Gains k (in_call k (place_refused q)) c (told_of_place q values width c).counts
+    gains-place : (q : Result ℕ Refusal) (values : List ℤ) (width : ℕ) → Gains k (in_call k (place_refused q)) c (told_of_place q values width c).counts
     unfolding told_of_place place_refused
-    gains-place (Place.At start) values width = gains-call 0 c itself
-    gains-place (Place.Refused number) values width = gains-call 1 c itself
+    gains-place (Ok start) values width = gains-call 0 c itself
+    gains-place (Err r) values width = gains-call 1 c itself
 
     gains-either : (t : Bool) (r r' : ℕ) (x y : Told) → Gains k (in_call k r) c x.counts → Gains k (in_call k r') c y.counts
         → Gains k (in_call k (cond t r r')) c (cond t x y).counts

@@ -13,9 +13,6 @@ use Rattle.device.specs.declared.Answer.TheVariants.{Refused, Accepted, Ticked, 
 use Rattle.device.specs.Model.{is_sound}
 use Rattle.device.specs.Call.{Call}
 use Rattle.device.specs.Reply.{reply, number_in}
-use Rattle.thermometer.specs.declared.InDegrees.{InDegrees}
-use Rattle.thermometer.specs.declared.InDegrees.TheVariants.{Thousandths, Refused as NoDegrees}
-use Rattle.quietest.specs.declared.Place.{Place}
 use Rattle.quietest.specs.Quietest.{quietest_place}
 use Rattle.listing.specs.Listing.{capture_digits, last_above}
 use Rattle.line.specs.declared.Content.{Content}
@@ -25,16 +22,18 @@ use Rattle.item_calls.specs.Lines.{write_bytes}
 use Rattle.item_analysis.specs.Lines.{degrees_of, width_of}
 use Rattle.answer_text.specs.Texts.{recorded}
 use Rattle.session.specs.Line.{State}
+use Rattle.refusal.specs.declared.Refusal.{Refusal}
+use Rattle.std.specs.Prelude.{Result, Ok, Err}
 
 -- ---- the refusals of one line, 0 or 1
 
-unfoldable pub degrees_refused : InDegrees → ℕ
-degrees_refused (Thousandths n) = 0
-degrees_refused (NoDegrees number) = 1
+unfoldable pub degrees_refused : Result ℕ Refusal → ℕ
+degrees_refused (Ok n) = 0
+degrees_refused (Err r) = 1
 
-unfoldable pub place_refused : Place → ℕ
-place_refused (Place.At start) = 0
-place_refused (Place.Refused number) = 1
+unfoldable pub place_refused : Result ℕ Refusal → ℕ
+place_refused (Ok start) = 0
+place_refused (Err r) = 1
 
 -- "R those of them answered `no`": the call that the line is, refused or not, on the model, the user flash, the record and the probe table before
 -- it. No other line is refused, nor is a line of ticks but `tick 1`, which is a single tick.
@@ -73,22 +72,22 @@ refused_of (Content.Quietest n) numbers s counts = place_refused (quietest_place
 
 refusals-most : (a : Answer) → refusals a ≤ 1
 unfolding refusals number_in
-refusals-most (Refused number) = omega arith
+refusals-most (Refused r) = omega arith
 refusals-most (Accepted flight temperature) = omega arith
 refusals-most (Ticked flight temperature) = omega arith
 refusals-most (Stretched flight temperature) = omega arith
 refusals-most Good = omega arith
 refusals-most Failed = omega arith
 
-degrees-most : (d : InDegrees) → degrees_refused d ≤ 1
+degrees-most : (d : Result ℕ Refusal) → degrees_refused d ≤ 1
 unfolding degrees_refused
-degrees-most (Thousandths n) = omega arith
-degrees-most (NoDegrees number) = omega arith
+degrees-most (Ok n) = omega arith
+degrees-most (Err r) = omega arith
 
-place-most : (q : Place) → place_refused q ≤ 1
+place-most : (q : Result ℕ Refusal) → place_refused q ≤ 1
 unfolding place_refused
-place-most (Place.At start) = omega arith
-place-most (Place.Refused number) = omega arith
+place-most (Ok start) = omega arith
+place-most (Err r) = omega arith
 
 cond-most : (t : Bool) (a b : ℕ) → a ≤ 1 → b ≤ 1 → cond t a b ≤ 1
 cond-most true a b one other = one

@@ -25,9 +25,6 @@ use Rattle.device.specs.Model.{is_sound}
 use Rattle.device.specs.Registers.{register_word}
 use Rattle.device.specs.Call.{Call}
 use Rattle.device.specs.Reply.{reply}
-use Rattle.thermometer.specs.declared.InDegrees.{InDegrees}
-use Rattle.thermometer.specs.declared.InDegrees.TheVariants.{Thousandths, Refused as NoDegrees}
-use Rattle.quietest.specs.declared.Place.{Place}
 use Rattle.quietest.specs.Quietest.{quietest_place}
 use Rattle.listing.specs.Listing.{capture_digits, lines, last_above}
 use Rattle.setup_frames.specs.Frames.{frames}
@@ -45,6 +42,9 @@ use Rattle.session.specs.Line.{State}
 use Rattle.line_text.specs.Text.{bare}
 use Rattle.tick_parts.specs.Singly.{one_reported, singly}
 use Rattle.replay_text.proofs.FirstLine.{visible, later_words, FirstLine, visible-append, seen, seen-append, one_line, some-line}
+use Rattle.refusal.specs.declared.Refusal.{Refusal}
+use Rattle.refusal.specs.Number.{number}
+use Rattle.std.specs.Prelude.{Result, Ok, Err}
 
 -- ---- numbers
 
@@ -111,7 +111,7 @@ seen-started false false = refl
 
 seen-bus : (a : Answer) → seen (bus_answer a) ≡ true
 unfolding bus_answer seen
-seen-bus (Refused number) = seen-refusal number
+seen-bus (Refused r) = seen-refusal (number r)
 seen-bus (Accepted flight temperature) = seen-started flight temperature
 seen-bus (Ticked flight temperature) = refl
 seen-bus (Stretched flight temperature) = refl
@@ -136,7 +136,7 @@ set_line a = one_line (ascii "set" ∷ bus_answer a) (seen-bus a)
 
 seen-delivery : (a : Answer) → seen (delivery_answer a) ≡ true
 unfolding delivery_answer seen visible ascii
-seen-delivery (Refused number) = seen-refusal number
+seen-delivery (Refused r) = seen-refusal (number r)
 seen-delivery (Accepted flight temperature) = refl
 seen-delivery (Ticked flight temperature) = refl
 seen-delivery (Stretched flight temperature) = refl
@@ -170,7 +170,7 @@ seen-named f t done =
 
 seen-stretched : (a : Answer) (n : ℕ) → seen (stretched a n) ≡ true
 unfolding stretched seen visible ascii
-seen-stretched (Refused number) n = seen-refusal number
+seen-stretched (Refused r) n = seen-refusal (number r)
 seen-stretched (Accepted flight temperature) n = refl
 seen-stretched (Ticked flight temperature) n = refl
 seen-stretched (Stretched flight temperature) n = rw (decimal-visible n) (seen-named flight temperature 0)
@@ -189,7 +189,7 @@ seen-tick f t i =
 
 seen_one : (a : Answer) (i : ℕ) → seen (one_reported a i) ≡ true
 unfolding one_reported seen
-seen_one (Refused number) i = refl
+seen_one (Refused r) i = refl
 seen_one (Accepted f t) i = refl
 seen_one (Ticked f t) i = seen-tick f t i
 seen_one (Stretched f t) i = refl
@@ -224,10 +224,10 @@ degrees-line : (n : ℕ) → FirstLine (joined (degrees n))
 unfolding degrees seen visible ascii
 degrees-line n = one_line (ascii "degrees " ∷ thousandths n ∷ []) (rw (thousandths-visible n))
 
-in-degrees-line : (d : InDegrees) (c : List ℕ) → FirstLine (joined (told_in_degrees d c).texts)
+in-degrees-line : (d : Result ℕ Refusal) (c : List ℕ) → FirstLine (joined (told_in_degrees d c).texts)
 unfolding told_in_degrees visible ascii
-in-degrees-line (Thousandths n) c = degrees-line n
-in-degrees-line (NoDegrees number) c = refused-line (ascii "degrees") number refl
+in-degrees-line (Ok n) c = degrees-line n
+in-degrees-line (Err r) c = refused-line (ascii "degrees") (number r) refl
 
 seen-differences : (ws : List ℕ) → seen (difference_texts ws) ≡ true
 unfolding difference_texts difference seen visible ascii
@@ -243,10 +243,10 @@ unfolding quietest counted seen visible ascii
 quietest-line start spread =
     one_line (ascii "quietest " ∷ decimal start ∷ ascii " " ∷ decimal spread ∷ []) (rw (decimal-visible start, decimal-visible spread))
 
-place-line : (q : Place) (values : List ℤ) (width : ℕ) (c : List ℕ) → FirstLine (joined (told_of_place q values width c).texts)
+place-line : (q : Result ℕ Refusal) (values : List ℤ) (width : ℕ) (c : List ℕ) → FirstLine (joined (told_of_place q values width c).texts)
 unfolding told_of_place visible ascii
-place-line (Place.At start) values width c = quietest-line start _
-place-line (Place.Refused number) values width c = refused-line (ascii "quietest") number refl
+place-line (Ok start) values width c = quietest-line start _
+place-line (Err r) values width c = refused-line (ascii "quietest") (number r) refl
 
 -- ---- answers of more than one line
 

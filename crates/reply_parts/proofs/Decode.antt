@@ -13,7 +13,7 @@ use Rattle.unit.proofs.Cases.{by-test}
 use Rattle.frame.specs.Frame.{is_command, is_write, is_read, is_flash, flash_further, not_whole, past_end}
 use Rattle.frame.specs.Decoding.{write_frame, read_frame, flash_frame, decode_frame}
 use Rattle.frame.specs.declared.Decoded.{Decoded}
-use Rattle.frame.specs.declared.Decoded.TheVariants.{Command, Read, Write, Flash, Refusal}
+use Rattle.frame.specs.declared.Decoded.TheVariants.{Command, Read, Write, Flash, Refused}
 use Rattle.frame.proofs.Laws.{write-means, read-means, whole-means, end-means}
 use Rattle.device.specs.declared.Model.{Model}
 use Rattle.device.specs.declared.Reply.{Reply}
@@ -29,6 +29,7 @@ use Rattle.device.specs.Parts.{erase_reply, erase_left, program_reply, program_l
 use Rattle.flash.specs.Flash.{address_refused, erase_refused, not_erased}
 use Rattle.device.specs.FlashFrame.{flash_address, flash_unreachable, flash_unerased, flash_model, flash_output, flash_memory}
 use Rattle.device.proofs.Table.{picked}
+use Rattle.refusal.specs.declared.Refusal.{Refusal}
 
 -- The bytes after the opcode, as a slice has them.
 pub tail-whole : (f : List ℕ) → drop 1 f ≡ take (length f - 1) (drop 1 f)
@@ -67,7 +68,7 @@ Facts f room (Command op) = CommandFacts f op
 Facts f room (Write op n) = WriteFacts f op n
 Facts f room (Read op n) = ReadFacts f room op n
 Facts f room (Flash op) = FlashFacts f room op
-Facts f room (Refusal n) = Unit {0}
+Facts f room (Refused r) = Unit {0}
 
 facts : (f : List ℕ) (room : ℕ) → Facts f room (decode_frame f room)
 unfolding decode_frame write_frame read_frame flash_frame
@@ -127,7 +128,7 @@ fits f room (Command op) h = refl
 fits f room (Read op n) h = rw (le-leb 0xB0 op h.first, le-leb (op + n) 0x100 h.last, le-leb (2 * n) room h.fits)
 fits f room (Write op n) h = refl
 fits f room (Flash op) h = refl
-fits f room (Refusal n) h = refl
+fits f room (Refused r) h = refl
 
 pub read_fits_lem : (f : List ℕ) (room : ℕ) → read_fits (decode_frame f room) room ≡ true
 read_fits_lem f room = fits f room (decode_frame f room) (facts f room)
@@ -164,7 +165,7 @@ frame-fits-of f room (Read op n) h = refl
 frame-fits-of f room (Write op n) h =
     rw (le-leb 0x30 op h.first, le-leb (op + n) 0x44 h.last, le-leb (2 * n) (length f - 1) (omega (arith, h.whole)))
 frame-fits-of f room (Flash op) h = flash-fits f room op h
-frame-fits-of f room (Refusal n) h = refl
+frame-fits-of f room (Refused r) h = refl
 
 pub frame-fits : (f : List ℕ) (room : ℕ) → frame_fits (decode_frame f room) (length f - 1) room ≡ true
 frame-fits f room = frame-fits-of f room (decode_frame f room) (facts f room)
@@ -175,7 +176,7 @@ reply_of m f x (Command op) = command_reply m op
 reply_of m f x (Write op n) = words_reply m (drop 1 f) x (Write op n)
 reply_of m f x (Read op n) = words_reply m (drop 1 f) x (Read op n)
 reply_of m f x (Flash op) = words_reply m (drop 1 f) x (Flash op)
-reply_of m f x (Refusal n) = words_reply m (drop 1 f) x (Refusal n)
+reply_of m f x (Refused r) = words_reply m (drop 1 f) x (Refused r)
 
 -- The reply, the output and the memory of a decoded frame are those of the transaction.
 abbrev pub Answers : Model → List ℕ → List ℕ → List ℕ → Decoded → Type 0
@@ -304,7 +305,7 @@ answers m f o x s =
 module _ (m : Model) (f o x : List ℕ) (s : is_sound m ≡ true) where
   pub reply-empty :
       length f ≡ 0 →
-      (refuse 1 m ≡ reply m (transaction f o x)) ×
+      (refuse Refusal.NoFrame m ≡ reply m (transaction f o x)) ×
       (o ≡ output m (transaction f o x)) ×
       (x ≡ memory m (transaction f o x))
   unfolding reply reply_by output output_by buffer_of memory memory_by memory_of verdict table first_of no_frame
@@ -338,13 +339,13 @@ module _ (m : Model) (f o x : List ℕ) (s : is_sound m ≡ true) where
   reply-other (Write op n) e c = rw e at (answers m f o x s)
   reply-other (Read op n) e c = rw e at (answers m f o x s)
   reply-other (Flash op) e c = rw e at (answers m f o x s)
-  reply-other (Refusal n) e c = rw e at (answers m f o x s)
+  reply-other (Refused r) e c = rw e at (answers m f o x s)
 
 -- "a call of any sort is handed a model that isn't sound"
 pub reply-unsound :
     (m : Model) (c : Call) →
     is_sound m ≡ false →
-    (refuse 0 m ≡ reply m c) × (buffer_of c ≡ output m c) × (memory_of c ≡ memory m c)
+    (refuse Refusal.NotSound m ≡ reply m c) × (buffer_of c ≡ output m c) × (memory_of c ≡ memory m c)
 unfolding reply reply_by output output_by memory memory_by verdict table first_of
 reply-unsound m c s = rw s (refl, refl, refl)
 

@@ -16,33 +16,23 @@ use unit::Quanta;
 fn failed_difference(f: Flight) -> u32
     ensures { result ≡ failed_difference f }
 {
-    if f.up {
-        if f.down {
-            return 4294967295;
-        }
-        return f.difference;
+    if f.up && f.down {
+        0xffffffff
+    } else {
+        f.difference
     }
-    f.difference
 }
 
 // The results of a failed measurement.
 pub fn failed_flight(f: Flight, schedule: Schedule) -> Flight
     ensures { result ≡ failed_flight f schedule }
 {
-    let old_ups = f.ups;
-    let old_downs = f.downs;
-    let sum = f.sum;
-    let ups = choose_pairs(f.up, failed_pairs(), old_ups);
-    let downs = choose_pairs(f.down, failed_pairs(), old_downs);
-    let difference = failed_difference(f);
     Flight {
         schedule,
-        up: f.up,
-        down: f.down,
-        sum,
-        ups,
-        downs,
-        difference,
+        ups: choose_pairs(f.up, failed_pairs(), f.ups),
+        downs: choose_pairs(f.down, failed_pairs(), f.downs),
+        difference: failed_difference(f),
+        ..f
     }
 }
 
@@ -50,13 +40,11 @@ fn good_difference(f: Flight, up: Quanta, down: Quanta) -> u32
     requires { (up.0 < 2147483648) × (down.0 < 2147483648) }
     ensures { result ≡ good_difference f up down }
 {
-    if f.up {
-        if f.down {
-            return difference_word(up, down);
-        }
-        return f.difference;
+    if f.up && f.down {
+        difference_word(up, down)
+    } else {
+        f.difference
     }
-    f.difference
 }
 
 // The sum of differences after a good measurement: one of an event counts.
@@ -64,13 +52,11 @@ fn good_sum(f: Flight, up: Quanta, down: Quanta) -> Quanta
     requires { (up.0 < 2147483648) × (down.0 < 2147483648) × (flight_sound f ≡ true) }
     ensures { result ≡ good_sum f up down }
 {
-    let k = f.schedule;
-    let old = f.sum;
-    if k.settled < k.planned {
-        let difference = biased(up, down);
-        return Quanta(old.0 + difference.0);
+    if f.schedule.settled < f.schedule.planned {
+        Quanta(f.sum.0 + biased(up, down).0)
+    } else {
+        f.sum
     }
-    old
 }
 
 // The flight results after good hits: so many words of each measured direction, and 0 past them.
@@ -78,24 +64,15 @@ pub fn good_flight(f: Flight, hits: u32, ups: [u32; 6], downs: [u32; 6]) -> Flig
     requires { (six_total ups < hits * 2147483648) × (six_total downs < hits * 2147483648) × (flight_sound f ≡ true) }
     ensures { result ≡ good_flight f hits ups downs }
 {
-    let old_ups = f.ups;
-    let old_downs = f.downs;
-    let k = f.schedule;
     let up = average(ups, hits);
     let down = average(downs, hits);
-    let schedule = settle(k, true);
-    let sum = good_sum(f, up, down);
-    let up_pairs = choose_pairs(f.up, filled(ups, up), old_ups);
-    let down_pairs = choose_pairs(f.down, filled(downs, down), old_downs);
-    let difference = good_difference(f, up, down);
     Flight {
-        schedule,
-        up: f.up,
-        down: f.down,
-        sum,
-        ups: up_pairs,
-        downs: down_pairs,
-        difference,
+        schedule: settle(f.schedule, true),
+        sum: good_sum(f, up, down),
+        ups: choose_pairs(f.up, filled(ups, up), f.ups),
+        downs: choose_pairs(f.down, filled(downs, down), f.downs),
+        difference: good_difference(f, up, down),
+        ..f
     }
 }
 

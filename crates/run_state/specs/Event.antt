@@ -8,8 +8,9 @@ use Rattle.device.specs.declared.Model.{Model}
 use Rattle.device.specs.Event.{ticks, in_event, starts_left}
 use Rattle.device.specs.Model.{is_sound}
 use Rattle.run_state.specs.declared.Place.{Place}
-use Rattle.run_state.specs.declared.Placed.{Placed}
-use Rattle.run_state.specs.declared.Placed.TheVariants.{NoEvent, Event, Refused}
+use Rattle.std.specs.Prelude.{Option, Some, None, Result, Ok, Err}
+use Rattle.refusal.specs.declared.Refusal.{Refusal}
+use Rattle.refusal.specs.Number.{values_told}
 
 -- A place by its parts: planned, started, settled, good, next, continuous.
 abbrev pub place_by : ℕ → ℕ → ℕ → ℕ → Ticks → Bool → Place
@@ -33,21 +34,15 @@ place_of k =
 
 -- The place of the event that runs of a kind. "The event ends when all are settled.", a continuous one "only by HALT or Reset"
 -- (Note 5): then there is none.
-unfoldable pub place_told : Model → Schedule → Placed
-place_told m k = pick (is_sound m) (pick (in_event k) (Event (place_of k)) NoEvent) (Refused 0)
+unfoldable pub place_told : Model → Schedule → Result (Option Place) Refusal
+place_told m k = pick (is_sound m) (pick (in_event k) (Ok (Some (place_of k))) (Ok None)) (Err Refusal.NotSound)
 
--- What the answer says: the number of a refusal; else whether an event runs, and then how many measurements it makes, how many of them
+-- What the answer says where it is no refusal: whether an event runs, and then how many measurements it makes, how many of them
 -- are started, settled and good, the ticks until the next start, and whether it is a continuous one. Yes is 1, no is 0.
-unfoldable pub number_placed : Placed → List ℕ
-number_placed (Refused n) = n ∷ []
-number_placed NoEvent = []
-number_placed (Event p) = []
-
-unfoldable pub values_of : Place → List ℕ
-values_of p =
+unfoldable pub event_values : Option Place → List ℕ
+event_values None = 0 ∷ []
+event_values (Some p) =
     1 ∷ p.planned ∷ p.started ∷ p.settled ∷ p.good ∷ p.next.0 ∷ bool_byte p.continuous ∷ []
 
-unfoldable pub values_placed : Placed → List ℕ
-values_placed (Refused n) = []
-values_placed NoEvent = 0 ∷ []
-values_placed (Event p) = values_of p
+abbrev pub values_placed : Result (Option Place) Refusal → List ℕ
+values_placed = values_told event_values

@@ -4,21 +4,15 @@
 
 ghost use Rattle.std.specs.Prelude.{◌≡◌};
 ghost use Rattle.unit.specs.Says.{Says};
-ghost use Rattle.device.specs.Question.{number_told, value_told};
-ghost use Rattle.run_state.specs.State.{initialised_told, left_told, number_left, values_left};
-ghost use Rattle.run_state.specs.Event.{next_start, place_of, place_told, number_placed, values_placed};
+ghost use Rattle.refusal.specs.Number.{number_told, value_told};
+ghost use Rattle.run_state.specs.State.{initialised_told, left_told, values_left};
+ghost use Rattle.run_state.specs.Event.{next_start, place_of, place_told, values_placed};
 
-use device::{Model, Schedule, Told};
+use device::{Model, Schedule};
 use model::state::is_sound;
+use refusal::Refusal;
 use schedule::in_event;
 use unit::Ticks;
-
-// In how many ticks an awaited measurement fails.
-#[derive(Clone, Copy)]
-pub enum Left {
-    Refused(u32),
-    After(Ticks),
-}
 
 // The place of an event: how many measurements it makes, or a group of a continuous one; how many of them, or of the current group,
 // are started, settled and good; and the ticks until the next start, 0 where all are started.
@@ -32,34 +26,27 @@ pub struct Place {
     pub continuous: bool,
 }
 
-#[derive(Clone, Copy)]
-pub enum Placed {
-    Refused(u32),
-    NoEvent,
-    Event(Place),
-}
-
-fn left_told(m: Model, k: Schedule) -> Left
-    ensures { Says number_left values_left result (left_told m k) }
+fn left_told(m: Model, k: Schedule) -> Result<Ticks, Refusal>
+    ensures { Says number_told values_left result (left_told m k) }
 {
     let left = k.left;
     if is_sound(m) {
-        return Left::After(left);
+        return Ok(left);
     }
-    Left::Refused(0)
+    Err(Refusal::NotSound)
 }
 
 // In how many ticks the awaited flight measurement fails; 0 where none is awaited.
-pub fn flight_left(m: Model) -> Left
-    ensures { Says number_left values_left result (left_told m m.flight.schedule) }
+pub fn flight_left(m: Model) -> Result<Ticks, Refusal>
+    ensures { Says number_told values_left result (left_told m m.flight.schedule) }
 {
     let f = m.flight;
     left_told(m, f.schedule)
 }
 
 // In how many ticks the awaited temperature measurement fails; 0 where none is awaited.
-pub fn temperature_left(m: Model) -> Left
-    ensures { Says number_left values_left result (left_told m m.temperature.schedule) }
+pub fn temperature_left(m: Model) -> Result<Ticks, Refusal>
+    ensures { Says number_told values_left result (left_told m m.temperature.schedule) }
 {
     let t = m.temperature;
     left_told(m, t.schedule)
@@ -93,43 +80,43 @@ fn place_of(k: Schedule) -> Place
     }
 }
 
-fn place_told(m: Model, k: Schedule) -> Placed
-    ensures { Says number_placed values_placed result (place_told m k) }
+fn place_told(m: Model, k: Schedule) -> Result<Option<Place>, Refusal>
+    ensures { Says number_told values_placed result (place_told m k) }
 {
     if is_sound(m) {
         if in_event(k) {
-            return Placed::Event(place_of(k));
+            return Ok(Some(place_of(k)));
         }
-        return Placed::NoEvent;
+        return Ok(None);
     }
-    Placed::Refused(0)
+    Err(Refusal::NotSound)
 }
 
-// The place of the event of differences.
-pub fn flight_place(m: Model) -> Placed
-    ensures { Says number_placed values_placed result (place_told m m.flight.schedule) }
+// The place of the event of differences, where one runs.
+pub fn flight_place(m: Model) -> Result<Option<Place>, Refusal>
+    ensures { Says number_told values_placed result (place_told m m.flight.schedule) }
 {
     let f = m.flight;
     place_told(m, f.schedule)
 }
 
-// The place of the event of temperatures.
-pub fn temperature_place(m: Model) -> Placed
-    ensures { Says number_placed values_placed result (place_told m m.temperature.schedule) }
+// The place of the event of temperatures, where one runs.
+pub fn temperature_place(m: Model) -> Result<Option<Place>, Refusal>
+    ensures { Says number_told values_placed result (place_told m m.temperature.schedule) }
 {
     let t = m.temperature;
     place_told(m, t.schedule)
 }
 
 // Whether the model is initialised: 1 or 0.
-pub fn initialised(m: Model) -> Told
+pub fn initialised(m: Model) -> Result<u32, Refusal>
     ensures { Says number_told value_told result (initialised_told m) }
 {
     if is_sound(m) {
         if m.initialised {
-            return Told::Value(1);
+            return Ok(1);
         }
-        return Told::Value(0);
+        return Ok(0);
     }
-    Told::Refused(0)
+    Err(Refusal::NotSound)
 }

@@ -2,7 +2,6 @@
 #![tactic(auto)]
 
 ghost use Rattle.std.specs.Prelude.{◌≡◌, ◌<◌, ◌≤◌, ◌+◌};
-ghost use Rattle.unit.specs.Choice.{pick};
 ghost use Rattle.device.specs.Event.{no_schedule, is_awaited, in_event, is_last, starts_left, begins, begins_group, fails, start_single, start_event, left_after, wait_after, started_after, settled_after, good_after, tick_schedule, settle, halt_schedule, counts_sound, wait_sound, balance_sound, schedule_sound};
 
 use device::Schedule;
@@ -31,175 +30,102 @@ const SHORTEST_PERIOD: Ticks = Ticks(16384);
 fn counts_sound(k: Schedule) -> bool
     ensures { result ≡ counts_sound k }
 {
-    if 32 < k.planned {
-        return false;
-    }
-    if k.planned < k.started {
-        return false;
-    }
-    if k.started < k.settled {
-        return false;
-    }
-    if wide(k.settled) < k.good {
-        false
-    } else {
-        true
-    }
+    k.planned <= 32
+        && k.started <= k.planned
+        && k.settled <= k.started
+        && k.good <= u16::from(k.settled)
 }
 
 fn wait_sound(k: Schedule) -> bool
     ensures { result ≡ wait_sound k }
 {
-    let left = k.left;
-    let wait = k.wait;
-    let period = k.period;
-    if UNTIL_FAILURE.0 < left.0 {
+    if UNTIL_FAILURE.0 < k.left.0 {
         return false;
     }
-    if starts_left(k) {
-        if period.0 < SHORTEST_PERIOD.0 {
-            return false;
-        }
-        if period.0 < wait.0 {
-            return false;
-        }
-        if 0 < left.0 {
-            if wait.0 < left.0 + UNTIL_FAILURE.0 {
-                return false;
-            }
-            return true;
-        }
-        if 0 < wait.0 {
-            return true;
-        }
-        return false;
+    if !starts_left(k) {
+        return true;
     }
-    true
+    let start_waits = if 0 < k.left.0 {
+        k.left.0 + UNTIL_FAILURE.0 <= k.wait.0
+    } else {
+        0 < k.wait.0
+    };
+    SHORTEST_PERIOD.0 <= k.period.0 && k.wait.0 <= k.period.0 && start_waits
 }
 
 fn balance_sound(k: Schedule) -> bool
     ensures { result ≡ balance_sound k }
 {
-    let left = k.left;
-    if in_event(k) {
-        if 0 < left.0 {
-            if wide(k.settled) + 1 == wide(k.started) {
-                return true;
-            }
-            return false;
-        }
-        if 0 < k.started {
-            if k.settled == k.started {
-                return true;
-            }
-            return false;
-        }
-        return false;
+    if !in_event(k) {
+        true
+    } else if 0 < k.left.0 {
+        u16::from(k.settled) + 1 == u16::from(k.started)
+    } else {
+        0 < k.started && k.settled == k.started
     }
-    true
-}
-
-// A count as a wider number.
-fn wide(x: u8) -> u16
-    ensures { (result ≡ x) × (result < 256) }
-{
-    x as u16
 }
 
 pub fn schedule_sound(k: Schedule) -> bool
     ensures { result ≡ schedule_sound k }
 {
-    if counts_sound(k) {
-        if wait_sound(k) {
-            return balance_sound(k);
-        }
-        return false;
-    }
-    false
+    counts_sound(k) && wait_sound(k) && balance_sound(k)
 }
 
 pub fn is_awaited(k: Schedule) -> bool
     ensures { result ≡ is_awaited k }
 {
-    let left = k.left;
-    if 0 < left.0 { true } else { false }
+    0 < k.left.0
 }
 
 pub fn in_event(k: Schedule) -> bool
     ensures { result ≡ in_event k }
 {
-    if k.continuous {
-        return true;
-    }
-    if k.settled < k.planned { true } else { false }
+    k.continuous || k.settled < k.planned
 }
 
 // Whether settling one more settles the last of the event, or of the current group.
 pub fn is_last(k: Schedule) -> bool
     ensures { result ≡ is_last k }
 {
-    if k.settled < k.planned {
-        if k.settled + 1 == k.planned {
-            return true;
-        }
-        return false;
-    }
-    false
+    k.settled < k.planned && k.settled + 1 == k.planned
 }
 
 // Whether a start is to come.
 fn starts_left(k: Schedule) -> bool
     ensures { result ≡ starts_left k }
 {
-    if k.continuous {
-        return true;
-    }
-    if k.started < k.planned { true } else { false }
+    k.continuous || k.started < k.planned
 }
 
 // Whether the next tick starts a measurement.
 pub fn begins(k: Schedule) -> bool
     ensures { result ≡ begins k }
 {
-    let wait = k.wait;
-    if starts_left(k) {
-        if wait.0 <= 1 {
-            return true;
-        }
-        return false;
-    }
-    false
+    starts_left(k) && k.wait.0 <= 1
 }
 
 // Whether the next tick starts the first measurement of a group.
 pub fn begins_group(k: Schedule) -> bool
     ensures { result ≡ begins_group k }
 {
-    if begins(k) {
-        if k.started < k.planned {
-            return false;
-        }
-        return true;
-    }
-    false
+    begins(k) && k.planned <= k.started
 }
 
 // Whether the awaited measurement fails in the next tick.
 pub fn fails(k: Schedule) -> bool
     ensures { result ≡ fails k }
 {
-    let left = k.left;
-    if left.0 == 1 { true } else { false }
+    k.left.0 == 1
 }
 
 // A single measurement starts.
 pub fn start_single(k: Schedule) -> Schedule
     ensures { result ≡ start_single k }
 {
-    let mut n = k;
-    let left = UNTIL_FAILURE;
-    n.left = left;
-    n
+    Schedule {
+        left: UNTIL_FAILURE,
+        ..k
+    }
 }
 
 // An event is accepted, and its first measurement starts.
@@ -221,90 +147,64 @@ pub fn start_event(period: Ticks, planned: u8, continuous: bool) -> Schedule
 fn left_after(k: Schedule) -> Ticks
     ensures { result.0 ≡ left_after k }
 {
-    let left = k.left;
     if begins(k) {
-        return UNTIL_FAILURE;
-    }
-    if 0 < left.0 {
-        Ticks(left.0 - 1)
+        UNTIL_FAILURE
     } else {
-        Ticks(0)
+        Ticks(k.left.0.saturating_sub(1))
     }
 }
 
 fn wait_after(k: Schedule) -> Ticks
     ensures { result.0 ≡ wait_after k }
 {
-    let wait = k.wait;
-    if wait.0 <= 1 {
-        return k.period;
+    if k.wait.0 <= 1 {
+        k.period
+    } else {
+        Ticks(k.wait.0 - 1)
     }
-    Ticks(wait.0 - 1)
 }
 
 fn started_after(k: Schedule) -> u8
     ensures { result ≡ started_after k }
 {
-    if begins(k) {
-        if k.started < k.planned {
-            return k.started + 1;
-        }
-        return 1;
+    if !begins(k) {
+        k.started
+    } else if k.started < k.planned {
+        k.started + 1
+    } else {
+        1
     }
-    k.started
 }
 
 fn settled_after(k: Schedule) -> u8
     ensures { result ≡ settled_after k }
 {
     if begins_group(k) {
-        return 0;
+        0
+    } else if fails(k) && k.settled < k.planned {
+        k.settled + 1
+    } else {
+        k.settled
     }
-    if fails(k) {
-        if k.settled < k.planned {
-            return k.settled + 1;
-        }
-        return k.settled;
-    }
-    k.settled
 }
 
 fn good_after(k: Schedule) -> u16
     ensures { result ≡ good_after k }
 {
-    if begins_group(k) {
-        return 0;
-    }
-    k.good
+    if begins_group(k) { 0 } else { k.good }
 }
 
 pub fn tick_schedule(k: Schedule) -> Schedule
     ensures { result ≡ tick_schedule k }
 {
-    let left = left_after(k);
-    let wait = wait_after(k);
-    let started = started_after(k);
-    let settled = settled_after(k);
-    let good = good_after(k);
-    let period = k.period;
     Schedule {
-        left,
-        wait,
-        period,
-        planned: k.planned,
-        started,
-        settled,
-        continuous: k.continuous,
-        good,
+        left: left_after(k),
+        wait: wait_after(k),
+        started: started_after(k),
+        settled: settled_after(k),
+        good: good_after(k),
+        ..k
     }
-}
-
-// The good ones, with one more where it is good.
-fn count_good(n: u16, good: bool) -> u16
-    requires { n ≤ 32 }
-    ensures { result ≡ pick good (n + 1) n }
-{
-    if good { n + 1 } else { n }
 }
 
 // The awaited measurement is delivered.
@@ -312,35 +212,29 @@ pub fn settle(k: Schedule, good: bool) -> Schedule
     requires { k.good ≤ 32 }
     ensures { result ≡ settle k good }
 {
-    let wait = k.wait;
-    let period = k.period;
+    let rest = Schedule {
+        left: Ticks(0),
+        ..k
+    };
     if k.settled < k.planned {
-        let count = count_good(k.good, good);
-        return Schedule {
-            left: Ticks(0),
-            wait,
-            period,
-            planned: k.planned,
-            started: k.started,
+        Schedule {
             settled: k.settled + 1,
-            continuous: k.continuous,
-            good: count,
-        };
+            good: if good { k.good + 1 } else { k.good },
+            ..rest
+        }
+    } else {
+        rest
     }
-    let mut n = k;
-    let none = Ticks(0);
-    n.left = none;
-    n
 }
 
 pub fn halt_schedule(k: Schedule) -> Schedule
     ensures { result ≡ halt_schedule k }
 {
-    let mut n = k;
-    let none = Ticks(0);
-    n.left = none;
-    n.planned = k.settled;
-    n.started = k.settled;
-    n.continuous = false;
-    n
+    Schedule {
+        left: Ticks(0),
+        planned: k.settled,
+        started: k.settled,
+        continuous: false,
+        ..k
+    }
 }

@@ -1,8 +1,7 @@
 -- The loop of a replay makes one turn after the other. Assumes nothing.
 use Prim.Native.Nat.{ℕ, ◌+◌, ◌-◌, ◌≤◌, ◌<◌}
-use mathlib.Core.Bool.{Bool, true, false, true≢false}
+use mathlib.Core.Bool.{Bool, true, false}
 use mathlib.Core.List.{List, [], ◌∷◌, ◌++◌}
-use mathlib.Core.Logic.{◌⊎◌, ⊎_elim}
 use mathlib.Core.Path.{◌≡◌, refl, sym, ap, subst, ◌∙◌}
 use native.Mathlib.Omega.{arith}
 use lib.IntN.{pos}
@@ -123,14 +122,13 @@ module _ (part : List ℕ) (from end : ℕ) (room : end ≤ length part) (replay
   unfolding turned flushed
   turn-left = refl
 
-  -- The loop counts its turns down.
-  pub loop-turned : (path : List ℕ) (check : Bool) (turns : ℕ) {state : ℕ} → 0 < turns → turns ≤ 18446744073709551615
-      → ReachedBy path check (18446744073709551615 - turns) state record { replay = replay; numbers = numbers; left = drop from (take end part) }
-      → goes_on state ≡ true
+  -- Behind n turns it makes one more.
+  pub loop-turned : (path : List ℕ) (check : Bool) (n : ℕ) {state : ℕ}
+      → ReachedBy path check n state record { replay = replay; numbers = numbers; left = drop from (take end part) } → goes_on state ≡ true
       → {replay' : Replay} {numbers' counts : List ℕ} {left : ℕ} → numbers' ≡ (fed (length bytes) f).numbers → replay' ≡ (fed (length bytes) f).replay
       → left ≡ length (fed (length bytes) f).left → counts ≡ after_writing replay'.state.log.counts
       → {state' : ℕ} {next : List ℕ} → WentOn (drop (end - left) (take end part)) state state' next
-      → ReachedBy path check (18446744073709551615 - (turns - 1)) state' record {
+      → ReachedBy path check (n + 1) state' record {
         replay = record {
           state = with_log replay'.state record { counts = counts; answers = replay'.state.log.answers };
           names = replay'.names;
@@ -138,26 +136,24 @@ module _ (part : List ℕ) (from end : ℕ) (room : end ≤ length part) (replay
         numbers = numbers';
         left = next;
       }
-  loop-turned path check turns {state} some few by going a b short c {state'} {next} went =
-      let n = 18446744073709551615 - turns in
-      let one : 18446744073709551615 - (turns - 1) ≡ n + 1 = omega (arith, some, few) in
+  loop-turned path check n {state} by going a b short c {state'} {next} went =
       let here : ReachedBy path check n state f = rw all by in
       let last : drop (end - length (fed (length bytes) f).left) (take end part) ≡ (turned f).fed.left
       = left-last part from end room (length bytes) f all ∙ sym turn-left in
       let on = rw (short, last) at went in
-      rw (one, turn_is a b c next) (turn_on path check n state f here going state' next on)
+      rw (turn_is a b c next) (turn_on path check n state f here going state' next on)
 
 -- ---- behind the last turn
 
-pub loop-over : (path : List ℕ) (check : Bool) (turns state : ℕ) (f : Fed) → ReachedBy path check (18446744073709551615 - turns) state f
-    → (goes_on state ≡ false) ⊎ (turns ≤ 0) → {whole : Bool} {outcome : Outcome} → whole ≡ was_whole state
+pub loop-over : (path : List ℕ) (check : Bool) (n state : ℕ) (f : Fed) → ReachedBy path check n state f
+    → (goes_on state ≡ true → n ≡ 18446744073709551615) → {whole : Bool} {outcome : Outcome} → whole ≡ was_whole state
     → outcome ≡ outcome_of whole f.replay.state.log.counts → Replayed path check outcome
-loop-over path check turns state f by why all told = record {
-  turns = 18446744073709551615 - turns;
+loop-over path check n state f by over all told = record {
+  turns = n;
   pieces = by.pieces;
   state = state;
   last = record { text = by.text; fed = f };
   reached = by.reached;
-  over = λ going. ⊎_elim (λ stopped. absurd (true≢false (sym going ∙ stopped))) (λ none. omega (arith, none)) why;
+  over = over;
   told = told ∙ ap (λ (w : Bool). outcome_of w f.replay.state.log.counts) all;
 }

@@ -27,7 +27,7 @@ struct Progress {
 // name and the line. Among the names the item's stands behind 4,096 places for the file's.
 //
 // Each turn answers lines of what was read, writes the answers, and reads on where no line is left. Nothing says that the input ends, so
-// the loop counts its turns down, from a number that no run uses up.
+// its turns are counted, to a number that no run comes to.
 pub fn replay(
     rt: &(impl Print + Errors + Alloc),
     file: &mut impl Read,
@@ -51,10 +51,11 @@ pub fn replay(
         end: 0,
         state: MORE,
     };
-    let mut turns = u64::MAX;
     begin(path, check, &mut counts, &mut names);
-    while turns > 0 && is_going(input) {
-        turns -= 1;
+    for _ in 0..u64::MAX {
+        if !is_going(input) {
+            break;
+        }
         let progress = feed(
             m,
             bytes_from(first_bytes(&part, input.end), input.from),
@@ -90,6 +91,7 @@ fn feed(
     let mut model = m;
     let mut i = 0;
     let mut end = line_end(part, 0);
+    // Kept as a while: it goes from line to line, and to one that is under way again, so that no index is counted.
     while end < part.len() {
         model = answer_line(
             model,

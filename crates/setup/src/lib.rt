@@ -27,7 +27,7 @@ pub fn word(s: [u16; 16], i: usize) -> u32
     requires { i < 16 }
     ensures { result ≡ get_or s i 0 }
 {
-    s[i] as u32
+    u32::from(s[i])
 }
 
 // The factory values.
@@ -108,10 +108,7 @@ pub fn flight_unset(s: [u16; 16]) -> bool
     ensures { result ≡ flight_unset s }
 {
     let w = word(s, R38);
-    if w / 256 % 256 == 0 {
-        return true;
-    }
-    w / 16 % 16 == 0
+    w / 256 % 256 == 0 || w / 16 % 16 == 0
 }
 
 // TP does not select all four ports.

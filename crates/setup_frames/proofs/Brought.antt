@@ -1,5 +1,5 @@
 -- Note 10 end to end: from the answer and the buffers that the call leaves to the same sixteen words in a fresh model.
-use Prim.Native.Nat.{ℕ, zero, suc, ◌+◌, ◌-◌}
+use Prim.Native.Nat.{ℕ, zero, suc, ◌+◌}
 use native.Mathlib.Omega.{arith}
 use mathlib.Core.Bool.{true}
 use mathlib.Core.List.{List, [], ◌∷◌}
@@ -13,15 +13,17 @@ use Rattle.device.specs.declared.Model.{Model}
 use Rattle.device.specs.Model.{is_sound}
 use Rattle.device.specs.Call.{opcode}
 use Rattle.device.proofs.Sound.{bounds_of}
-use Rattle.setup_frames.specs.declared.Framed.{Framed}
-use Rattle.setup_frames.specs.declared.Framed.TheVariants.{Refused}
-use Rattle.setup_frames.specs.Frames.{starts, frame_at, frames_from, frames, Written, number_framed}
+use Rattle.setup_frames.specs.Frames.{starts, frame_at, frames_from, frames, Written}
 use Rattle.setup_frames.specs.Sending.{only_writes, frames_left, Brings}
 use Rattle.setup_frames.proofs.Words.{Words}
 use Rattle.setup_frames.proofs.Outcome.{number-0}
 use Rattle.setup_frames.proofs.Least.{least}
 use Rattle.setup_frames.proofs.Sent.{same-words}
 use Rattle.setup_frames.proofs.Meaning.{frames-left}
+use Rattle.refusal.specs.declared.Refusal.{Refusal}
+use Rattle.setup_frames.specs.declared.put.Counts.{Counts}
+use Rattle.std.specs.Prelude.{Result, Ok, Err}
+use Rattle.refusal.specs.Number.{number_told}
 
 write-at : (s : List ℕ) (i k : ℕ) → i + suc k ≡ 16 → is_write (opcode (frame_at s i)) ≡ true
 unfolding frame_at
@@ -41,26 +43,25 @@ frames-bring s w v = record { writes = writes-from s 16 0 refl; same = same-word
 
 -- an accepted call is one on a sound model
 accepted-sound :
-    (m : Model) (bytes lengths b l : List ℕ) (r : Framed) → Written m bytes lengths r b l → number_framed r ≡ [] → is_sound m ≡ true
+    (m : Model) (bytes lengths b l : List ℕ) (r : Result Counts Refusal) → Written m bytes lengths r b l → number_told r ≡ [] → is_sound m ≡ true
 accepted-sound m bytes lengths b l r w e =
     by-test (is_sound m) (λ s. s)
     (λ f.
-    let t : number_framed r ≡ 0 ∷ [] = (number-0 m bytes lengths b l r w).1 f in
+    let t : number_told r ≡ 0 ∷ [] = (number-0 m bytes lengths b l r w).1 f in
     let z : ◌≡◌ {A = ℕ} 0 1 = cc in
     absurd (omega arith))
 
 -- "Sending them to a fresh model gives the same sixteen words, and every other list of write frames that does so has at least as many
 -- bytes", of an accepted call
 pub buffers-bring :
-    (m : Model) (bytes lengths b l : List ℕ) (r : Framed) →
+    (m : Model) (bytes lengths b l : List ℕ) (r : Result Counts Refusal) →
     Written m bytes lengths r b l →
-    number_framed r ≡ [] →
+    number_told r ≡ [] →
     Words m.setup →
     Brings (frames_left r b l) m.setup
 buffers-bring m bytes lengths b l r w e sixteen =
     rw (frames-left m bytes lengths b l r w e)
     (frames-bring m.setup sixteen (bounds_of m (accepted-sound m bytes lengths b l r w e)).alarm)
 
-pub refusal-sends-none : {G : Type 0} (n : ℕ) → number_framed (Refused n) ≡ [] → G
-unfolding number_framed
+pub refusal-sends-none : {G : Type 0} (n : Refusal) → number_told {A = Counts} (Err n) ≡ [] → G
 refusal-sends-none n e = let z : ◌≡◌ {A = ℕ} 0 1 = cc in absurd (omega arith)

@@ -3,6 +3,9 @@ use mathlib.Core.List.{[], ◌∷◌}
 use mathlib.Core.Path.{◌≡◌, refl}
 use Rattle.setup.specs.Setup.{factory}
 use Rattle.setup_frames.specs.Frames.{differs, differs_before, starts, run_length, bytes_of, frame_at, frames_from, frames}
+use Rattle.refusal.specs.declared.Refusal.{Refusal}
+use Rattle.setup_frames.specs.declared.put.Counts.{Counts}
+use Rattle.std.specs.Prelude.{Result, Ok, Err}
 
 -- a fresh model's own words need no frame
 pub none-of-factory : frames factory ≡ []

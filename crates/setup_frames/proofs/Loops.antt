@@ -4,10 +4,11 @@ use native.Mathlib.Nat.{zero-add, add-zero, add-suc, suc-add}
 use native.Mathlib.Numerals.{add-one}
 use native.Mathlib.Omega.{arith}
 use mathlib.Core.Bool.{true, false}
-use mathlib.Core.List.{List, [], ◌∷◌, ◌++◌}
+use mathlib.Core.List.{List, [], ◌∷◌, ◌++◌, append_assoc}
 use mathlib.Core.Path.{◌≡◌, refl, sym, ◌∙◌}
-use lib.ListN.{length, get_or, set, length-append, length-set, length-map}
-use lib.Seq.{sets, sets-eq, length-sets}
+use borrow.Rule.Slice.PartMut.{put_mid}
+use lib.ListN.{length, get_or, set, take, drop, length-append, length-set, length-map}
+use lib.Seq.{sets, sets-eq, length-sets, drop-drop}
 use Rattle.setup_frames.specs.Frames.{differs, starts, run_length, bytes_of, frame_at, frames_from, frames, all_bytes, lengths_of, over}
 use Rattle.setup_frames.proofs.Weight.{length-frame, bytes_most, frames-most}
 
@@ -37,6 +38,16 @@ module _ (s : List ℕ) (i n : ℕ) (so_far : run_length s i (16 - i) ≡ n + ru
       omega arith
 
 -- Putting words: k of n are put.
+pub put-two :
+    (at : ℕ) (l : List ℕ) {bs : List ℕ} {a b : ℕ} →
+    at + 2 ≤ length l →
+    bs ≡ a ∷ b ∷ [] →
+    put_mid at (at + 2 - at) l bs ≡ set (set l at a) (at + 1) b
+put-two at l {bs} {a} {b} room e =
+    let m : at + 2 - at ≡ 2 = omega arith in
+    let whole : set (set l at a) (suc at) b ≡ take at l ++ (a ∷ b ∷ []) ++ drop (at + 2) l = sets-eq (a ∷ b ∷ []) l at room in
+    rw (e, m, add-one at, whole, append_assoc, ← drop-drop 2 at l)
+
 pub words-on :
     (s l start : List ℕ) (i n at k : ℕ) →
     k < n →

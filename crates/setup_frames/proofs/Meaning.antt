@@ -10,12 +10,14 @@ use lib.Seq.{take_at, drop_at}
 use Rattle.unit.proofs.Cases.{by-test}
 use Rattle.device.specs.declared.Model.{Model}
 use Rattle.device.specs.Call.{accepted}
-use Rattle.setup_frames.specs.declared.Framed.{Framed}
-use Rattle.setup_frames.specs.declared.Framed.TheVariants.{Frames}
 use Rattle.setup_frames.specs.Frames.{differs, differs_before, starts, run_length, frames, all_bytes, lengths_of, over}
-use Rattle.setup_frames.specs.Frames.{frames_verdict, answer_by, bytes_by, lengths_by, Written, number_framed}
+use Rattle.setup_frames.specs.Frames.{frames_verdict, answer_by, bytes_by, lengths_by, Written}
 use Rattle.setup_frames.specs.Sending.{cut, frames_left}
 use Rattle.setup_frames.proofs.Outcome.{accepted-said}
+use Rattle.refusal.specs.declared.Refusal.{Refusal}
+use Rattle.setup_frames.specs.declared.put.Counts.{Counts}
+use Rattle.std.specs.Prelude.{Result, Ok, Err}
+use Rattle.refusal.specs.Number.{number_told}
 
 -- "maximal runs of differing words": all its words differ, and the word after it does not; nor does the one before it
 pub run-differs : (s : List ℕ) (k i j : ℕ) → j < run_length s i k → differs s (i + j) ≡ true
@@ -55,11 +57,11 @@ counted : (fs : List (List ℕ)) → length (lengths_of fs) ≡ length fs
 unfolding lengths_of
 counted fs = length-map fs length
 
-module _ (m : Model) (bytes lengths b l : List ℕ) (r : Framed) (w : Written m bytes lengths r b l) (e : number_framed r ≡ []) where
+module _ (m : Model) (bytes lengths b l : List ℕ) (r : Result Counts Refusal) (w : Written m bytes lengths r b l) (e : number_told r ≡ []) where
   done : frames_verdict m (length bytes) (length lengths) ≡ accepted
   done = accepted-said (frames_verdict m (length bytes) (length lengths)) m.setup (sym w.answer.numbered ∙ e)
 
-  pub frames-counted : r ≡ Frames (length (all_bytes (frames m.setup))) (length (frames m.setup))
+  pub frames-counted : r ≡ Ok (record { bytes = length (all_bytes (frames m.setup)); frames = length (frames m.setup) })
   unfolding answer_by
   frames-counted = w.answer.same ∙ rw done
 
@@ -80,15 +82,15 @@ module _ (m : Model) (bytes lengths b l : List ℕ) (r : Framed) (w : Written m 
 
 -- "Models with equal words give equal frames", whatever the buffers are
 pub equal_words :
-    (m n : Model) (bytes bytes' lengths lengths' b b' l l' : List ℕ) (r r' : Framed) →
+    (m n : Model) (bytes bytes' lengths lengths' b b' l l' : List ℕ) (r r' : Result Counts Refusal) →
     m.setup ≡ n.setup →
     Written m bytes lengths r b l →
     Written n bytes' lengths' r' b' l' →
-    number_framed r ≡ [] →
-    number_framed r' ≡ [] →
+    number_told r ≡ [] →
+    number_told r' ≡ [] →
     (r ≡ r') × (frames_left r b l ≡ frames_left r' b' l')
 equal_words m n bytes bytes' lengths lengths' b b' l l' r r' s p q e f =
-    let counts : r ≡ Frames (length (all_bytes (frames n.setup))) (length (frames n.setup)) =
+    let counts : r ≡ Ok (record { bytes = length (all_bytes (frames n.setup)); frames = length (frames n.setup) }) =
     rw s at (frames-counted m bytes lengths b l r p e)
     in (
       counts ∙ sym (frames-counted n bytes' lengths' b' l' r' q f),

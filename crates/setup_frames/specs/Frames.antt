@@ -7,8 +7,10 @@ use Rattle.setup.specs.Setup.{factory}
 use Rattle.device.specs.declared.Model.{Model}
 use Rattle.device.specs.Model.{is_sound}
 use Rattle.device.specs.Call.{Verdict, accepted, refused, row, first_of}
-use Rattle.setup_frames.specs.declared.Framed.{Framed}
-use Rattle.setup_frames.specs.declared.Framed.TheVariants.{Refused, Frames}
+use Rattle.refusal.specs.declared.Refusal.{Refusal}
+use Rattle.setup_frames.specs.declared.put.Counts.{Counts}
+use Rattle.std.specs.Prelude.{Result, Ok, Err}
+use Rattle.refusal.specs.Number.{number_told, values_told}
 
 -- "differing words": the word of register 34h + i is not that of a fresh model
 unfoldable pub differs : List ℕ → ℕ → Bool
@@ -60,32 +62,27 @@ over buffer values = values ++ drop (length values) buffer
 -- number 0": by the number of byte and length places
 unfoldable pub frames_verdict : Model → ℕ → ℕ → Verdict
 frames_verdict m bytes lengths =
-    first_of (row 0 (negate (is_sound m)) ∷ row 19 (either (ltb bytes 33) (ltb lengths 8)) ∷ [])
+    first_of (row Refusal.NotSound (negate (is_sound m)) ∷ row Refusal.ShortBuffer (either (ltb bytes 33) (ltb lengths 8)) ∷ [])
 
 -- "counts in the answer": bytes, frames
-unfoldable pub answer_by : Verdict → List ℕ → Framed
-answer_by accepted s = Frames (length (all_bytes (frames s))) (length (frames s))
-answer_by (refused n) s = Refused n
+unfoldable pub answer_by : Verdict → List ℕ → Result Counts Refusal
+answer_by accepted s = Ok (record { bytes = length (all_bytes (frames s)); frames = length (frames s) })
+answer_by (refused r) s = Err r
 
 unfoldable pub bytes_by : Verdict → List ℕ → List ℕ → List ℕ
 bytes_by accepted s buffer = over buffer (all_bytes (frames s))
-bytes_by (refused n) s buffer = buffer
+bytes_by (refused r) s buffer = buffer
 
 unfoldable pub lengths_by : Verdict → List ℕ → List ℕ → List ℕ
 lengths_by accepted s buffer = over buffer (lengths_of (frames s))
-lengths_by (refused n) s buffer = buffer
+lengths_by (refused r) s buffer = buffer
 
--- What an answer says: the number of a refusal; the counts of bytes and of frames.
-unfoldable pub number_framed : Framed → List ℕ
-number_framed (Refused n) = n ∷ []
-number_framed (Frames b f) = []
-
-unfoldable pub values_framed : Framed → List ℕ
-values_framed (Refused n) = []
-values_framed (Frames b f) = b ∷ f ∷ []
+-- What an answer says where it is no refusal: the counts of bytes and of frames.
+abbrev pub values_framed : Result Counts Refusal → List ℕ
+values_framed = values_told (λ c. c.bytes ∷ c.frames ∷ [])
 
 -- The call, by the model and both buffers as they were: its answer, and both as it leaves them.
-pub record Written (m : Model) (bytes lengths : List ℕ) (r : Framed) (bytes' lengths' : List ℕ) : Type 0 where
-  pub answer : Says number_framed values_framed r (answer_by (frames_verdict m (length bytes) (length lengths)) m.setup)
+pub record Written (m : Model) (bytes lengths : List ℕ) (r : Result Counts Refusal) (bytes' lengths' : List ℕ) : Type 0 where
+  pub answer : Says number_told values_framed r (answer_by (frames_verdict m (length bytes) (length lengths)) m.setup)
   pub in_bytes : bytes' ≡ bytes_by (frames_verdict m (length bytes) (length lengths)) m.setup bytes
   pub in_lengths : lengths' ≡ lengths_by (frames_verdict m (length bytes) (length lengths)) m.setup lengths

@@ -5,9 +5,11 @@ use Rattle.frame.specs.Frame.{is_write}
 use Rattle.device.specs.Model.{fresh_model}
 use Rattle.device.specs.Call.{Call, transaction, opcode}
 use Rattle.device.specs.History.{after}
-use Rattle.setup_frames.specs.declared.Framed.{Framed}
-use Rattle.setup_frames.specs.declared.Framed.TheVariants.{Refused, Frames}
-use Rattle.setup_frames.specs.Frames.{all_bytes, number_framed}
+use Rattle.setup_frames.specs.Frames.{all_bytes}
+use Rattle.refusal.specs.declared.Refusal.{Refusal}
+use Rattle.setup_frames.specs.declared.put.Counts.{Counts}
+use Rattle.std.specs.Prelude.{Result, Ok, Err}
+use Rattle.refusal.specs.Number.{number_told}
 
 -- "Sending them": each frame is one transaction, with no output buffer and no memory
 abbrev pub sent : List (List ℕ) → List Call
@@ -28,9 +30,9 @@ cut [] bytes = []
 cut (n ∷ ns) bytes = take n bytes ∷ cut ns (drop n bytes)
 
 -- the frames that a call's answer and the buffers that it leaves hold; a refusal has none
-unfoldable pub frames_left : Framed → List ℕ → List ℕ → List (List ℕ)
-frames_left (Frames b f) bytes lengths = cut (take f lengths) (take b bytes)
-frames_left (Refused n) bytes lengths = []
+unfoldable pub frames_left : Result Counts Refusal → List ℕ → List ℕ → List (List ℕ)
+frames_left (Ok c) bytes lengths = cut (take c.frames lengths) (take c.bytes bytes)
+frames_left (Err r) bytes lengths = []
 
 -- "Sending them to a fresh model gives the same sixteen words, and every other list of write frames that does so has at least as many
 -- bytes."
@@ -40,5 +42,5 @@ pub record Brings (fs : List (List ℕ)) (s : List ℕ) : Type 0 where
   pub fewest : (others : List (List ℕ)) → only_writes others ≡ true → setup_from others ≡ s → length (all_bytes fs) ≤ length (all_bytes others)
 
 -- What an accepted call leaves, sent to a fresh model.
-abbrev pub Sent : List ℕ → Framed → List ℕ → List ℕ → Type 0
-Sent s r bytes lengths = number_framed r ≡ [] → Brings (frames_left r bytes lengths) s
+abbrev pub Sent : List ℕ → Result Counts Refusal → List ℕ → List ℕ → Type 0
+Sent s r bytes lengths = number_told r ≡ [] → Brings (frames_left r bytes lengths) s

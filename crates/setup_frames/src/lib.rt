@@ -10,38 +10,27 @@ use model::state::is_sound;
 mod put;
 mod run;
 
+pub use put::Counts;
+use refusal::Refusal;
+
 // The most that a set-up needs: bytes, and frames.
 const MOST_BYTES: usize = 33;
 
 const MOST_FRAMES: usize = 8;
 
-// Numbers of refusals: the model is not sound; a buffer is too short.
-const UNSOUND: u32 = 0;
-
-const SHORT_BUFFER: u32 = 19;
-
-#[derive(Clone, Copy)]
-pub enum Framed {
-    // The number of the refusal.
-    Refused(u32),
-    // How many bytes were written, and how many frames.
-    Frames(usize, usize),
-}
-
 // Writes the frames one after the other into the bytes, and the length of each into the lengths.
-pub fn setup_frames(m: Model, bytes: &mut [u8], lengths: &mut [u32]) -> Framed
+pub fn setup_frames(m: Model, bytes: &mut [u8], lengths: &mut [u32]) -> Result<Counts, Refusal>
     ensures { Written m bytes.old lengths.old result bytes.new lengths.new × Sent m.setup result bytes.new lengths.new }
 {
     if is_sound(m) {
         if bytes.len() < MOST_BYTES {
-            return Framed::Refused(SHORT_BUFFER);
+            return Err(Refusal::ShortBuffer);
         }
         if lengths.len() < MOST_FRAMES {
-            return Framed::Refused(SHORT_BUFFER);
+            return Err(Refusal::ShortBuffer);
         }
         let setup = m.setup;
-        let written = put::put_frames(setup, bytes, lengths);
-        return Framed::Frames(written.bytes, written.frames);
+        return Ok(put::put_frames(setup, bytes, lengths));
     }
-    Framed::Refused(UNSOUND)
+    Err(Refusal::NotSound)
 }

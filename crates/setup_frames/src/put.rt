@@ -19,12 +19,9 @@ fn put_words(s: [u16; WORDS], i: usize, n: usize, bytes: &mut [u8], at: usize)
     requires { (i + n ≤ 16) × (at + 2 * n ≤ length bytes.old) }
     ensures { bytes.new ≡ sets bytes.old at (bytes_of s i n) }
 {
-    let mut k = 0;
-    while k < n {
-        let w = s[i + k];
-        bytes[at + 2 * k] = (w / 256 % 256) as u8;
-        bytes[at + 2 * k + 1] = (w % 256) as u8;
-        k += 1;
+    for k in 0..n {
+        let place = at + 2 * k;
+        bytes[place..place + 2].copy_from_slice(&s[i + k].to_be_bytes());
     }
 }
 
@@ -41,20 +38,16 @@ pub fn put_frames(s: [u16; WORDS], bytes: &mut [u8], lengths: &mut [u32]) -> Cou
     requires { (33 ≤ length bytes.old) × (8 ≤ length lengths.old) }
     ensures { (result.bytes ≡ length (all_bytes (frames s))) × (result.frames ≡ length (frames s)) × (bytes.new ≡ over bytes.old (all_bytes (frames s))) × (lengths.new ≡ over lengths.old (lengths_of (frames s))) }
 {
-    let mut i = 0;
     let mut at = 0;
     let mut n = 0;
-    while i < WORDS {
+    for i in 0..WORDS {
         if starts(s, i) {
             let words = run_length(s, i);
             put_frame(s, i, words, bytes, at);
             lengths[n] = (1 + 2 * words) as u32;
             at += 1 + 2 * words;
             n += 1;
-            i += 1;
-            continue;
         }
-        i += 1;
     }
     Counts {
         bytes: at,

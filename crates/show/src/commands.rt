@@ -1,4 +1,5 @@
 // What the model would answer to commands: nothing is changed, since the model that a transaction leaves is thrown away.
+ghost use Rattle.refusal.specs.Number.{number};
 ghost use Rattle.std.specs.Prelude.{◌≡◌, [], ◌∷◌};
 ghost use Rattle.device.specs.Bus.{is_event};
 ghost use Rattle.device.specs.Reply.{number_in};
@@ -6,9 +7,10 @@ ghost use Rattle.wording.specs.Text.{PutEach};
 ghost use Rattle.page.specs.Row.{ended, lines};
 ghost use Rattle.page.specs.Commands.{answer_to, flight_fields, temperature_fields, clock_fields, fields, refused_texts, answer_texts, frame_row, command_row, flash_row, write_row, command_rows};
 
-use crate::row::{put_binary, put_line, put_where, word};
+use crate::row::{put_binary, put_line, word};
 use device::{Answer, Model};
-use model::refusal::SET_UP;
+use form::put_where;
+use refusal::Refusal;
 
 pub fn put_commands(buf: &mut [u8], at: usize, m: Model) -> usize
     ensures { PutEach buf.old at (lines (command_rows m)) result buf.new }
@@ -83,16 +85,16 @@ fn put_answer(buf: &mut [u8], at: usize, m: Model, op: u32, answer: Answer) -> u
     ensures { PutEach buf.old at (answer_texts m op (number_in answer)) result buf.new }
 {
     match answer {
-        Answer::Refused(number) => put_refused(buf, at, m, op, number),
+        Answer::Refused(refusal) => put_refused(buf, at, m, op, refusal),
         _ => numeral::put_text(buf, at, b" ok"),
     }
 }
 
-fn put_refused(buf: &mut [u8], at: usize, m: Model, op: u32, number: u32) -> usize
-    ensures { PutEach buf.old at (refused_texts m op number) result buf.new }
+fn put_refused(buf: &mut [u8], at: usize, m: Model, op: u32, refusal: Refusal) -> usize
+    ensures { PutEach buf.old at (refused_texts m op (number refusal)) result buf.new }
 {
-    let a = phrase::refusal::put_refusal(buf, at, number);
-    if number == SET_UP {
+    let a = phrase::refusals::put_refusal(buf, at, refusal.number());
+    if refusal == Refusal::SetUp {
         let b = numeral::put_text(buf, a, b":");
         return put_fields(buf, b, m, op);
     }

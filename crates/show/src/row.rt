@@ -1,7 +1,6 @@
 // What rows share.
 ghost use Rattle.std.specs.Prelude.{◌≡◌, [], ◌∷◌};
 ghost use Rattle.wording.specs.Text.{PutEach};
-ghost use Rattle.wording.specs.Wording.{reported_where};
 ghost use Rattle.item_state.specs.Told.{read_word};
 ghost use Rattle.page.specs.Row.{ended, plural, binary};
 ghost use Rattle.show.specs.Words.{page_words};
@@ -21,10 +20,8 @@ pub fn page_words(m: Model) -> [u32; 80]
     ensures { result ≡ page_words m }
 {
     let mut words = [0u32; 80];
-    let mut i = 0;
-    while i < 80 {
+    for i in 0..80 {
         words[i] = word(m, 0xb0 + i as u32);
-        i += 1;
     }
     words
 }
@@ -56,14 +53,4 @@ pub fn put_binary(buf: &mut [u8], at: usize, v: u32) -> usize
     let a = numeral::put_decimal(buf, at, (v / 2) as u64);
     let b = numeral::put_decimal(buf, a, (v % 2) as u64);
     numeral::put_text(buf, b, b"b")
-}
-
-// A text where a test holds.
-pub fn put_where(buf: &mut [u8], at: usize, holds: bool, text: &[u8]) -> usize
-    ensures { PutEach buf.old at (reported_where holds text.now) result buf.new }
-{
-    if holds {
-        return numeral::put_text(buf, at, text);
-    }
-    at
 }

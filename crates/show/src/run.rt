@@ -4,11 +4,12 @@ ghost use Rattle.wording.specs.Text.{PutEach};
 ghost use Rattle.page.specs.Row.{ended, lines};
 ghost use Rattle.page.specs.Run.{initialised_row, left_ticks, awaited_row, place_texts, event_texts, wait_texts, next_texts, run_rows};
 
-use crate::row::{put_line, put_plural, put_where};
+use crate::row::{put_line, put_plural};
 use device::Model;
-use form::put_form;
+use form::{put_form, put_where};
 use item_state::told::value;
-use run_state::{Left, Place, Placed};
+use refusal::Refusal;
+use run_state::Place;
 use unit::Ticks;
 
 pub fn put_run(buf: &mut [u8], at: usize, m: Model) -> usize
@@ -46,12 +47,12 @@ fn put_initialised(buf: &mut [u8], at: usize, told: u32) -> usize
 }
 
 // The ticks left, or 0.
-fn ticks_left(left: Left) -> Ticks
+fn ticks_left(left: Result<Ticks, Refusal>) -> Ticks
     ensures { result.0 ≡ left_ticks left }
 {
     match left {
-        Left::After(ticks) => ticks,
-        Left::Refused(_) => Ticks(0),
+        Ok(ticks) => ticks,
+        Err(_) => Ticks(0),
     }
 }
 
@@ -84,16 +85,19 @@ fn put_place(buf: &mut [u8], at: usize, p: Place) -> usize
     )
 }
 
-fn put_event_texts(buf: &mut [u8], at: usize, p: Placed) -> usize
+fn put_event_texts(buf: &mut [u8], at: usize, p: Result<Option<Place>, Refusal>) -> usize
     ensures { PutEach buf.old at (event_texts p) result buf.new }
 {
     match p {
-        Placed::Event(place) => put_place(buf, at, place),
-        _ => numeral::put_text(buf, at, b"none"),
+        Ok(event) => match event {
+            Some(place) => put_place(buf, at, place),
+            None => numeral::put_text(buf, at, b"none"),
+        },
+        Err(_) => numeral::put_text(buf, at, b"none"),
     }
 }
 
-fn put_event(buf: &mut [u8], at: usize, label: &[u8], p: Placed) -> usize
+fn put_event(buf: &mut [u8], at: usize, label: &[u8], p: Result<Option<Place>, Refusal>) -> usize
     ensures { PutEach buf.old at (ended (label.now ∷ event_texts p)) result buf.new }
 {
     let a = numeral::put_text(buf, at, label);
@@ -111,20 +115,22 @@ fn put_wait(buf: &mut [u8], at: usize, n: Ticks) -> usize
     put_plural(buf, a, n.0, b" tick")
 }
 
-fn put_next_texts(buf: &mut [u8], at: usize, p: Placed) -> usize
+fn put_next_texts(buf: &mut [u8], at: usize, p: Result<Option<Place>, Refusal>) -> usize
     ensures { PutEach buf.old at (next_texts p) result buf.new }
 {
     match p {
-        Placed::Event(place) => {
-            let next = place.next;
-            let a = put_wait(buf, at, next);
-            put_where(buf, a, place.continuous, b", continuous")
-        }
-        _ => numeral::put_text(buf, at, b"none"),
+        Ok(event) => match event {
+            Some(place) => {
+                let a = put_wait(buf, at, place.next);
+                put_where(buf, a, place.continuous, b", continuous")
+            }
+            None => numeral::put_text(buf, at, b"none"),
+        },
+        Err(_) => numeral::put_text(buf, at, b"none"),
     }
 }
 
-fn put_next(buf: &mut [u8], at: usize, label: &[u8], p: Placed) -> usize
+fn put_next(buf: &mut [u8], at: usize, label: &[u8], p: Result<Option<Place>, Refusal>) -> usize
     ensures { PutEach buf.old at (ended (label.now ∷ next_texts p)) result buf.new }
 {
     let a = numeral::put_text(buf, at, label);

@@ -15,15 +15,7 @@ fn flags_fit(bytes: &[u8]) -> bool
     requires { length bytes.now ≡ 233 }
     ensures { result ≡ flags_fit bytes.now 18 }
 {
-    let mut n = 0;
-    while n < 18 {
-        if bytes[n + 1] < 2 {
-            n += 1;
-        } else {
-            return false;
-        }
-    }
-    true
+    bytes[1..19].iter().all(|flag| *flag < 2)
 }
 
 fn is_formed(bytes: &[u8]) -> bool

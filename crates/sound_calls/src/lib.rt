@@ -9,8 +9,8 @@ ghost use Rattle.device.specs.Reply.{reply};
 
 use delivery::{flight_miscounted, flight_reply, temperature_reply};
 use device::{Answer, Model, Reply, Report};
-use model::refusal::{NOT_AWAITED, SPAN, WORD_COUNT};
 use model::reply::refuse;
+use refusal::Refusal;
 use schedule::is_awaited;
 use ticking::stretch::{LONGEST, next_is_quiet, quiet_tick};
 use ticking::tick::{report_of, tick_model};
@@ -63,7 +63,7 @@ pub fn sound_stretch(m: Model, n: Ticks) -> Reply
     ensures { result ≡ reply m (Call.stretch n.0) }
 {
     if LONGEST.0 < n.0 {
-        return refuse(m, SPAN);
+        return refuse(m, Refusal::Span);
     }
     let end = ticking::stretch::run(m, n);
     let flight = end.flight;
@@ -86,11 +86,11 @@ pub fn sound_flight_delivery(m: Model, up: &[u32], down: &[u32]) -> Reply
     if is_awaited(k) {
         let hits = setup::hit_count(setup);
         if flight_miscounted(f, hits, up.len(), down.len()) {
-            return refuse(m, WORD_COUNT);
+            return refuse(m, Refusal::WordCount);
         }
         return flight_reply(m, up, down);
     }
-    refuse(m, NOT_AWAITED)
+    refuse(m, Refusal::NotAwaited)
 }
 
 // The words of an awaited temperature measurement, T1 to T4.
@@ -104,7 +104,7 @@ pub fn sound_temperature_delivery(m: Model, words: &[u32]) -> Reply
         if words.len() == 4 {
             return temperature_reply(m, words);
         }
-        return refuse(m, WORD_COUNT);
+        return refuse(m, Refusal::WordCount);
     }
-    refuse(m, NOT_AWAITED)
+    refuse(m, Refusal::NotAwaited)
 }

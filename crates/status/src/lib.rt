@@ -31,29 +31,18 @@ pub fn no_bits() -> Status
 pub fn joined(a: Status, b: Status) -> Status
     ensures { result ≡ joined a b }
 {
-    let timeout = any_of(a.timeout, b.timeout);
-    let alarm = any_of(a.alarm, b.alarm);
-    let tof = any_of(a.tof, b.tof);
-    let te = any_of(a.te, b.te);
-    let ldo = any_of(a.ldo, b.ldo);
-    let tofevtmg = any_of(a.tofevtmg, b.tofevtmg);
-    let tempevtmg = any_of(a.tempevtmg, b.tempevtmg);
-    let flash = any_of(a.flash, b.flash);
-    let halt = any_of(a.halt, b.halt);
-    let init = any_of(a.init, b.init);
-    let por = any_of(a.por, b.por);
     Status {
-        timeout,
-        alarm,
-        tof,
-        te,
-        ldo,
-        tofevtmg,
-        tempevtmg,
-        flash,
-        halt,
-        init,
-        por,
+        timeout: any_of(a.timeout, b.timeout),
+        alarm: any_of(a.alarm, b.alarm),
+        tof: any_of(a.tof, b.tof),
+        te: any_of(a.te, b.te),
+        ldo: any_of(a.ldo, b.ldo),
+        tofevtmg: any_of(a.tofevtmg, b.tofevtmg),
+        tempevtmg: any_of(a.tempevtmg, b.tempevtmg),
+        flash: any_of(a.flash, b.flash),
+        halt: any_of(a.halt, b.halt),
+        init: any_of(a.init, b.init),
+        por: any_of(a.por, b.por),
     }
 }
 
@@ -83,93 +72,95 @@ pub fn status_word(s: Status) -> u32
 fn sets_own_bit(k: Schedule, each: bool) -> bool
     ensures { result ≡ sets_own_bit k each }
 {
-    if in_event(k) { each } else { true }
+    !in_event(k) || each
 }
 
 // What settling a flight measurement sets.
 pub fn flight_bits(k: Schedule, each: bool, settles: bool, failed: bool) -> Status
     ensures { result ≡ flight_bits k each settles failed }
 {
-    let mut s = no_bits();
-    if settles {
-        let tof = sets_own_bit(k, each);
-        let last = is_last(k);
-        s.timeout = failed;
-        s.tof = tof;
-        s.tofevtmg = last;
-        return s;
+    if !settles {
+        return no_bits();
     }
-    s
+    Status {
+        timeout: failed,
+        tof: sets_own_bit(k, each),
+        tofevtmg: is_last(k),
+        ..no_bits()
+    }
 }
 
 // What settling a temperature measurement sets. An open port is a timeout, a short one is none.
 pub fn temperature_bits(k: Schedule, each: bool, settles: bool, opened: bool) -> Status
     ensures { result ≡ temperature_bits k each settles opened }
 {
-    let mut s = no_bits();
-    if settles {
-        let te = sets_own_bit(k, each);
-        let last = is_last(k);
-        s.timeout = opened;
-        s.te = te;
-        s.tempevtmg = last;
-        return s;
+    if !settles {
+        return no_bits();
     }
-    s
+    Status {
+        timeout: opened,
+        te: sets_own_bit(k, each),
+        tempevtmg: is_last(k),
+        ..no_bits()
+    }
 }
 
 pub fn alarm_bit(rings: bool) -> Status
     ensures { result ≡ alarm_bit rings }
 {
-    let mut s = no_bits();
-    s.alarm = rings;
-    s
+    Status {
+        alarm: rings,
+        ..no_bits()
+    }
 }
 
 pub fn init_bit() -> Status
     ensures { result ≡ init_bit }
 {
-    let mut s = no_bits();
-    s.init = true;
-    s
+    Status {
+        init: true,
+        ..no_bits()
+    }
 }
 
 pub fn halt_bit() -> Status
     ensures { result ≡ halt_bit }
 {
-    let mut s = no_bits();
-    s.halt = true;
-    s
+    Status {
+        halt: true,
+        ..no_bits()
+    }
 }
 
 pub fn por_bit() -> Status
     ensures { result ≡ por_bit }
 {
-    let mut s = no_bits();
-    s.por = true;
-    s
+    Status {
+        por: true,
+        ..no_bits()
+    }
 }
 
 pub fn ldo_bit() -> Status
     ensures { result ≡ ldo_bit }
 {
-    let mut s = no_bits();
-    s.ldo = true;
-    s
+    Status {
+        ldo: true,
+        ..no_bits()
+    }
 }
 
 pub fn flash_bit() -> Status
     ensures { result ≡ flash_bit }
 {
-    let mut s = no_bits();
-    s.flash = true;
-    s
+    Status {
+        flash: true,
+        ..no_bits()
+    }
 }
 
 pub fn without_ldo(s: Status) -> Status
     ensures { result ≡ without_ldo s }
 {
-    let mut n = s;
-    n.ldo = false;
-    n
+    Status { ldo: false, ..s }
 }

@@ -1,9 +1,8 @@
 -- The parts of a tally and of a summary, put together. Assumes nothing.
 use Prim.Native.Nat.{ℕ, ◌-◌, ◌≤◌, ◌<◌}
-use mathlib.Core.Path.{◌≡◌, refl}
-use mathlib.Core.Bool.{Bool, true, cond}
+use mathlib.Core.Path.{◌≡◌}
+use mathlib.Core.Bool.{Bool, true}
 use mathlib.Core.List.{List, [], ◌∷◌}
-use lib.Dec.{eqb, ltb}
 use lib.ListN.{take}
 use borrow.Author.Tests.{lt-ltb, le-ltb, eq-eqb, ne_eqb}
 use Rattle.numeral.specs.Place.{no_room, Put, Placed, put_each}
@@ -17,7 +16,7 @@ use Rattle.wording.specs.Text.{PutEach}
 use Rattle.wording.proofs.Each.{put-none, put_first, put_then}
 use Rattle.collection.specs.Kind.{kinds}
 use Rattle.collection.specs.Group.{one_more, name_texts, Members, joined}
-use Rattle.collection.specs.Tally.{Collection, collection, agreed, after}
+use Rattle.collection.specs.Tally.{collection, agreed, after}
 use Rattle.collection.specs.Summary.{more_texts, group_texts}
 
 -- A file that belongs to a group, and has been put behind its names or found no room there.

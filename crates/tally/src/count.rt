@@ -41,24 +41,14 @@ pub fn add(
     ensures { collection result differ.new unannounced.new bad.new unread.new plain.new ≡ after o name.now (collection t differ.old unannounced.old bad.old unread.old plain.old) }
 {
     let k = kinds_of(o);
-    let g1 = t.differ;
-    let g2 = t.unannounced;
-    let g3 = t.bad;
-    let g4 = t.unread;
-    let g5 = t.plain;
-    let a = join(g1, k.differ, name, differ);
-    let b = join(g2, k.unannounced, name, unannounced);
-    let c = join(g3, k.bad, name, bad);
-    let d = join(g4, k.unread, name, unread);
-    let e = join(g5, k.plain, name, plain);
     Tally {
         files: more(t.files, 1),
         agree: agreed(t.agree, k),
-        differ: a,
-        unannounced: b,
-        bad: c,
-        unread: d,
-        plain: e,
+        differ: join(t.differ, k.differ, name, differ),
+        unannounced: join(t.unannounced, k.unannounced, name, unannounced),
+        bad: join(t.bad, k.bad, name, bad),
+        unread: join(t.unread, k.unread, name, unread),
+        plain: join(t.plain, k.plain, name, plain),
     }
 }
 

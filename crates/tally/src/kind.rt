@@ -4,6 +4,7 @@ ghost use Rattle.collection.specs.Kind.{kinds, agreeing};
 
 use collection::{Kinds, Outcome};
 
+#[tactic(auto, unfolding(collection::specs::Kind::kinds))]
 pub fn kinds_of(o: Outcome) -> Kinds
     ensures { result ≡ kinds o }
 {
@@ -26,20 +27,9 @@ pub fn kinds_of(o: Outcome) -> Kinds
     }
 }
 
+#[tactic(auto, unfolding(collection::specs::Kind::agreeing))]
 pub fn is_agreeing(k: Kinds) -> bool
     ensures { result ≡ agreeing k }
 {
-    if k.differ {
-        return false;
-    }
-    if k.unannounced {
-        return false;
-    }
-    if k.bad {
-        return false;
-    }
-    if k.unread {
-        return false;
-    }
-    if k.plain { false } else { true }
+    !(k.differ || k.unannounced || k.bad || k.unread || k.plain)
 }

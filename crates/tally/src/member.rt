@@ -17,8 +17,7 @@ pub fn join(g: Group, belongs: bool, name: &[u8], names: &mut [u8]) -> Group
     if end == numeral::NO_ROOM {
         return Group {
             count: more(g.count, 1),
-            named: g.named,
-            used: g.used,
+            ..g
         };
     }
     Group {

@@ -62,16 +62,11 @@ fn put_groups(
 ) -> usize
     ensures { PutEach out.old at (groups_texts (collection t differ.now unannounced.now bad.now unread.now plain.now)) result out.new }
 {
-    let g1 = t.differ;
-    let g2 = t.unannounced;
-    let g3 = t.bad;
-    let g4 = t.unread;
-    let g5 = t.plain;
-    let a = put_group(out, at, b"expectations differ", g1, differ);
-    let b = put_group(out, a, b"unannounced refusals", g2, unannounced);
-    let c = put_group(out, b, b"bad lines", g3, bad);
-    let d = put_group(out, c, b"cannot be read", g4, unread);
-    put_group(out, d, b"no expectation", g5, plain)
+    let a = put_group(out, at, b"expectations differ", t.differ, differ);
+    let b = put_group(out, a, b"unannounced refusals", t.unannounced, unannounced);
+    let c = put_group(out, b, b"bad lines", t.bad, bad);
+    let d = put_group(out, c, b"cannot be read", t.unread, unread);
+    put_group(out, d, b"no expectation", t.plain, plain)
 }
 
 fn put_group(out: &mut [u8], at: usize, what: &[u8], g: Group, names: &[u8]) -> usize

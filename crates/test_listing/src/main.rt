@@ -1,7 +1,8 @@
 // Writes listings of differences, for comparison with stored output: what `peer/listing.py` wrote, by exact fractions.
 #![tactic(auto)]
 
-use listing::{Listed, Width};
+use listing::Width;
+use refusal::Refusal;
 
 // The eleven differences of Table 1 of the MAX35102 data sheet; halves of a ten-thousandth; steps of a digit more.
 const DIFFERENCES: [i32; 24] = [
@@ -32,10 +33,10 @@ const DIFFERENCES: [i32; 24] = [
 ];
 
 // The whole output, or the number of a refusal.
-fn write_out(rt: &impl Print, listed: Listed, out: &[u8]) {
+fn write_out(rt: &impl Print, listed: Result<usize, Refusal>, out: &[u8]) {
     match listed {
-        Listed::Written(_) => write_bytes(rt, out),
-        Listed::Refused(number) => write_number(rt, number),
+        Ok(_) => write_bytes(rt, out),
+        Err(refusal) => write_number(rt, refusal.number()),
     }
 }
 
@@ -47,13 +48,13 @@ fn write_bytes(rt: &impl Print, out: &[u8]) {
 
 fn write_number(rt: &impl Print, number: u32) {
     let mut text = [0u8; 16];
-    let end = numeral::put_decimal(&mut text, 0, number as u64);
+    let end = numeral::put_decimal(&mut text, 0, u64::from(number));
     write_part(rt, &text, end);
 }
 
 fn write_part(rt: &impl Print, text: &[u8], end: usize) {
     if end <= text.len() {
-        write_bytes(rt, &text[0..end]);
+        write_bytes(rt, &text[..end]);
     }
 }
 
@@ -71,7 +72,7 @@ fn list_old(rt: &impl Print, first: u32, out: &mut [u8]) {
 
 fn list_none(rt: &impl Print, width: Width, first: u32) {
     let mut out = [b'.'; 2];
-    let listed = listing::write_listing_as(width, &DIFFERENCES[0..0], first, &mut out);
+    let listed = listing::write_listing_as(width, &[], first, &mut out);
     write_out(rt, listed, &out);
 }
 

@@ -13,7 +13,7 @@ fn put_row(line: &mut [u8], word: u32) -> usize {
 // The bytes before the end of the row; none where it had no room. One that can't be written is passed over.
 fn write_line(rt: &impl Print, line: &[u8], end: usize) {
     if end <= line.len() {
-        let _ = rt.write_all(&line[0..end]);
+        let _ = rt.write_all(&line[..end]);
     }
 }
 
@@ -24,15 +24,11 @@ fn write_row(rt: &impl Print, word: u32) {
 }
 
 fn main(rt: HostRuntime) {
-    write_row(&rt, 0x7fffffff);
-    write_row(&rt, 0x001c0403);
-    write_row(&rt, 0x000100a1);
-    write_row(&rt, 0x00000089);
-    write_row(&rt, 0x00000001);
-    write_row(&rt, 0x00000000);
-    write_row(&rt, 0xffffffff);
-    write_row(&rt, 0xffffffc0);
-    write_row(&rt, 0xfffe1432);
-    write_row(&rt, 0xff1c8001);
-    write_row(&rt, 0x80000000);
+    let words = [
+        0x7fffffff, 0x001c0403, 0x000100a1, 0x00000089, 0x00000001, 0x00000000, 0xffffffff,
+        0xffffffc0, 0xfffe1432, 0xff1c8001, 0x80000000,
+    ];
+    for word in words {
+        write_row(&rt, word);
+    }
 }

@@ -1,16 +1,18 @@
 -- What the words of a text and their comparison come to, place by place. Assumes nothing.
 use Prim.Native.Nat.{ℕ, suc, ◌+◌, ◌-◌, ◌≤◌, ◌<◌}
-use mathlib.Core.Path.{◌≡◌, refl}
-use mathlib.Core.Bool.{Bool, true, false}
+use mathlib.Core.Path.{◌≡◌, refl, ap}
+use mathlib.Core.Bool.{Bool, true, false, ◌&&◌}
 use mathlib.Core.List.{List, [], ◌∷◌, ◌++◌}
-use native.Mathlib.Decide.{dec_le}
 use native.Mathlib.Numerals.{add-one}
 use native.Mathlib.Omega.{arith}
-use lib.Dec.{leb, eqb}
+use lib.Dec.{eqb}
 use lib.ListN.{length, get_or, drop, length-take, length-drop, drop_of_length-le}
 use lib.Seq.{drop-cons, take-suc, get_or-drop}
-use borrow.Author.Tests.{eq-eqb, ne_eqb, le-leb, lt-leb}
-use Rattle.unit.specs.Choice.{either}
+use borrow.Author.Tests.{eq-eqb, ne_eqb}
+use denote.Ref.{Bor}
+use Rattle.std.specs.Prelude.{Option, Some, None, MatchOption}
+use Rattle.std.specs.Cmp.Lexicographic.{pointwise}
+use Rattle.unit.specs.Choice.{either, both}
 use Rattle.unit.proofs.Cases.{by-test}
 use Rattle.text.specs.Text.{Text, is_blank, begun_before, words_after, words, same, fits, begin_with}
 use Rattle.text_code.specs.OwnWords.{between}
@@ -65,53 +67,51 @@ word-ends s at i h high all =
     let some : 0 < length (between at i s) = rw (length-between at i s high) (omega arith) in
     rw (drop_of_length-le s all) (begun-some (between at i s) [] some)
 
-module _ (a b : Text) (i : ℕ) where
-  pub same-goes-on : i < length a → i < length b → get_or a i 0 ≡ get_or b i 0
-      → same (drop (i + 1) a) (drop (i + 1) b) ≡ same (drop i a) (drop i b)
-  unfolding same
-  same-goes-on ha hb e = rw (add-one, drop-cons a i 0 ha, drop-cons b i 0 hb, eq-eqb (get_or a i 0) (get_or b i 0) e)
+-- A comparison byte for byte.
+pub same_pointwise : (a b : Text) → pointwise eqb a b ≡ same a b
+unfolding same
+same_pointwise [] [] = refl
+same_pointwise [] (d ∷ ds) = refl
+same_pointwise (c ∷ cs) [] = refl
+same_pointwise (c ∷ cs) (d ∷ ds) = go (eqb c d) (same_pointwise cs ds)
+  where
+    go : (t : Bool) → pointwise eqb cs ds ≡ same cs ds → (t && pointwise eqb cs ds) ≡ both t (same cs ds)
+    go true e = e
+    go false e = refl
 
-  pub same_differs : i < length a → i < length b → (get_or a i 0 ≡ get_or b i 0 → ⊥) → same (drop i a) (drop i b) ≡ false
-  unfolding same
-  same_differs ha hb e = rw (drop-cons a i 0 ha, drop-cons b i 0 hb, ne_eqb (get_or a i 0) (get_or b i 0) e)
+pub fits_length : (a b : Text) → (length a ≡ length b → ⊥) → fits a b ≡ false
+unfolding fits
+fits_length [] [] ne = absurd (ne refl)
+fits_length [] (d ∷ ds) ne = refl
+fits_length (c ∷ cs) [] ne = refl
+fits_length (c ∷ cs) (d ∷ ds) ne = go (either (eqb c 0x78) (eqb c d)) (fits_length cs ds (λ h. ne (ap suc h)))
+  where
+    go : (t : Bool) → fits cs ds ≡ false → both t (fits cs ds) ≡ false
+    go true e = e
+    go false e = refl
 
-  pub same-longer : i < length a → length b ≤ i → same (drop i a) (drop i b) ≡ false
-  unfolding same
-  same-longer ha hb = rw (drop-cons a i 0 ha, drop_of_length-le b hb)
+-- A byte meets one that is wanted where this is an x or the same.
+pub meets-x : (c d : ℕ) → c ≡ 0x78 → either (eqb c 0x78) (eqb c d) ≡ true
+meets-x c d e = rw (eq-eqb c 0x78 e)
 
-  pub same_ends : length a ≤ i → same (drop i a) (drop i b) ≡ leb (length b) i
-  unfolding same
-  same_ends ha = go (dec_le (length b) i)
-    where
-      go : Dec (length b ≤ i) → same (drop i a) (drop i b) ≡ leb (length b) i
-      go (yes p) = rw (drop_of_length-le a ha, drop_of_length-le b p, le-leb (length b) i p)
-      go (no p) =
-          let h : i < length b = omega arith in
-          rw (drop_of_length-le a ha, drop-cons b i 0 h, lt-leb (length b) i h)
+pub meets-same : (c d : ℕ) → (c ≡ 0x78 → ⊥) → c ≡ d → either (eqb c 0x78) (eqb c d) ≡ true
+meets-same c d ne e = rw (ne_eqb c 0x78 ne, eq-eqb c d e)
 
-  pub fits-goes-on : i < length a → i < length b → either (eqb (get_or a i 0) 0x78) (eqb (get_or a i 0) (get_or b i 0)) ≡ true
-      → fits (drop (i + 1) a) (drop (i + 1) b) ≡ fits (drop i a) (drop i b)
+pub meets-no : (c d : ℕ) → (c ≡ 0x78 → ⊥) → (c ≡ d → ⊥) → either (eqb c 0x78) (eqb c d) ≡ false
+meets-no c d ne other = rw (ne_eqb c 0x78 ne, ne_eqb c d other)
+
+module _ (a b : Text) (i : ℕ) (ha : i < length a) (hb : i < length b) where
+  pub fits-goes-on : either (eqb (get_or a i 0) 0x78) (eqb (get_or a i 0) (get_or b i 0)) ≡ true → fits (drop (i + 1) a) (drop (i + 1) b) ≡ fits (drop i a) (drop i b)
   unfolding fits
-  fits-goes-on ha hb e = rw (add-one, drop-cons a i 0 ha, drop-cons b i 0 hb, e)
+  fits-goes-on e = rw (add-one, drop-cons a i 0 ha, drop-cons b i 0 hb, e)
 
-  pub fits-differs : i < length a → i < length b → either (eqb (get_or a i 0) 0x78) (eqb (get_or a i 0) (get_or b i 0)) ≡ false
-      → fits (drop i a) (drop i b) ≡ false
+  pub fits-differs : either (eqb (get_or a i 0) 0x78) (eqb (get_or a i 0) (get_or b i 0)) ≡ false → fits (drop i a) (drop i b) ≡ false
   unfolding fits
-  fits-differs ha hb e = rw (drop-cons a i 0 ha, drop-cons b i 0 hb, e)
+  fits-differs e = rw (drop-cons a i 0 ha, drop-cons b i 0 hb, e)
 
-  pub fits-longer : i < length a → length b ≤ i → fits (drop i a) (drop i b) ≡ false
-  unfolding fits
-  fits-longer ha hb = rw (drop-cons a i 0 ha, drop_of_length-le b hb)
-
-  pub fits-ends : length a ≤ i → fits (drop i a) (drop i b) ≡ leb (length b) i
-  unfolding fits
-  fits-ends ha = go (dec_le (length b) i)
-    where
-      go : Dec (length b ≤ i) → fits (drop i a) (drop i b) ≡ leb (length b) i
-      go (yes p) = rw (drop_of_length-le a ha, drop_of_length-le b p, le-leb (length b) i p)
-      go (no p) =
-          let h : i < length b = omega arith in
-          rw (drop_of_length-le a ha, drop-cons b i 0 h, lt-leb (length b) i h)
+pub fits-none : (a b : Text) (i : ℕ) → length a ≤ i → length b ≤ i → fits (drop i a) (drop i b) ≡ true
+unfolding fits
+fits-none a b i ha hb = rw (drop_of_length-le a ha, drop_of_length-le b hb)
 
 -- Words are compared one after the other.
 pub begin-none : (xs ws : List Text) → xs ≡ [] → begin_with xs ws ≡ true
@@ -150,3 +150,8 @@ half (d ∷ s) =
 pub words-half : (s : Text) → length (words s) + length (words s) ≤ length s + 1
 unfolding words
 words-half s = (half s).0
+
+-- What one step over the words of a text leaves.
+pub others-left : (xs ys : List Text) (r : Option (Bor Text)) → MatchOption r ((xs ≡ []) × (ys ≡ [])) (λ x. xs ≡ x.now ∷ ys) → ys ≡ drop 1 xs
+others-left xs ys (Some x) h = rw h
+others-left xs ys None h = rw (h.0, h.1)

@@ -8,5 +8,7 @@ mod words;
 
 pub use compare::{begin_with, fits, same};
 pub use put::put_spaced;
-pub use slices::{bytes_from, first_bytes, first_words, part_of, words_from};
-pub use words::{count_words, is_blank, next_word, skip_blanks};
+pub use slices::{
+    bytes_from, first_bytes, first_items, first_words, items_from, part_of, words_from,
+};
+pub use words::{Words, count_words, each_word, is_blank, next_word, skip_blanks};

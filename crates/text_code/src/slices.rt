@@ -4,41 +4,48 @@ ghost use Rattle.text.specs.OwnPart.{part};
 
 use text::Span;
 
+pub fn first_items<T>(items: &[T], n: usize) -> &[T]
+    ensures { result.now ≡ take n items.now }
+{
+    &items[..n.min(items.len())]
+}
+
+pub fn items_from<T>(items: &[T], n: usize) -> &[T]
+    ensures { result.now ≡ drop n items.now }
+{
+    &items[n.min(items.len())..]
+}
+
 pub fn first_bytes(bytes: &[u8], n: usize) -> &[u8]
     ensures { result.now ≡ take n bytes.now }
 {
-    if n <= bytes.len() { &bytes[..n] } else { bytes }
+    first_items(bytes, n)
 }
 
 pub fn bytes_from(bytes: &[u8], n: usize) -> &[u8]
     ensures { result.now ≡ drop n bytes.now }
 {
-    let end = bytes.len();
-    if n <= end { &bytes[n..] } else { &bytes[end..] }
+    items_from(bytes, n)
 }
 
 pub fn first_words(words: &[u32], n: usize) -> &[u32]
     ensures { result.now ≡ take n words.now }
 {
-    if n <= words.len() { &words[..n] } else { words }
+    first_items(words, n)
 }
 
 pub fn words_from(words: &[u32], n: usize) -> &[u32]
     ensures { result.now ≡ drop n words.now }
 {
-    let end = words.len();
-    if n <= end { &words[n..] } else { &words[end..] }
+    items_from(words, n)
 }
 
 // The part of a text between two places.
 pub fn part_of(s: &[u8], span: Span) -> &[u8]
     ensures { result.now ≡ part s.now span }
 {
-    let start = span.start;
-    let end = span.end;
-    if end <= start {
-        first_bytes(s, 0)
-    } else {
-        first_bytes(bytes_from(s, start), end - start)
-    }
+    first_bytes(
+        bytes_from(s, span.start),
+        span.end.saturating_sub(span.start),
+    )
 }

@@ -1,18 +1,20 @@
 -- Tables whose entries rise: the test of neighbours, and the order of any two.
-use Prim.Native.Nat.{ℕ, zero, suc, ◌+◌, ◌≤◌, ◌<◌}
+use Prim.Native.Nat.{ℕ, zero, suc, ◌+◌, ◌-◌, ◌≤◌, ◌<◌}
 use native.Mathlib.Nat.{le_refl, le_trans, le_of_lt, lt_of_lt_of_le}
 use native.Mathlib.Omega.{arith}
 use native.Mathlib.Numerals.{add-one}
 use mathlib.Core.Path.{◌≡◌, refl, sym}
 use mathlib.Core.Logic.{◌↔◌}
-use mathlib.Core.Bool.{true, false}
+use mathlib.Core.Bool.{Bool, true, false}
 use mathlib.Core.List.{List, [], ◌∷◌}
-use lib.ListN.{length, get_or, drop, length-drop}
-use lib.Seq.{drop-cons}
-use lib.Dec.{ltb}
-use borrow.Author.Tests.{ltb-true, lt-ltb, le-ltb}
-use Rattle.unit.specs.Choice.{both}
-use Rattle.unit.proofs.Cases.{by-test, fails}
+use lib.ListN.{length, get_or}
+use lib.Dec.{ltb, leb}
+use borrow.Author.Tests.{ltb-true, lt-ltb, true-ltb, false-ltb, leb-true, leb-false}
+use Rattle.std.specs.List.{IsAllAdjacentAnswer}
+use Rattle.std.specs.List.Sorted.{IsPartitionPoint, IsPartitionedBy}
+use Rattle.std.proofs.lemmas.List.Sorted.{IsPartitionedBy-leb, IsNonDecreasingBy-from_default}
+use Rattle.unit.proofs.Cases.{by-test, by-ltb, fails, refuted}
+use Rattle.thermometer.specs.Degrees.{Between, first, last}
 use Rattle.thermometer.specs.Table.{is_rising}
 
 -- the first two entries, and the rest
@@ -67,28 +69,40 @@ pub rising-means :
     (is_rising table ≡ true) ↔ ((i j : ℕ) → i < j → j < length table → get_or table i 0 < get_or table j 0)
 rising-means table = (rises table, λ up. rising-of table (λ i h. up i (suc i) (omega arith) h))
 
--- a loop that compares neighbours in turn: a pair that does not rise, a pair that does, and the last entry
-pair-at :
-    (table : List ℕ) (i : ℕ) →
-    i + 1 < length table →
-    is_rising (drop i table) ≡ both (ltb (get_or table i 0) (get_or table (i + 1) 0)) (is_rising (drop (i + 1) table))
-unfolding is_rising
-pair-at table i h =
-    rw (add-one i)
-    (rw (drop-cons table i 0 (omega arith), drop-cons table (suc i) 0 (omega arith)))
+-- what the library's test of neighbours answers
+pub rising-answered :
+    (table : List ℕ) (answer : Bool) → IsAllAdjacentAnswer (λ x y b. b ≡ ltb x y) table answer → answer ≡ is_rising table
+rising-answered table true all = sym (rising-of table (λ i h. true-ltb _ _ (rw (← add-one i) (all i 0 (omega arith)))))
+rising-answered table false some =
+    let k = some.0 in
+    sym
+    (refuted (is_rising table)
+    (λ up. absurd (omega (arith, rises table up k (k + 1) (omega arith) some.1, false-ltb _ _ (some.2 0)))))
 
-one-rises : (xs : List ℕ) → length xs ≤ 1 → is_rising xs ≡ true
-unfolding is_rising
-one-rises [] h = refl
-one-rises (e ∷ []) h = refl
-one-rises (e ∷ f ∷ rest) h = absurd (omega arith)
+-- where the entries at most r end
+pub rising-parted : (table : List ℕ) (r : ℕ) → is_rising table ≡ true → IsPartitionedBy (λ e. leb e r) table
+rising-parted table r up =
+    IsPartitionedBy-leb (λ e. e) table r
+    (IsNonDecreasingBy-from_default (λ e. e) table 0
+    (λ i j l h. by-ltb i j (λ b t. le_of_lt (rises table up i j b h)) (λ b t. let same : i ≡ j = omega arith in rw same (le_refl _))))
 
-module _ (table : List ℕ) (i : ℕ) (so_far : is_rising table ≡ is_rising (drop i table)) where
-  pub pair-falls : i + 1 < length table → get_or table (i + 1) 0 ≤ get_or table i 0 → false ≡ is_rising table
-  pair-falls h l = rw (so_far, pair-at table i h, le-ltb _ _ l)
-
-  pub pair-rises : i + 1 < length table → get_or table i 0 < get_or table (i + 1) 0 → is_rising table ≡ is_rising (drop (i + 1) table)
-  pair-rises h l = rw (so_far, pair-at table i h, lt-ltb _ _ l)
-
-  pub all-rise : length table ≤ i + 1 → true ≡ is_rising table
-  all-rise h = rw so_far (sym (one-rises (drop i table) (omega (arith, length-drop i table))))
+pub point-between :
+    (table : List ℕ) (r n : ℕ) →
+    2 ≤ length table →
+    first table ≤ r →
+    r < last table →
+    n ≤ length table →
+    IsPartitionPoint (λ e. leb e r ≡ true) (λ e. leb e r ≡ false) table n →
+    (1 ≤ n) × Between table (n - 1) r
+point-between table r n two low high fits parts =
+    let some : 1 ≤ n =
+    by-ltb 0 n (λ b t. b) (λ b t. absurd (omega (arith, leb-false _ _ (parts.1 0 0 (omega arith) (omega arith)))))
+    in
+    let room : n < length table =
+    by-ltb n (length table) (λ b t. b)
+    (λ b t. absurd (omega (arith, leb-true _ _ (parts.0 (length table - 1) 0 (omega arith) (omega arith)))))
+    in
+    let next : n - 1 + 1 ≡ n = omega arith in (
+      some,
+      rw next (room, leb-true _ _ (parts.0 (n - 1) 0 (omega arith) (omega arith)), leb-false _ _ (parts.1 n 0 (omega arith) room)),
+    )

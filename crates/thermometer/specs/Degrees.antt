@@ -1,9 +1,8 @@
 -- From words to degrees, over any table.
-use Rattle.std.specs.Prelude.{ℕ, ◌+◌, ◌-◌, ◌*◌, ◌/◌, ◌≤◌, ◌<◌, Bool, List, [], ◌∷◌, length, get_or, ltb, eqb}
+use Rattle.std.specs.Prelude.{ℕ, ◌+◌, ◌-◌, ◌*◌, ◌/◌, ◌≤◌, ◌<◌, Bool, List, [], ◌∷◌, length, get_or, ltb, eqb, Result, Ok, Err}
 use Rattle.unit.specs.Choice.{pick, either}
 use Rattle.thermometer.specs.Table.{pt1000, is_accepted}
-use Rattle.thermometer.specs.declared.InDegrees.{InDegrees}
-use Rattle.thermometer.specs.declared.InDegrees.TheVariants.{Thousandths, Refused}
+use Rattle.refusal.specs.declared.Refusal.{Refusal}
 
 -- "From a probe word a and its reference word b, reference 1,000 Ω, resistance is a × 1,000,000 ÷ b milliohms, rounded
 -- down."
@@ -43,23 +42,14 @@ off_table table a b =
     (either (eqb b 0) (either (ltb (resistance a b) (first table)) (ltb (last table) (resistance a b)))))
 
 -- the answer over a table: "Turned away: number 13"
-unfoldable pub degrees_over : List ℕ → ℕ → ℕ → InDegrees
-degrees_over table a b = pick (off_table table a b) (Refused 13) (Thousandths (thousandths table (resistance a b)))
+unfoldable pub degrees_over : List ℕ → ℕ → ℕ → Result ℕ Refusal
+degrees_over table a b = pick (off_table table a b) (Err Refusal.OffTable) (Ok (thousandths table (resistance a b)))
 
 -- over "a constant table of PT1000"
-abbrev pub degrees : ℕ → ℕ → InDegrees
+abbrev pub degrees : ℕ → ℕ → Result ℕ Refusal
 degrees a b = degrees_over pt1000 a b
 
 -- the answer over the caller's own table: "Turned away: number 14, bad table, before number 13, for any table failing these."
 -- (Note 7)
-unfoldable pub degrees_by : List ℕ → ℕ → ℕ → InDegrees
-degrees_by table a b = pick (is_accepted table) (degrees_over table a b) (Refused 14)
-
--- What an answer says: its number where it is a refusal, else its thousandths of a degree.
-unfoldable pub number_read : InDegrees → List ℕ
-number_read (Refused n) = n ∷ []
-number_read (Thousandths t) = []
-
-unfoldable pub value_read : InDegrees → List ℕ
-value_read (Refused n) = []
-value_read (Thousandths t) = t ∷ []
+unfoldable pub degrees_by : List ℕ → ℕ → ℕ → Result ℕ Refusal
+degrees_by table a b = pick (is_accepted table) (degrees_over table a b) (Err Refusal.BadTable)

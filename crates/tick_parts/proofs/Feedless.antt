@@ -123,7 +123,7 @@ module _ (flight temperature : StretchReport) where
 
 stretch-feedless : (answer : Answer) (before : ℕ) → Feedless (stretch_reports answer before)
 unfolding stretch_reports
-stretch-feedless (Refused number) before = none_told
+stretch-feedless (Refused r) before = none_told
 stretch-feedless (Accepted flight temperature) before = none_told
 stretch-feedless (Ticked flight temperature) before = none_told
 stretch-feedless (Stretched flight temperature) before =

@@ -11,7 +11,7 @@ use Rattle.item_calls.specs.Lines.{Ticks}
 -- "` WHAT@I` for each thing that the I-th of these ticks reported": "`failed-flight`, `started-flight`, `failed-temperature` or
 -- `started-temperature`, in this order within one tick"
 unfoldable pub one_reported : Answer → ℕ → Texts
-one_reported (Refused number) i = []
+one_reported (Refused r) i = []
 one_reported (Accepted flight temperature) i = []
 one_reported (Ticked flight temperature) i =
     reports_at flight.failed flight.started temperature.failed temperature.started i

@@ -258,10 +258,9 @@ pub fn run(m: Model, n: Ticks) -> Progress
         return run_quietly(m, n);
     }
     let mut p = begin(m);
+    // Kept as a while: it counts no index, since each step moves by as many ticks as the model lets it.
     while p.done.0 < n.0 {
-        let done = p.done;
-        let next = moved(p, less(n, done));
-        p = next;
+        p = moved(p, less(n, p.done));
     }
     p
 }

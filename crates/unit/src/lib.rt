@@ -21,12 +21,12 @@ pub fn choose(test: bool, yes: Ticks, no: Ticks) -> Ticks
 pub fn any_of(a: bool, b: bool) -> bool
     ensures { result ≡ either a b }
 {
-    if a { true } else { b }
+    a || b
 }
 
 // A word as a wider number, which brings its bound along.
 pub fn wide(x: u32) -> u64
     ensures { (result ≡ x) × (result < 4294967296) }
 {
-    x as u64
+    u64::from(x)
 }

@@ -18,6 +18,8 @@ use Rattle.wording.specs.Wording.{numbered, stretch, listing_head, place, expect
 use Rattle.wording.specs.Wording.{tick_head, at_head, reports_at, flight_kind, temperature_kind, interrupt_texts, awaited_texts, blank_word, word_texts, row_texts}
 use Rattle.wording.specs.Wording.{byte_texts, frame_texts, frame_lines, frames_head, frames_refused, degrees_refused, difference_texts, record_texts, listing_refused, quietest_refused}
 use Rattle.wording.specs.Wording.{counted, probe, degrees, refused, difference, quietest, why, fault, calls, faults}
+use Rattle.refusal.specs.declared.Refusal.{Refusal}
+use Rattle.refusal.specs.Number.{number}
 
 -- of one tick: failed, started
 abbrev report : Bool → Bool → Report
@@ -38,12 +40,12 @@ unfolding joined bus bus_answer started output_buffer ascii
 bus-quiet = refl
 
 -- `set no 6 busy`
-set-refused : joined (set (Refused 6)) ≡ 115 ∷ 101 ∷ 116 ∷ 32 ∷ 110 ∷ 111 ∷ 32 ∷ 54 ∷ 32 ∷ 98 ∷ 117 ∷ 115 ∷ 121 ∷ 10 ∷ []
+set-refused : joined (set (Refused Refusal.Busy)) ≡ 115 ∷ 101 ∷ 116 ∷ 32 ∷ 110 ∷ 111 ∷ 32 ∷ 54 ∷ 32 ∷ 98 ∷ 117 ∷ 115 ∷ 121 ∷ 10 ∷ []
 unfolding joined set bus_answer refusal refusal_word refusal_words decimal decimal_width width_from digits glyph ascii
 set-refused = refl
 
 -- `flight no 10 not awaited`
-flight-refused : joined (delivery (ascii "flight") (Refused 10)) ≡ 102 ∷ 108 ∷ 105 ∷ 103 ∷ 104 ∷ 116 ∷ 32 ∷ 110 ∷ 111 ∷ 32 ∷ 49 ∷ 48 ∷ 32 ∷ 110 ∷ 111 ∷ 116 ∷ 32 ∷ 97 ∷ 119 ∷ 97 ∷ 105 ∷ 116 ∷ 101 ∷ 100 ∷ 10 ∷ []
+flight-refused : joined (delivery (ascii "flight") (Refused Refusal.NotAwaited)) ≡ 102 ∷ 108 ∷ 105 ∷ 103 ∷ 104 ∷ 116 ∷ 32 ∷ 110 ∷ 111 ∷ 32 ∷ 49 ∷ 48 ∷ 32 ∷ 110 ∷ 111 ∷ 116 ∷ 32 ∷ 97 ∷ 119 ∷ 97 ∷ 105 ∷ 116 ∷ 101 ∷ 100 ∷ 10 ∷ []
 unfolding joined delivery delivery_answer refusal refusal_word refusal_words decimal decimal_width width_from digits glyph ascii
 flight-refused = refl
 
@@ -78,7 +80,7 @@ unfolding joined named later_named next_named sooner tick_reports report_at deci
 ticks-after-others = refl
 
 -- ` no 12 span`
-span : joined (stretched (Refused 12) 5) ≡ 32 ∷ 110 ∷ 111 ∷ 32 ∷ 49 ∷ 50 ∷ 32 ∷ 115 ∷ 112 ∷ 97 ∷ 110 ∷ []
+span : joined (stretched (Refused Refusal.Span) 5) ≡ 32 ∷ 110 ∷ 111 ∷ 32 ∷ 49 ∷ 50 ∷ 32 ∷ 115 ∷ 112 ∷ 97 ∷ 110 ∷ []
 unfolding joined stretched refusal refusal_word refusal_words decimal decimal_width width_from digits glyph ascii
 span = refl
 
@@ -169,7 +171,7 @@ unfolding joined left_out ascii
 rest = refl
 
 -- The first words of `tick`, `at`, `stretch` and `listing`.
-heads : (joined (numbered (ascii "tick ") 70000) ≡ ascii "tick 70000") × (joined (stretch (Refused 12) 0) ≡ ascii "stretch no 12 span\n")
+heads : (joined (numbered (ascii "tick ") 70000) ≡ ascii "tick 70000") × (joined (stretch (Refused Refusal.Span) 0) ≡ ascii "stretch no 12 span\n")
     × (joined (listing_head 3) ≡ ascii "listing 3\n")
 unfolding joined numbered stretch stretched listing_head counted refusal refusal_word refusal_words decimal decimal_width width_from digits glyph ascii
 heads = (refl, refl, refl)

@@ -10,6 +10,7 @@ use Rattle.device.specs.declared.Answer.{Answer}
 use Rattle.device.specs.declared.Answer.TheVariants.{Refused, Accepted, Ticked, Stretched, Good, Failed}
 use Rattle.line.specs.declared.Content.{Content}
 use Rattle.numeral.specs.Ascii.{ascii}
+use Rattle.refusal.specs.Number.{number}
 
 -- The texts of an answer.
 abbrev pub Texts : Type 0
@@ -54,7 +55,7 @@ started false false = ascii " ok -" ∷ []
 
 -- what a transaction answers; the other answers are those of no transaction
 unfoldable pub bus_answer : Answer → Texts
-bus_answer (Refused number) = refusal number
+bus_answer (Refused r) = refusal (number r)
 bus_answer (Accepted flight temperature) = started flight temperature
 bus_answer (Ticked flight temperature) = []
 bus_answer (Stretched flight temperature) = []
@@ -111,7 +112,7 @@ ticked flight temperature =
 
 -- the line of a quiet tick is one text
 unfoldable pub single : Answer → Texts
-single (Refused number) = []
+single (Refused r) = []
 single (Accepted flight temperature) = []
 single (Ticked flight temperature) =
     cond (quiet flight temperature) (ascii "tick 1\n" ∷ []) (ticked flight temperature)
@@ -167,7 +168,7 @@ named flight temperature done =
 
 -- "`stretch N`, then ` WHAT@I`", or "`stretch no 12 span`": what follows the line's first word
 unfoldable pub stretched : Answer → ℕ → Texts
-stretched (Refused number) n = refusal number
+stretched (Refused r) n = refusal (number r)
 stretched (Accepted flight temperature) n = []
 stretched (Ticked flight temperature) n = []
 stretched (Stretched flight temperature) n = ascii " " ∷ decimal n ∷ named flight temperature 0
@@ -181,7 +182,7 @@ stretch answer n = ascii "stretch" ∷ (stretched answer n ++ (line_feed ∷ [])
 -- ---- deliveries
 
 unfoldable pub delivery_answer : Answer → Texts
-delivery_answer (Refused number) = refusal number
+delivery_answer (Refused r) = refusal (number r)
 delivery_answer (Accepted flight temperature) = []
 delivery_answer (Ticked flight temperature) = []
 delivery_answer (Stretched flight temperature) = []

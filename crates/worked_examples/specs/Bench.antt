@@ -13,8 +13,9 @@ use Rattle.device.specs.Model.{fresh_model}
 use Rattle.device.specs.Registers.{register_word}
 use Rattle.device.specs.Call.{Call, transaction, tick, flight, stretch}
 use Rattle.device.specs.Reply.{reply, values_in, flag}
-use Rattle.device.specs.Question.{awaited_told, value_told}
+use Rattle.device.specs.Question.{awaited_told}
 use Rattle.device.specs.History.{after}
+use Rattle.refusal.specs.Number.{number, value_told}
 
 pub record Example : Type 0 where
   pub number : ℕ

@@ -4,7 +4,7 @@ use Rattle.device.specs.declared.Model.{Model}
 use Rattle.reply_parts.proofs.Decode.{flash-bounds}
 use Rattle.frame.specs.contracts.Decoded.{the_type}
 use Rattle.frame.specs.declared.Decoded.{Decoded}
-use Rattle.frame.specs.declared.Decoded.TheVariants.{Command, Read, Write, Flash, Refusal}
+use Rattle.frame.specs.declared.Decoded.TheVariants.{Command, Read, Write, Flash, Refused}
 use types.Run.{OneOf, miss}
 use denote.Enum.Declared.{tag_of}
 use mathlib.Core.List.{List, [], ◌∷◌}
@@ -27,7 +27,7 @@ not-a-flash m (Command op) b o x h = (refl, refl, refl)
 not-a-flash m (Read op n) b o x h = (refl, refl, refl)
 not-a-flash m (Write op n) b o x h = (refl, refl, refl)
 not-a-flash m (Flash op) b o x h = absurd (miss (0 ∷ 1 ∷ 2 ∷ 4 ∷ []) 3 tt h)
-not-a-flash m (Refusal n) b o x h = (refl, refl, refl)
+not-a-flash m (Refused r) b o x h = (refl, refl, refl)
 
 a-flash :
     (m : Model) (d : Decoded) (op : ℕ) (b o x : List ℕ) →

@@ -1,12 +1,13 @@
 -- `bus::read_reply` meets its contract.
 use Rattle.reply_parts.proofs.Decode.{read-bounds}
 use Rattle.device.specs.Reply.{refuse}
-use Rattle.device.specs.Parts.{accept, refusal_number}
+use Rattle.device.specs.Parts.{accept, refusal_of}
 use Rattle.device.specs.Bus.{read_model}
 use Rattle.device.specs.Registers.{fill_words}
 use Rattle.device.specs.declared.Model.{Model}
+use Rattle.refusal.specs.declared.Refusal.{Refusal}
 use Rattle.frame.specs.contracts.Decoded.{the_type}
-use Rattle.frame.specs.declared.Decoded.TheVariants.{Command, Read, Write, Flash, Refusal}
+use Rattle.frame.specs.declared.Decoded.TheVariants.{Command, Read, Write, Flash, Refused}
 use Rattle.frame.specs.declared.Decoded.{Decoded}
 use types.Run.{OneOf, miss}
 use denote.Enum.Declared.{tag_of}
@@ -24,13 +25,13 @@ use Rattle.bus.proofs.read_reply.Goals as goal
 not-a-read :
     (m : Model) (d : Decoded) (o : List ℕ) →
     OneOf (0 ∷ 2 ∷ 3 ∷ 4 ∷ []) (tag_of the_type d) →
-    (refuse (refusal_number d) m ≡ read_reply m d) × (o ≡ read_output m d o)
-unfolding read_reply read_output refusal_number
+    (refuse (refusal_of d) m ≡ read_reply m d) × (o ≡ read_output m d o)
+unfolding read_reply read_output refusal_of
 not-a-read m (Command op) o h = (refl, refl)
 not-a-read m (Read op n) o h = absurd (miss (0 ∷ 2 ∷ 3 ∷ 4 ∷ []) 1 tt h)
 not-a-read m (Write op n) o h = (refl, refl)
 not-a-read m (Flash op) o h = (refl, refl)
-not-a-read m (Refusal n) o h = (refl, refl)
+not-a-read m (Refused r) o h = (refl, refl)
 
 -- a read: the registers' words written
 a_read :
@@ -44,7 +45,7 @@ pub returns-in_default : goal.returns-in_default
 returns-in_default c =
     let start = c.args in
     let other = not-a-read start.m start.d start.out.now (opened c.in_default.in_default-own.keys2) in
-    (c.refuse.ensures ∙ ap (λ (n : ℕ). refuse n start.m) c.refusal_number.ensures ∙ other.0, other.1)
+    (c.refuse.ensures ∙ ap (λ (r : Refusal). refuse r start.m) c.refusal_of.ensures ∙ other.0, other.1)
 
 pub fill_words-requires : goal.fill_words-requires
 fill_words-requires c =

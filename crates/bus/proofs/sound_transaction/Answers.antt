@@ -8,7 +8,7 @@ use Rattle.frame.specs.Decoding.{decode_frame}
 use Rattle.reply_parts.proofs.Decode.{tail-whole, read_fits_lem, frame-fits, reply-empty, reply-command, reply-other}
 use Rattle.frame.specs.contracts.Decoded.{the_type}
 use Rattle.frame.specs.declared.Decoded.{Decoded}
-use Rattle.frame.specs.declared.Decoded.TheVariants.{Command, Read, Write, Flash, Refusal}
+use Rattle.frame.specs.declared.Decoded.TheVariants.{Command, Read, Write, Flash, Refused}
 use types.Run.{OneOf, miss}
 use denote.Enum.Declared.{tag_of}
 use mathlib.Core.List.{List, [], ◌∷◌}
@@ -39,7 +39,7 @@ not-a-command (Command op) h o e = miss (1 ∷ 2 ∷ 3 ∷ 4 ∷ []) 0 tt h
 not-a-command (Read op n) h o e = let z : ◌≡◌ {A = ℕ} 0 1 = cc in omega arith
 not-a-command (Write op n) h o e = let z : ◌≡◌ {A = ℕ} 0 1 = cc in omega arith
 not-a-command (Flash op) h o e = let z : ◌≡◌ {A = ℕ} 0 1 = cc in omega arith
-not-a-command (Refusal n) h o e = let z : ◌≡◌ {A = ℕ} 0 1 = cc in omega arith
+not-a-command (Refused r) h o e = let z : ◌≡◌ {A = ℕ} 0 1 = cc in omega arith
 
 pub returns-then-frame-eq0 : goal.returns-then-frame-eq0
 returns-then-frame-eq0 c =

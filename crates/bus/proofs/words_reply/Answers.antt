@@ -4,7 +4,7 @@ use Rattle.device.specs.declared.Model.{Model}
 use Rattle.reply_parts.proofs.Decode.{write-bounds}
 use Rattle.frame.specs.contracts.Decoded.{the_type}
 use Rattle.frame.specs.declared.Decoded.{Decoded}
-use Rattle.frame.specs.declared.Decoded.TheVariants.{Command, Read, Write, Flash, Refusal}
+use Rattle.frame.specs.declared.Decoded.TheVariants.{Command, Read, Write, Flash, Refused}
 use types.Run.{OneOf, miss}
 use denote.Enum.Declared.{tag_of}
 use mathlib.Core.List.{List, [], ◌∷◌}
@@ -24,7 +24,7 @@ not-a-write m (Command op) b x h = refl
 not-a-write m (Read op n) b x h = refl
 not-a-write m (Write op n) b x h = absurd (miss (0 ∷ 1 ∷ 3 ∷ 4 ∷ []) 2 tt h)
 not-a-write m (Flash op) b x h = refl
-not-a-write m (Refusal n) b x h = refl
+not-a-write m (Refused r) b x h = refl
 
 -- a write leaves the output and the memory
 a_write :

@@ -1,12 +1,13 @@
 -- `command::event_flight` meets its contract.
-use Rattle.device.specs.Bus.{event_flight}
 use borrow.Author.Rules.{rules}
+use Rattle.unit.proofs.Tests.{tests}
+use Rattle.device.specs.Bus.{event_flight}
 use Rattle.command.proofs.event_flight.Goals as goal
 
 pub returns-then-starts_flight : goal.returns-then-starts_flight
 unfolding event_flight
-returns-then-starts_flight c = simp (← c.flight_event.ensures, c.if-starts_flight.true, ← c.starts_flight.ensures)
+returns-then-starts_flight c = search (rules, tests)
 
-pub returns : goal.returns
+pub returns-else-starts_flight : goal.returns-else-starts_flight
 unfolding event_flight
-returns c = simp (c.if-starts_flight.false, ← c.starts_flight.ensures)
+returns-else-starts_flight c = search (rules, tests)

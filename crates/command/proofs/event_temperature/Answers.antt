@@ -1,12 +1,13 @@
 -- `command::event_temperature` meets its contract.
-use Rattle.device.specs.Bus.{event_temperature}
 use borrow.Author.Rules.{rules}
+use Rattle.unit.proofs.Tests.{tests}
+use Rattle.device.specs.Bus.{event_temperature}
 use Rattle.command.proofs.event_temperature.Goals as goal
 
 pub returns-then-starts_temperature : goal.returns-then-starts_temperature
 unfolding event_temperature
-returns-then-starts_temperature c = simp (← c.temperature_event.ensures, c.if-starts_temperature.true, ← c.starts_temperature.ensures)
+returns-then-starts_temperature c = search (rules, tests)
 
-pub returns : goal.returns
+pub returns-else-starts_temperature : goal.returns-else-starts_temperature
 unfolding event_temperature
-returns c = simp (c.if-starts_temperature.false, ← c.starts_temperature.ensures)
+returns-else-starts_temperature c = search (rules, tests)

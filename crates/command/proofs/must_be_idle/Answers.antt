@@ -4,14 +4,10 @@ use Rattle.unit.proofs.Tests.{tests}
 use Rattle.device.specs.Bus.{must_be_idle}
 use Rattle.command.proofs.must_be_idle.Goals as goal
 
-pub returns-then-op-eq-RESET : goal.returns-then-op-eq-RESET
+pub returns-then-op-ne-RESET : goal.returns-then-op-ne-RESET
 unfolding must_be_idle
-returns-then-op-eq-RESET c = search (rules, tests)
+returns-then-op-ne-RESET c = search (rules, tests)
 
-pub returns-then-op-eq-HALT : goal.returns-then-op-eq-HALT
+pub returns-else-op-ne-RESET : goal.returns-else-op-ne-RESET
 unfolding must_be_idle
-returns-then-op-eq-HALT c = search (rules, tests)
-
-pub returns-else-op-eq-HALT : goal.returns-else-op-eq-HALT
-unfolding must_be_idle
-returns-else-op-eq-HALT c = search (rules, tests)
+returns-else-op-ne-RESET c = search (rules, tests)

@@ -1,4 +1,3 @@
-use borrow.Author.Rules.{rules}
 use mathlib.Core.Path.{refl}
 use Rattle.difference.specs.Difference.{joined_word}
 use Rattle.difference.proofs.joined.Goals as goal

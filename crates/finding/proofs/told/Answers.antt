@@ -1,12 +1,8 @@
 -- `finding::told` meets its contract.
-use Rattle.device.specs.Question.{number_told, value_told}
-use borrow.Author.Rules.{rules}
 use Rattle.finding.proofs.told.Goals as goal
 
-pub returns-in-Refused : goal.returns-in-Refused
-unfolding number_told value_told
-returns-in-Refused c = record { coded = rw c.in-Refused.is; worded = rw c.in-Refused.is }
+pub returns-in-Ok : goal.returns-in-Ok
+returns-in-Ok g c = record { coded = rw c.in-Ok.is; worded = rw c.in-Ok.is c.put.ensures }
 
-pub returns-in-Value : goal.returns-in-Value
-unfolding number_told value_told
-returns-in-Value c = record { coded = rw c.in-Value.is; worded = rw c.in-Value.is c.put.ensures }
+pub returns-in-Err : goal.returns-in-Err
+returns-in-Err g c = record { coded = rw c.in-Err.is c.number.ensures.0; worded = rw c.in-Err.is }

@@ -8,10 +8,6 @@ pub returns-then-a-eq1 : goal.returns-then-a-eq1
 unfolding wrong_size odd_address beyond address_refused
 returns-then-a-eq1 c = search (rules, tests)
 
-pub returns-then-size-eq8192 : goal.returns-then-size-eq8192
+pub returns-else-a-eq1 : goal.returns-else-a-eq1
 unfolding wrong_size odd_address beyond address_refused
-returns-then-size-eq8192 c = search (rules, tests)
-
-pub returns : goal.returns
-unfolding wrong_size odd_address beyond address_refused
-returns c = search (rules, tests)
+returns-else-a-eq1 c = search (rules, tests)

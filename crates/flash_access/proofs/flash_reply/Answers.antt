@@ -1,42 +1,30 @@
 -- `flash_access::flash_reply` meets its contract.
 use Rattle.device.specs.Parts.{flash_reply, flash_out, flash_left}
 use Rattle.flash_access.specs.Work.{work_out, work_left}
-use Rattle.flash_access.proofs.Numbered.{refused-is, changed-is, kept-is}
+use Rattle.flash_access.proofs.Numbered.{refused-is, done-is}
 use mathlib.Core.Path.{refl, sym, ◌∙◌}
-use borrow.Author.Rules.{rules}
 use Rattle.flash_access.proofs.flash_reply.Goals as goal
 
 pub returns-then-is_busy : goal.returns-then-is_busy
 unfolding flash_reply flash_out flash_left
 returns-then-is_busy c = simp (← c.is_busy.ensures, c.if-is_busy.true) (c.refuse.ensures, refl, refl)
 
-pub returns-then-number-gt0 : goal.returns-then-number-gt0
+pub returns-in-Err : goal.returns-in-Err
 unfolding flash_reply flash_out flash_left work_out work_left
-returns-then-number-gt0 c =
-    let w = c.work-number.ensures in
+returns-in-Err c =
+    let w = c.work.ensures in
     simp (← c.is_busy.ensures, c.if-is_busy.false, c.if-m.true) (
-      c.refuse-then-number-gt0.ensures ∙ refused-is _ _ _ _ _ w.0 c.if-number-gt0.true,
+      c.refuse-in-Err.ensures ∙ refused-is _ _ _ _ _ (sym w.0 ∙ c.in-Err.is),
       w.1,
       w.2,
     )
 
-pub returns-then-changes : goal.returns-then-changes
+pub returns-in-Ok : goal.returns-in-Ok
 unfolding flash_reply flash_out flash_left work_out work_left
-returns-then-changes c =
-    let w = c.work-number.ensures in
-    let k = c.changed.ensures in
+returns-in-Ok c =
+    let w = c.work.ensures in
     simp (← c.is_busy.ensures, c.if-is_busy.false, c.if-m.true) (
-      c.accept.ensures ∙ changed-is _ _ _ _ _ _ w.0 c.if-number-gt0.false (sym c.changes.ensures ∙ c.if-changes.true) k.0 k.1,
-      w.1,
-      w.2,
-    )
-
-pub returns-then-m : goal.returns-then-m
-unfolding flash_reply flash_out flash_left work_out work_left
-returns-then-m c =
-    let w = c.work-number.ensures in
-    simp (← c.is_busy.ensures, c.if-is_busy.false, c.if-m.true) (
-      c.accept-then-m.ensures ∙ kept-is _ _ _ _ _ w.0 c.if-number-gt0.false (sym c.changes.ensures ∙ c.if-changes.false),
+      c.done.ensures ∙ done-is _ _ _ _ _ (sym w.0 ∙ c.in-Ok.is),
       w.1,
       w.2,
     )

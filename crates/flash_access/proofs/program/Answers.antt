@@ -2,14 +2,13 @@
 use Rattle.device.specs.Parts.{program_left}
 use Rattle.device.specs.FlashFrame.{flash_address, flash_data}
 use Rattle.flash.proofs.Refusal.{address-accepted}
-use Rattle.flash_access.specs.Work.{program_number}
+use Rattle.flash_access.specs.Work.{program_done}
 use mathlib.Core.Path.{refl, sym, ◌∙◌}
 use native.Mathlib.Omega.{arith}
-use borrow.Author.Rules.{rules}
 use Rattle.flash_access.proofs.program.Goals as goal
 
 pub returns-then-address_refused : goal.returns-then-address_refused
-unfolding program_number program_left flash_address flash_data
+unfolding program_done program_left flash_address flash_data
 returns-then-address_refused c = simp (← c.word_at-a.ensures.0, ← c.address_refused.ensures, c.if-address_refused.true) (refl, refl)
 
 pub not_erased-requires : goal.not_erased-requires
@@ -17,7 +16,7 @@ not_erased-requires c =
     let ok = (address-accepted _ _).0 (sym c.address_refused.ensures ∙ c.if-address_refused.false) in omega arith
 
 pub returns-then-not_erased : goal.returns-then-not_erased
-unfolding program_number program_left flash_address flash_data
+unfolding program_done program_left flash_address flash_data
 returns-then-not_erased c =
     simp (
       ← c.word_at-a.ensures.0,
@@ -35,7 +34,7 @@ write_word-requires c =
     omega arith
 
 pub returns : goal.returns
-unfolding program_number program_left flash_address flash_data
+unfolding program_done program_left flash_address flash_data
 returns c =
     simp (
       ← c.word_at-a.ensures.0,

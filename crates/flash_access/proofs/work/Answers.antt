@@ -1,13 +1,12 @@
 -- `flash_access::work` meets its contract.
 use Rattle.device.specs.Parts.{flash_fits}
-use Rattle.flash_access.specs.Work.{flash_number, work_out, work_left}
+use Rattle.flash_access.specs.Work.{flash_done, work_out, work_left}
 use Rattle.unit.specs.Choice.{both}
 use borrow.Author.Tests.{leb-true, eq-eqb, ne_eqb}
 use lib.Dec.{leb}
 use mathlib.Core.Bool.{Bool, true, false}
 use mathlib.Core.Path.{◌≡◌, refl}
 use Prim.Native.Nat.{ℕ, ◌≤◌}
-use borrow.Author.Rules.{rules}
 use Rattle.flash_access.proofs.work.Goals as goal
 
 -- the room that each frame needs
@@ -33,7 +32,7 @@ pub erase-requires : goal.erase-requires
 erase-requires c = erase-room _ _ _ c.if-op-eq19.true c.requires
 
 pub returns-then-op-eq19 : goal.returns-then-op-eq19
-unfolding flash_number work_out work_left
+unfolding flash_done work_out work_left
 returns-then-op-eq19 c =
     simp (eq-eqb _ _ c.if-op-eq19.true) (c.erase.ensures.0, refl, c.erase.ensures.1)
 
@@ -41,7 +40,7 @@ pub program-requires : goal.program-requires
 program-requires c = program-room _ _ _ c.if-op-eq16.true c.requires
 
 pub returns-then-op-eq16 : goal.returns-then-op-eq16
-unfolding flash_number work_out work_left
+unfolding flash_done work_out work_left
 returns-then-op-eq16 c =
     simp (ne_eqb _ _ c.if-op-eq19.false, eq-eqb _ _ c.if-op-eq16.true) (c.program.ensures.0, refl, c.program.ensures.1)
 
@@ -49,6 +48,6 @@ pub load-requires : goal.load-requires
 load-requires c = load-room _ _ _ c.if-op-eq19.false c.if-op-eq16.false c.requires
 
 pub returns : goal.returns
-unfolding flash_number work_out work_left
+unfolding flash_done work_out work_left
 returns c =
     simp (ne_eqb _ _ c.if-op-eq19.false, ne_eqb _ _ c.if-op-eq16.false) (c.load.ensures.0, c.load.ensures.1, refl)

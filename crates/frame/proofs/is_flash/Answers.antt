@@ -1,17 +1,25 @@
 -- `frame::is_flash` meets its contract.
+use Prim.Native.Nat.{ℕ}
+use mathlib.Core.Path.{◌≡◌, refl}
+use mathlib.Core.Logic.{◌⊎◌, inl, inr}
+use mathlib.Core.Bool.{true, false}
+use borrow.Author.Tests.{ne_eqb}
 use Rattle.frame.specs.Frame.{is_flash}
-use Rattle.unit.proofs.Tests.{tests}
-use borrow.Author.Rules.{rules}
 use Rattle.frame.proofs.is_flash.Goals as goal
 
-pub returns-then-op-eq-READ_FLASH : goal.returns-then-op-eq-READ_FLASH
+named : (op : ℕ) → (op ≡ 0x10) ⊎ ((op ≡ 0x13) ⊎ (op ≡ 0x90)) → true ≡ is_flash op
 unfolding is_flash
-returns-then-op-eq-READ_FLASH c = search (rules, tests, c.if-op-eq-READ_FLASH.true)
+named op (inl e) = rw e refl
+named op (inr (inl e)) = rw e refl
+named op (inr (inr e)) = rw e refl
 
-pub returns-then-op-eq-WRITE_FLASH : goal.returns-then-op-eq-WRITE_FLASH
+other : (op : ℕ) → ¬ ((op ≡ 0x10) ⊎ ((op ≡ 0x13) ⊎ (op ≡ 0x90))) → false ≡ is_flash op
 unfolding is_flash
-returns-then-op-eq-WRITE_FLASH c = search (rules, tests, c.if-op-eq-WRITE_FLASH.true, c.if-op-eq-READ_FLASH.false)
+other op n =
+    rw (ne_eqb op 0x90 (λ e. n (inr (inr e))), ne_eqb op 0x10 (λ e. n (inl e)), ne_eqb op 0x13 (λ e. n (inr (inl e)))) refl
 
-pub returns : goal.returns
-unfolding is_flash
-returns c = search (rules, tests, c.if-op-eq-WRITE_FLASH.false, c.if-op-eq-READ_FLASH.false)
+pub returns-in-144 : goal.returns-in-144
+returns-in-144 c = named _ c.in-144.is
+
+pub returns-in_default : goal.returns-in_default
+returns-in_default c = other _ c.in_default.in_default-own.rest.1

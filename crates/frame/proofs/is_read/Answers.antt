@@ -4,10 +4,6 @@ use Rattle.unit.proofs.Tests.{tests}
 use Rattle.frame.specs.Frame.{is_read}
 use Rattle.frame.proofs.is_read.Goals as goal
 
-pub returns-then-op-lt176 : goal.returns-then-op-lt176
-unfolding is_read
-returns-then-op-lt176 c = search (rules, tests)
-
 pub returns : goal.returns
 unfolding is_read
 returns c = search (rules, tests)

@@ -8,6 +8,6 @@ pub returns-then-further-eq0 : goal.returns-then-further-eq0
 unfolding not_whole
 returns-then-further-eq0 c = search (rules, tests)
 
-pub returns : goal.returns
+pub returns-else-further-eq0 : goal.returns-else-further-eq0
 unfolding not_whole
-returns c = search (rules, tests)
+returns-else-further-eq0 c = search (rules, tests)

@@ -1,7 +1,7 @@
 -- `frame::word_at` meets its contract.
+use borrow.Author.Rules.{rules}
 use Rattle.unit.proofs.Tests.{tests}
 use Rattle.frame.specs.Frame.{word_at}
-use borrow.Author.Rules.{rules}
 use Rattle.frame.proofs.word_at.Goals as goal
 
 pub returns : goal.returns

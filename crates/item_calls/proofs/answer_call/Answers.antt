@@ -1,6 +1,5 @@
 -- `item_calls::answer_call` meets its contract.
 -- Assumes nothing.
-use borrow.Author.Rules.{rules}
 use types.Run.{OneOf, miss}
 use denote.Enum.Declared.{tag_of}
 use Rattle.line.specs.contracts.Content.{the_type}
@@ -8,7 +7,6 @@ use Rattle.line.specs.declared.Content.{Content}
 use mathlib.Core.Path.{◌≡◌, refl, ap}
 use Prim.Native.Nat.{ℕ}
 use mathlib.Core.List.{List, [], ◌∷◌}
-use Rattle.line.specs.Line.{Bounded}
 use Rattle.item_calls.specs.Lines.{WithFlash, beside, item_line, timed_line, call_line}
 use borrow.Enum.Refused.{opened}
 use Rattle.item_calls.proofs.answer_call.Goals as goal

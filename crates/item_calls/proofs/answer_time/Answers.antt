@@ -1,6 +1,5 @@
 -- `item_calls::answer_time` meets its contract.
 -- Assumes nothing.
-use borrow.Author.Rules.{rules}
 use types.Run.{OneOf, miss}
 use denote.Enum.Declared.{tag_of}
 use Rattle.line.specs.contracts.Content.{the_type}

@@ -1,5 +1,4 @@
 -- `item_kept_code::carried_fits` meets its contract.
-use borrow.Author.Rules.{rules}
 use Rattle.item_kept_code.proofs.Fits.{kept}
 use Rattle.item_kept_code.proofs.carried_fits.Goals as goal
 

@@ -1,26 +1,18 @@
--- `item_kept_code::within_types` meets its contract. The invariant: the first i differences have 32 bits; the measure is what is left of them.
+-- `item_kept_code::within_types` meets its contract.
 -- Assumes nothing.
-use Prim.Native.Nat.{◌≤◌, ◌-◌}
 use native.Mathlib.Omega.{arith}
 use lib.IntN.{pos}
-use lib.ListN.{length, get_or}
+use lib.ListN.{get_or}
 use borrow.Author.Rules.{rules}
 use Rattle.listing.proofs.Signed.{magnitude-most}
-use Rattle.item_kept_code.proofs.Fits.{Small, none-small, next_small, quanta}
+use Rattle.item_kept_code.proofs.Fits.{next_small, quanta}
 use Rattle.item_kept_code.proofs.within_types.Goals as goal
 
-pub loop-i-init : goal.loop-i-init
-loop-i-init c = (omega arith, none-small c.args.recorded.now)
-
-pub loop-i-preserved : goal.loop-i-preserved
-loop-i-preserved c =
+pub loop-difference-preserved : goal.loop-difference-preserved
+loop-difference-preserved c =
     let ds = c.args.recorded.now in
-    let loop = c.loop-i in
-    let x = get_or ds loop.i (pos 0) in
-    (omega arith, next_small ds loop.i loop.invariant.1 (magnitude-most x (record { sfits = search rules })))
+    let i = c.loop-difference.difference-index in
+    next_small ds i c.loop-difference.invariant (magnitude-most (get_or ds i (pos 0)) (record { sfits = search rules }))
 
 pub returns : goal.returns
-returns c =
-    let ds = c.args.recorded.now in
-    let loop = c.loop-i in
-    quanta ds (λ k h. loop.invariant.1 k (omega arith))
+returns c = quanta c.args.recorded.now (λ k h. c.loop-difference.invariant k (omega arith))

@@ -1,49 +1,37 @@
--- `item_page_form::put_form` meets its contract: what is left of the form leads on from what is put already. Assumes nothing.
-use Prim.Native.Nat.{ℕ, ◌+◌, ◌-◌, ◌≤◌}
-use mathlib.Core.List.{List, []}
-use mathlib.Core.Logic.{⊎_elim}
-use mathlib.Core.Path.{◌≡◌, refl, ◌∙◌}
+-- `item_page_form::put_form` meets its contract. Assumes nothing.
+use Prim.Native.Nat.{◌+◌, ◌≤◌}
+use mathlib.Core.Path.{◌∙◌}
 use native.Mathlib.Omega.{arith}
-use lib.ListN.{length, drop}
-use Rattle.text.specs.Text.{Text}
-use Rattle.text.specs.OwnPut.{Puts}
-use borrow.Author.Rules.{rules}
-use Rattle.item_page_form.specs.OwnForm.{filled}
+use lib.ListN.{length}
 use Rattle.item_page_form.proofs.Fill.{read, takes-most, length-read, bar-on, byte-on, form-end}
 use Rattle.item_page_form.proofs.put_form.Goals as goal
-use Rattle.item_page_form.proofs.put_form.Goals.{then-form-i-eq124, else-form-i-eq124}
+use Rattle.item_page_form.proofs.put_form.Goals.{then-c-eq124, else-c-eq124}
 
-pub loop-i-init : goal.loop-i-init
-loop-i-init c = (refl, omega arith, omega arith, omega arith, λ rest s k p. p)
-
-pub overflow_add-next-then-form-i-eq124 : goal.overflow_add-next-then-form-i-eq124
-overflow_add-next-then-form-i-eq124 c = let p = read c.args.form.now c.loop-i.start c.loop-i.i in
+pub overflow_add-next-then-c-eq124 : goal.overflow_add-next-then-c-eq124
+overflow_add-next-then-c-eq124 c =
+    let p = read c.args.form.now c.loop-i.start c.loop-i.i in
     let few : c.takes-next.result ≤ length p + 1 = rw (c.takes-next.ensures, c.byte.ensures) (takes-most p) in
     omega (arith, length-read c.args.form.now c.loop-i.start c.loop-i.i)
 
 pub loop-i-preserved : goal.loop-i-preserved
-loop-i-preserved c = let form = c.args.form.now in
+loop-i-preserved c =
+    let form = c.args.form.now in
     let vs = c.args.values.now in
     let start = c.loop-i.start in
     let next = c.loop-i.next in
     let i = c.loop-i.i in
     let less = c.loop-i-test.true in
-    elim c.if-form-i-eq124.branch [
-      | then-form-i-eq124 w ↦
+    elim c.if-c-eq124.branch [
+      | then-c-eq124 w ↦
           let p = read form start i in
           let few : w.takes-next.result ≤ length p + 1 = rw (w.takes-next.ensures, w.byte.ensures) (takes-most p) in
           rw (w.buf-is, w.place-is, w.start-is, w.next-is) (
-            w.put_piece-place.auto.buf ∙ c.loop-i.invariant.0,
-            omega arith,
             omega arith,
             omega (arith, length-read form start i),
-            λ rest s k p. c.loop-i.invariant.4 rest s k (rw (bar-on form vs start next i less w.if-form-i-eq124.true w.value.ensures w.value-then-form-i-eq124.ensures (w.takes-next.ensures ∙ rw w.byte.ensures) rest) (w.put_piece-place.ensures.on _ _ _ p)),
+            λ rest s k p. c.loop-i.invariant.2 rest s k (rw (bar-on form vs start next i less w.if-c-eq124.true w.value.ensures w.value-then-c-eq124.ensures (w.takes-next.ensures ∙ rw w.byte.ensures) rest) (w.put_piece-place.ensures.on _ _ _ p)),
           )
-      | else-form-i-eq124 w ↦ rw (w.buf-is, w.place-is, w.start-is, w.next-is) (c.loop-i.invariant.0, omega arith, omega arith, omega arith, λ rest s k p. c.loop-i.invariant.4 rest s k (rw (byte-on form vs start next i less w.if-form-i-eq124.false (omega arith) rest) p))
+      | else-c-eq124 w ↦ rw (w.buf-is, w.place-is, w.start-is, w.next-is) (omega arith, omega arith, λ rest s k p. c.loop-i.invariant.2 rest s k (rw (byte-on form vs start next i less w.if-c-eq124.false (omega arith) rest) p))
     ]
 
-pub shape_of-buf : goal.shape_of-buf
-shape_of-buf c = c.loop-i.invariant.0
-
 pub returns : goal.returns
-returns c = record { on = λ rest s k p. c.loop-i.invariant.4 rest s k (rw (form-end c.args.form.now c.args.values.now c.loop-i.start c.loop-i.next c.loop-i.i c.loop-i-test.false rest) p) }
+returns c = record { on = λ rest s k p. c.loop-i.invariant.2 rest s k (rw (form-end c.args.form.now c.args.values.now c.loop-i.start c.loop-i.next c.loop-i.i c.loop-i-test.false rest) p) }

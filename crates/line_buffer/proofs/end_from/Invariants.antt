@@ -1,14 +1,7 @@
 -- `line_buffer::end_from` meets its contract.
-use borrow.Author.Rules.{rules}
-use Prim.Native.Nat.{◌-◌, ◌≤◌}
-use mathlib.Core.Path.{◌≡◌, refl, sym, ◌∙◌}
-use lib.ListN.{length}
+use mathlib.Core.Path.{◌≡◌}
 use Rattle.line_buffer.specs.Lines.{line_end}
-use Rattle.line_buffer.proofs.LineLaws.{end-here, end_later, end-last}
 use Rattle.line_buffer.proofs.end_from.Given as goal
 
 abbrev pub invariant-loop-i : goal.invariant-loop-i
-invariant-loop-i l = (line_end l.at l.bytes ≡ line_end l.i l.bytes) × (l.at ≤ l.i) × (l.i ≤ length l.bytes)
-
-abbrev pub decreases-loop-i : goal.decreases-loop-i
-decreases-loop-i l = length l.bytes - l.i
+invariant-loop-i l = line_end l.at l.bytes ≡ line_end l.i l.bytes

@@ -2,7 +2,6 @@
 -- Assumes nothing.
 use mathlib.Core.Path.{sym}
 use Rattle.line_buffer.proofs.LineLaws.{has-line}
-use borrow.Author.Rules.{rules}
 use Rattle.line_buffer.proofs.has_line.Goals as goal
 
 pub returns : goal.returns

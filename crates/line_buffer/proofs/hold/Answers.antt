@@ -1,31 +1,18 @@
 -- `line_buffer::hold` meets its contract.
 -- Assumes nothing.
-use borrow.Author.Rules.{rules}
-use Prim.Native.Nat.{ℕ, ◌+◌, ◌-◌, ◌≤◌, ◌<◌, min}
-use mathlib.Core.Path.{◌≡◌, refl}
-use native.Mathlib.Nat.{le_antisymm}
-use native.Mathlib.Omega.{arith}
-use lib.ListN.{length, take, drop}
-use Rattle.line_buffer.proofs.LineLaws.{first_on, rest-on}
+use Rattle.std.proofs.Common.{◌≡◌, ℕ, ◌+◌, ◌-◌, ◌≤◌, List, length, take, drop, length-drop, length-take, ◌∙◌, arith}
+use Rattle.std.proofs.lemmas.List.{take-append-le}
+use Rattle.std.specs.List.{copy_within}
+use lib.Seq.{take_all}
+use native.Mathlib.Nat.{zero-add}
 use Rattle.line_buffer.proofs.hold.Goals as goal
 
-below : (from i n end len : ℕ) → n ≡ min (min end len - from) 1002 → i < n → from + i < len
-below from i n end len count less = omega arith
+first : (l new : List ℕ) (from n : ℕ) → from + n ≤ length l → new ≡ copy_within l from (from + n) 0 → take n new ≡ take n (drop from l)
+first l new from n room e =
+    let some : from + n - from ≡ n = omega arith in
+    let long : n ≤ length (take n (drop from l)) = simp (length-take, length-drop) (omega arith) in
+    let short : length (take n (drop from l)) ≤ n = simp (length-take, length-drop) (omega arith) in
+    rw (e, some, zero-add) (take-append-le n (take n (drop from l)) (drop n l) long ∙ take_all n (take n (drop from l)) short)
 
-pub loop-i-init : goal.loop-i-init
-loop-i-init c = (refl, search rules, refl, refl)
-
-pub overflow_add-bytes : goal.overflow_add-bytes
-overflow_add-bytes c = omega (arith, c.held_of-n.ensures, c.loop-i-test.true)
-
-pub bounds-bytes-from : goal.bounds-bytes-from
-bounds-bytes-from c = omega (arith, c.held_of-n.ensures, c.loop-i-test.true, c.loop-i.invariant.0)
-
-pub bounds-bytes-i : goal.bounds-bytes-i
-bounds-bytes-i c = omega (arith, c.held_of-n.ensures, c.loop-i-test.true, c.loop-i.invariant.0)
-
-pub loop-i-preserved : goal.loop-i-preserved
-loop-i-preserved c = (search rules, search rules, first_on c.loop-i.bytes _ _ c.loop-i.i c.loop-i.invariant.0 (below _ _ _ _ _ c.held_of-n.ensures c.loop-i-test.true) c.loop-i.invariant.3 c.loop-i.invariant.2, rest-on c.loop-i.bytes _ _ c.loop-i.i c.loop-i.invariant.0 (below _ _ _ _ _ c.held_of-n.ensures c.loop-i-test.true) c.loop-i.invariant.3 _)
-
-pub returns : goal.returns
-returns c = (c.held_of-n.ensures, rw (le_antisymm c.loop-i-test.false c.loop-i.invariant.1) c.loop-i.invariant.2)
+pub returns-then-n-gt0 : goal.returns-then-n-gt0
+returns-then-n-gt0 c = (cc, first _ _ _ _ (omega arith) c.copy_within.ensures.after)

@@ -1,8 +1,6 @@
 -- `line_buffer::line_end` meets its contract.
-use borrow.Author.Rules.{rules}
 use Prim.Native.Nat.{◌-◌, ◌≤◌}
-use mathlib.Core.Path.{◌≡◌, refl, sym, ◌∙◌}
-use native.Mathlib.Omega.{arith}
+use mathlib.Core.Path.{◌≡◌}
 use lib.ListN.{length}
 use Rattle.line_buffer.specs.Lines.{line_end}
 use Rattle.line_buffer.proofs.line_end.Given as goal

@@ -2,7 +2,6 @@
 use native.Mathlib.Omega.{arith}
 use mathlib.Core.Path.{sym, ◌∙◌}
 use Rattle.list_run.proofs.Laws.{frame-fits, flight-fits, temperature-fits, fits-parts, tick_is, stretch-is, flight-is, temperature-is, frame_step, other_step, unsound-step, moved-step, moved-quietly, entry-tick, near_of}
-use borrow.Author.Rules.{rules}
 use Rattle.list_run.proofs.advance.Goals as goal
 
 pub frame_call-requires : goal.frame_call-requires

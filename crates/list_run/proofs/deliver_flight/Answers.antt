@@ -2,7 +2,6 @@
 use Prim.Native.Nat.{◌+◌, ◌-◌}
 use native.Mathlib.Omega.{arith}
 use mathlib.Core.Path.{◌≡◌}
-use borrow.Author.Rules.{rules}
 use Rattle.list_run.proofs.deliver_flight.Goals as goal
 
 pub sound_flight_delivery-requires : goal.sound_flight_delivery-requires

@@ -2,7 +2,6 @@
 use Prim.Native.Nat.{◌+◌, ◌-◌}
 use native.Mathlib.Omega.{arith}
 use mathlib.Core.Path.{◌≡◌}
-use borrow.Author.Rules.{rules}
 use Rattle.list_run.proofs.deliver_temperature.Goals as goal
 
 pub sound_temperature_delivery-requires : goal.sound_temperature_delivery-requires

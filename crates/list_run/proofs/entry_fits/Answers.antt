@@ -1,7 +1,6 @@
 -- `list_run::entry_fits` meets its contract.
 use borrow.Author.Tests.{le-leb, lt-leb, eq-eqb, ne_eqb}
 use Rattle.call_list.specs.CallList.{entry_fits}
-use borrow.Author.Rules.{rules}
 use Rattle.list_run.proofs.entry_fits.Goals as goal
 
 pub returns-then-first-frames : goal.returns-then-first-frames

@@ -1,6 +1,5 @@
 -- `list_run::flight_call` meets its contract.
 use Rattle.list_run.proofs.Laws.{told_of}
-use borrow.Author.Rules.{rules}
 use Rattle.list_run.proofs.flight_call.Goals as goal
 
 pub returns : goal.returns

@@ -1,6 +1,5 @@
 -- `list_run::quiet` meets its contract.
 use Rattle.list_run.specs.Room.{quiet_progress}
-use borrow.Author.Rules.{rules}
 use Rattle.list_run.proofs.quiet.Goals as goal
 
 pub returns : goal.returns

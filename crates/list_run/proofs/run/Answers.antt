@@ -1,11 +1,11 @@
 -- `list_run::run` meets its contract.
-use Prim.Native.Nat.{◌-◌, ◌/◌}
+use Prim.Native.Nat.{◌/◌, ◌<◌}
 use mathlib.Core.Path.{refl, sym, ap, ◌∙◌}
 use native.Mathlib.Omega.{arith}
 use lib.ListN.{length}
 use Rattle.call_list.specs.declared.Progress.{Progress}
 use Rattle.call_list.specs.CallList.{runs}
-use Rattle.list_run.proofs.Laws.{Going, going-starts, going_on, going-stops, going-over, fits-of, fits_not, least-left}
+use Rattle.list_run.proofs.Laws.{going-starts, going_on, going-stops, going-over, fits-of, fits_not}
 use borrow.Author.Rules.{rules}
 use Rattle.list_run.proofs.run.Goals as goal
 
@@ -15,7 +15,7 @@ loop-p-init c = going-starts _ _ _ _ _ _ _ _ _ _ c.is_sound-sound.ensures c.begi
 pub entry_at-e-requires : goal.entry_at-e-requires
 entry_at-e-requires c =
     let g = c.loop-p.invariant in
-    let l = least-left (length c.args.calls.now / 3) (length c.args.answers.now / 5) _ (rw c.lesser-n.ensures at c.loop-p-test.true) in
+    let l : (c.loop-p.p.place.calls < length c.args.calls.now / 3) × (c.loop-p.p.place.calls < length c.args.answers.now / 5) = (omega arith, omega arith) in
     let same = g.answers in
     let i = g.inside in
     omega (arith, l.0)
@@ -29,10 +29,10 @@ overflow_sub-hits_left c = c.loop-p.invariant.inside.in_hits
 pub overflow_sub-out : goal.overflow_sub-out
 overflow_sub-out c = c.loop-p.invariant.inside.in_output
 
-pub advance-next-requires : goal.advance-next-requires
-advance-next-requires c =
+pub advance-p-requires : goal.advance-p-requires
+advance-p-requires c =
     let g = c.loop-p.invariant in
-    let l = least-left (length c.args.calls.now / 3) (length c.args.answers.now / 5) _ (rw c.lesser-n.ensures at c.loop-p-test.true) in
+    let l : (c.loop-p.p.place.calls < length c.args.calls.now / 3) × (c.loop-p.p.place.calls < length c.args.answers.now / 5) = (omega arith, omega arith) in
     let same = g.answers in
     let i = g.inside in (
       g.judged,
@@ -49,12 +49,12 @@ advance-next-requires c =
 
 pub loop-p-smaller : goal.loop-p-smaller
 loop-p-smaller c =
-    (going_on _ _ _ _ _ _ _ record { kind = 0; first = 0; second = 0 } c.loop-p.invariant _ refl c.advance-next.ensures
+    (going_on _ _ _ _ _ _ _ record { kind = 0; first = 0; second = 0 } c.loop-p.invariant _ refl c.advance-p.ensures
     (search rules) (search rules) (search rules)).1
 
 pub loop-p-preserved : goal.loop-p-preserved
 loop-p-preserved c =
-    (going_on _ _ _ _ _ _ _ record { kind = 0; first = 0; second = 0 } c.loop-p.invariant _ refl c.advance-next.ensures
+    (going_on _ _ _ _ _ _ _ record { kind = 0; first = 0; second = 0 } c.loop-p.invariant _ refl c.advance-p.ensures
     (search rules) (search rules) (search rules)).0
 
 pub shape_of-out-else-entry_fits : goal.shape_of-out-else-entry_fits
@@ -69,7 +69,7 @@ shape_of-answers-else-entry_fits c = c.loop-p.invariant.answers
 pub returns-else-entry_fits : goal.returns-else-entry_fits
 returns-else-entry_fits c =
     let g = c.loop-p.invariant in
-    let l = least-left (length c.args.calls.now / 3) (length c.args.answers.now / 5) _ (rw c.lesser-n.ensures at c.loop-p-test.true) in
+    let l : (c.loop-p.p.place.calls < length c.args.calls.now / 3) × (c.loop-p.p.place.calls < length c.args.answers.now / 5) = (omega arith, omega arith) in
     let same = g.answers in
     let i = g.inside in
     let s = c.args in
@@ -91,6 +91,6 @@ returns c =
     let g = c.loop-p.invariant in
     let same = g.answers in
     let s = c.args in
-    going-over _ _ _ _ _ _ _ g (rw same (rw c.lesser-n.ensures at c.loop-p-test.false))
+    going-over _ _ _ _ _ _ _ g (rw same (rw c.min-n.ensures at c.loop-p-test.false))
     ∙ ap (λ (p : Progress). runs (length s.calls.now / 3) s.calls.now s.frames.now s.hits.now record { progress = p; output = s.out.now; flash = s.flash.now; answers = s.answers.now })
     c.begin-p.ensures

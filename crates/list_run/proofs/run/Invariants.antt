@@ -1,12 +1,7 @@
 -- `list_run::run` meets its contract.
 use Prim.Native.Nat.{◌-◌, ◌/◌}
-use mathlib.Core.Path.{refl, sym, ap, ◌∙◌}
-use native.Mathlib.Omega.{arith}
 use lib.ListN.{length}
-use Rattle.call_list.specs.declared.Progress.{Progress}
-use Rattle.call_list.specs.CallList.{runs}
-use Rattle.list_run.proofs.Laws.{Going, going-starts, going_on, going-stops, going-over, fits-of, fits_not, least-left}
-use borrow.Author.Rules.{rules}
+use Rattle.list_run.proofs.Laws.{Going}
 use Rattle.list_run.proofs.run.Given as goal
 
 abbrev pub invariant-loop-p : goal.invariant-loop-p

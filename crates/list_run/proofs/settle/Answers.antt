@@ -1,5 +1,4 @@
 -- `list_run::settle` meets its contract.
-use borrow.Author.Rules.{rules}
 use Rattle.list_run.proofs.settle.Goals as goal
 
 pub returns : goal.returns

@@ -3,7 +3,6 @@ use Prim.Native.Nat.{◌+◌, ◌-◌}
 use native.Mathlib.Omega.{arith}
 use mathlib.Core.Path.{◌≡◌, refl}
 use Rattle.call_list.specs.CallList.{answers_after}
-use borrow.Author.Rules.{rules}
 use Rattle.list_run.proofs.tell.Goals as goal
 
 pub returns : goal.returns

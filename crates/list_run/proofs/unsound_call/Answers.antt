@@ -1,5 +1,4 @@
 -- `list_run::unsound_call` meets its contract.
-use borrow.Author.Rules.{rules}
 use Rattle.list_run.proofs.unsound_call.Goals as goal
 
 pub returns : goal.returns

@@ -2,7 +2,6 @@
 -- Assumes nothing.
 use mathlib.Core.Path.{sym, ◌∙◌}
 use native.Mathlib.Omega.{arith}
-use borrow.Author.Rules.{rules}
 use Rattle.listing.proofs.Sequence.{length-is}
 use Rattle.listing.proofs.Outcome.{twenty, twenty-one, all-written, size_fits}
 use Rattle.listing.proofs.write_digits.Goals as goal

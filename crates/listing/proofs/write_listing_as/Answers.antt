@@ -2,7 +2,6 @@
 -- Assumes nothing.
 use Prim.Native.Nat.{ℕ}
 use mathlib.Core.Path.{ap, ◌∙◌}
-use borrow.Author.Rules.{rules}
 use Rattle.unit.proofs.Says.{says}
 use Rattle.listing.specs.Listing.{listing}
 use Rattle.listing.proofs.write_listing_as.Goals as goal

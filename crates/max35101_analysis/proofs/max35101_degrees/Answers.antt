@@ -3,4 +3,4 @@ use borrow.Author.Rules.{rules}
 use Rattle.max35101_analysis.proofs.max35101_degrees.Goals as goal
 
 pub returns : goal.returns
-returns c = rw (← c.degrees.ensures.same) c.reading.ensures
+returns c = rw (← c.degrees.ensures.same) c.told.ensures

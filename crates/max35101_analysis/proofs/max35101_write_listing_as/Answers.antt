@@ -11,18 +11,18 @@ pub returns-then-digits-eq2 : goal.returns-then-digits-eq2
 unfolding listed_number listed_out listed_sizes
 returns-then-digits-eq2 c =
     rw (eq-eqb _ _ c.if-digits-eq2.true) (
-      c.listed.ensures.coded ∙ ap (λ (o : Outcome). code_in (number_out o)) c.write_listing_as-l.ensures.same,
+      c.told.ensures.coded ∙ ap (λ (o : Outcome). code_in (number_out o)) c.write_listing_as-l.ensures.same,
       ap (λ (o : Outcome). o.bytes) c.write_listing_as-l.ensures.same,
-      c.listed.ensures.worded ∙ ap (λ (o : Outcome). filled c.args.answer.now (value_out o)) c.write_listing_as-l.ensures.same,
+      c.told.ensures.worded ∙ ap (λ (o : Outcome). filled c.args.answer.now (value_out o)) c.write_listing_as-l.ensures.same,
     )
 
 pub returns-then-digits-eq8 : goal.returns-then-digits-eq8
 unfolding listed_number listed_out listed_sizes
 returns-then-digits-eq8 c =
     rw (ne_eqb _ _ c.if-digits-eq2.false, eq-eqb _ _ c.if-digits-eq8.true) (
-      c.listed-then-digits-eq8.ensures.coded ∙ ap (λ (o : Outcome). code_in (number_out o)) c.write_listing_as-l-then-digits-eq8.ensures.same,
+      c.told-then-digits-eq8.ensures.coded ∙ ap (λ (o : Outcome). code_in (number_out o)) c.write_listing_as-l-then-digits-eq8.ensures.same,
       ap (λ (o : Outcome). o.bytes) c.write_listing_as-l-then-digits-eq8.ensures.same,
-      c.listed-then-digits-eq8.ensures.worded ∙ ap (λ (o : Outcome). filled c.args.answer.now (value_out o)) c.write_listing_as-l-then-digits-eq8.ensures.same,
+      c.told-then-digits-eq8.ensures.worded ∙ ap (λ (o : Outcome). filled c.args.answer.now (value_out o)) c.write_listing_as-l-then-digits-eq8.ensures.same,
     )
 
 pub returns : goal.returns

@@ -4,12 +4,12 @@ use mathlib.Core.List.{List}
 use mathlib.Core.Path.{ap, ◌∙◌}
 use mir.Val.{bool_byte}
 use lib.ListN.{set}
-use Rattle.run_state.specs.Event.{values_of}
+use Rattle.run_state.specs.Event.{event_values}
 use borrow.Author.Rules.{rules}
 use Rattle.max35101_questions.proofs.put_place.Goals as goal
 
 pub returns : goal.returns
-unfolding values_of
+unfolding event_values
 returns c =
     let p = c.args.p in
     c.put-3.ensures

@@ -1,8 +1,7 @@
 -- `outcome::put` meets its contract.
 use mathlib.Core.Path.{sym}
 use lib.Seq.{set_out}
-use borrow.Author.Rules.{rules}
 use Rattle.outcome.proofs.put.Goals as goal
 
 pub returns-else-i-words : goal.returns-else-i-words
-returns-else-i-words c = sym (set_out _ _ _ c.if-i-words.false)
+returns-else-i-words g c = sym (set_out _ _ _ c.if-i-words.false)

@@ -32,7 +32,7 @@ bad Failed l h = (refl, refl)
 
 pub returns-in-Refused : goal.returns-in-Refused
 unfolding code_of words_of
-returns-in-Refused c = (rw c.in-Refused.is, rw c.in-Refused.is)
+returns-in-Refused c = (rw c.in-Refused.is c.number.ensures.0, rw c.in-Refused.is)
 
 pub returns-in-Accepted : goal.returns-in-Accepted
 unfolding code_of

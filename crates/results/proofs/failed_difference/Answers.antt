@@ -8,10 +8,6 @@ pub returns-then-f-2 : goal.returns-then-f-2
 unfolding failed_difference
 returns-then-f-2 c = search (rules, tests)
 
-pub returns-then-f : goal.returns-then-f
+pub returns-else-f : goal.returns-else-f
 unfolding failed_difference
-returns-then-f c = search (rules, tests)
-
-pub returns : goal.returns
-unfolding failed_difference
-returns c = search (rules, tests)
+returns-else-f c = search (rules, tests)

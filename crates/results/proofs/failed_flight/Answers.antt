@@ -1,6 +1,5 @@
 -- `results::failed_flight` meets its contract.
 use Rattle.device.specs.Results.{failed_flight}
-use borrow.Author.Rules.{rules}
 use Rattle.results.proofs.failed_flight.Goals as goal
 
 pub returns : goal.returns

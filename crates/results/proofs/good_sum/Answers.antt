@@ -3,7 +3,6 @@ use borrow.Author.Tests.{le-ltb, lt-ltb}
 use native.Mathlib.Omega.{arith}
 use Rattle.device.proofs.Sound.{flight-of}
 use Rattle.device.specs.Results.{good_sum}
-use borrow.Author.Rules.{rules}
 use Rattle.results.proofs.good_sum.Goals as goal
 
 pub overflow_add-result : goal.overflow_add-result
@@ -12,10 +11,10 @@ overflow_add-result c =
     let b = flight-of c.args.f c.requires.2 in
     omega arith
 
-pub returns-then-k : goal.returns-then-k
+pub returns-then-f : goal.returns-then-f
 unfolding good_sum
-returns-then-k c = simp (← c.biased-difference.ensures.0, lt-ltb _ _ c.if-k.true)
+returns-then-f c = simp (← c.biased.ensures.0, lt-ltb _ _ c.if-f.true)
 
-pub returns : goal.returns
+pub returns-else-f : goal.returns-else-f
 unfolding good_sum
-returns c = simp (le-ltb _ _ c.if-k.false)
+returns-else-f c = simp (le-ltb _ _ c.if-f.false)

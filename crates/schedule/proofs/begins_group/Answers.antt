@@ -1,18 +1,13 @@
 -- `schedule::begins_group` meets its contract.
-use Rattle.device.specs.Event.{begins_group}
-use Rattle.unit.proofs.Tests.{tests}
 use borrow.Author.Rules.{rules}
-use Rattle.schedule.proofs.begins.Reads as begins-reads
+use Rattle.unit.proofs.Tests.{tests}
+use Rattle.device.specs.Event.{begins_group}
 use Rattle.schedule.proofs.begins_group.Goals as goal
-
-pub returns-then-k : goal.returns-then-k
-unfolding begins_group
-returns-then-k c = search (rules, tests, c.if-k.true, c.if-begins.true, ← c.begins.ensures)
 
 pub returns-then-begins : goal.returns-then-begins
 unfolding begins_group
-returns-then-begins c = search (rules, tests, c.if-k.false, c.if-begins.true, ← c.begins.ensures)
+returns-then-begins c = search (rules, tests)
 
-pub returns : goal.returns
+pub returns-else-begins : goal.returns-else-begins
 unfolding begins_group
-returns c = search (rules, tests, c.if-begins.false, ← c.begins.ensures)
+returns-else-begins c = search (rules, tests)

@@ -1,7 +1,7 @@
 -- `schedule::halt_schedule` meets its contract.
-use Rattle.device.specs.Event.{halt_schedule}
-use Rattle.unit.proofs.Tests.{tests}
 use borrow.Author.Rules.{rules}
+use Rattle.unit.proofs.Tests.{tests}
+use Rattle.device.specs.Event.{halt_schedule}
 use Rattle.schedule.proofs.halt_schedule.Goals as goal
 
 pub returns : goal.returns

@@ -4,10 +4,6 @@ use Rattle.unit.proofs.Tests.{tests}
 use Rattle.device.specs.Event.{is_awaited}
 use Rattle.schedule.proofs.is_awaited.Goals as goal
 
-pub returns-then-left-gt0 : goal.returns-then-left-gt0
+pub returns : goal.returns
 unfolding is_awaited
-returns-then-left-gt0 c = search (rules, tests)
-
-pub returns-else-left-gt0 : goal.returns-else-left-gt0
-unfolding is_awaited
-returns-else-left-gt0 c = search (rules, tests)
+returns c = search (rules, tests)

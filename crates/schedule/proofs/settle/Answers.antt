@@ -1,13 +1,13 @@
 -- `schedule::settle` meets its contract.
-use borrow.Author.Tests.{le-ltb, lt-ltb}
-use Rattle.device.specs.Event.{settle}
 use borrow.Author.Rules.{rules}
+use Rattle.unit.proofs.Tests.{tests}
+use Rattle.device.specs.Event.{settle}
 use Rattle.schedule.proofs.settle.Goals as goal
 
-pub returns-then-k : goal.returns-then-k
+pub returns-after-good : goal.returns-after-good
 unfolding settle
-returns-then-k c = simp (← c.count_good-count.ensures, lt-ltb _ _ c.if-k.true)
+returns-after-good c = search (rules, tests)
 
-pub returns : goal.returns
+pub returns-else-k : goal.returns-else-k
 unfolding settle
-returns c = simp (le-ltb _ _ c.if-k.false)
+returns-else-k c = search (rules, tests)

@@ -1,13 +1,13 @@
 -- `schedule::wait_after` meets its contract.
+use borrow.Author.Rules.{rules}
 use Rattle.unit.proofs.Tests.{tests}
 use Rattle.device.specs.Event.{wait_after}
-use borrow.Author.Rules.{rules}
 use Rattle.schedule.proofs.wait_after.Goals as goal
 
-pub returns-then-wait-le1 : goal.returns-then-wait-le1
+pub returns-then-k-le1 : goal.returns-then-k-le1
 unfolding wait_after
-returns-then-wait-le1 c = search (rules, tests)
+returns-then-k-le1 c = search (rules, tests)
 
-pub returns : goal.returns
+pub returns-else-k-le1 : goal.returns-else-k-le1
 unfolding wait_after
-returns c = search (rules, tests)
+returns-else-k-le1 c = search (rules, tests)

@@ -10,6 +10,9 @@ use Rattle.setup_frames.proofs.Outcome.{unsound-refused, short-refused, room-acc
 use Rattle.setup_frames.proofs.Words.{Words}
 use Rattle.setup_frames.proofs.Brought.{refusal-sends-none, buffers-bring}
 use Rattle.setup_frames.proofs.setup_frames.Goals as goal
+use Rattle.refusal.specs.declared.Refusal.{Refusal}
+use Rattle.setup_frames.specs.declared.put.Counts.{Counts}
+use Rattle.std.specs.Prelude.{Result, Ok, Err}
 
 pub returns-then-bytes-lt-MOST_BYTES : goal.returns-then-bytes-lt-MOST_BYTES
 returns-then-bytes-lt-MOST_BYTES c =
@@ -17,7 +20,7 @@ returns-then-bytes-lt-MOST_BYTES c =
     let b = c.args.bytes.now in
     let l = c.args.lengths.now in
     let s = sym c.is_sound.ensures ∙ c.if-is_sound.true in
-    (nothing_written m b l 19 (short-refused m (length b) (length l) s (inl (omega arith))), refusal-sends-none 19)
+    (nothing_written m b l Refusal.ShortBuffer (short-refused m (length b) (length l) s (inl (omega arith))), refusal-sends-none Refusal.ShortBuffer)
 
 pub returns-then-lengths-lt-MOST_FRAMES : goal.returns-then-lengths-lt-MOST_FRAMES
 returns-then-lengths-lt-MOST_FRAMES c =
@@ -25,7 +28,7 @@ returns-then-lengths-lt-MOST_FRAMES c =
     let b = c.args.bytes.now in
     let l = c.args.lengths.now in
     let s = sym c.is_sound.ensures ∙ c.if-is_sound.true in
-    (nothing_written m b l 19 (short-refused m (length b) (length l) s (inr (omega arith))), refusal-sends-none 19)
+    (nothing_written m b l Refusal.ShortBuffer (short-refused m (length b) (length l) s (inr (omega arith))), refusal-sends-none Refusal.ShortBuffer)
 
 pub returns-then-is_sound : goal.returns-then-is_sound
 returns-then-is_sound c =
@@ -36,7 +39,7 @@ returns-then-is_sound c =
     let v = room-accepted m (length b) (length l) s (omega arith) (omega arith) in
     let typed = c.well_formed.0 in
     let words : Words m.setup = record { sixteen = search (rules, typed); below = λ i h. let f : Fits w16 (get_or m.setup i 0) = search (rules, typed) in f.fits } in
-    let w = frames-written m b l _ _ _ _ v c.put_frames-written.ensures in
+    let w = frames-written m b l _ _ _ _ v c.put_frames.ensures in
     (w, λ e. buffers-bring m b l _ _ _ w e words)
 
 pub returns : goal.returns
@@ -45,4 +48,4 @@ returns c =
     let b = c.args.bytes.now in
     let l = c.args.lengths.now in
     let s = sym c.is_sound.ensures ∙ c.if-is_sound.false in
-    (nothing_written m b l 0 (unsound-refused m (length b) (length l) s), refusal-sends-none 0)
+    (nothing_written m b l Refusal.NotSound (unsound-refused m (length b) (length l) s), refusal-sends-none Refusal.NotSound)

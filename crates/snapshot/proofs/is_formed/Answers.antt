@@ -1,7 +1,6 @@
 -- `snapshot::is_formed` meets its contract.
 use borrow.Author.Tests.{eq-eqb, ne_eqb}
 use Rattle.layout.specs.Layout.{formed}
-use borrow.Author.Rules.{rules}
 use Rattle.snapshot.proofs.is_formed.Goals as goal
 
 pub returns-then-bytes-eq1 : goal.returns-then-bytes-eq1

@@ -2,7 +2,6 @@
 use Rattle.layout.specs.Layout.{loaded}
 use Rattle.layout.proofs.Parts.{formed-length}
 use mathlib.Core.Path.{sym, ◌∙◌}
-use borrow.Author.Rules.{rules}
 use Rattle.snapshot.proofs.load.Goals as goal
 
 pub restore-requires : goal.restore-requires

@@ -1,6 +1,5 @@
 -- `snapshot::no_model` meets its contract.
 use Rattle.layout.specs.Layout.{nothing}
-use borrow.Author.Rules.{rules}
 use Rattle.snapshot.proofs.no_model.Goals as goal
 
 pub returns : goal.returns

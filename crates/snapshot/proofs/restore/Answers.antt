@@ -1,6 +1,5 @@
 -- `snapshot::restore` meets its contract.
 use Rattle.layout.specs.Layout.{restored}
-use borrow.Author.Rules.{rules}
 use Rattle.snapshot.proofs.restore.Goals as goal
 
 pub returns : goal.returns

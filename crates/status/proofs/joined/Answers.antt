@@ -1,6 +1,5 @@
 -- `status::joined` meets its contract.
 use Rattle.device.specs.Status.{joined}
-use borrow.Author.Rules.{rules}
 use Rattle.status.proofs.joined.Goals as goal
 
 pub returns : goal.returns

@@ -1,9 +1,10 @@
 -- `status::por_bit` meets its contract.
+use borrow.Author.Rules.{rules}
+use Rattle.unit.proofs.Tests.{tests}
 use Rattle.device.specs.Status.{no_bits}
 use Rattle.device.specs.Status.{por_bit}
-use borrow.Author.Rules.{rules}
 use Rattle.status.proofs.por_bit.Goals as goal
 
 pub returns : goal.returns
 unfolding por_bit no_bits
-returns c = simp c.no_bits-s.ensures
+returns c = search (rules, tests)

@@ -1,12 +1,13 @@
 -- `status::sets_own_bit` meets its contract.
-use Rattle.device.specs.Status.{sets_own_bit}
 use borrow.Author.Rules.{rules}
+use Rattle.unit.proofs.Tests.{tests}
+use Rattle.device.specs.Status.{sets_own_bit}
 use Rattle.status.proofs.sets_own_bit.Goals as goal
 
-pub returns-then-in_event : goal.returns-then-in_event
+pub returns-then-not-in_event : goal.returns-then-not-in_event
 unfolding sets_own_bit
-returns-then-in_event c = simp (c.if-in_event.true, ← c.in_event.ensures)
+returns-then-not-in_event c = search (rules, tests)
 
-pub returns-else-in_event : goal.returns-else-in_event
+pub returns-else-not-in_event : goal.returns-else-not-in_event
 unfolding sets_own_bit
-returns-else-in_event c = simp (c.if-in_event.false, ← c.in_event.ensures)
+returns-else-not-in_event c = search (rules, tests)

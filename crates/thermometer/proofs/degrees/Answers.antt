@@ -5,7 +5,6 @@ use mathlib.Core.List.{List}
 use Rattle.unit.proofs.Says.{says}
 use Rattle.thermometer.specs.Degrees.{degrees_over}
 use Rattle.thermometer.proofs.Pt1000.{passes, passed-same, passed-usable}
-use borrow.Author.Rules.{rules}
 use Rattle.thermometer.proofs.degrees.Goals as goal
 
 pub degrees_over-requires : goal.degrees_over-requires

@@ -3,7 +3,6 @@ use mathlib.Core.Path.{sym, ◌∙◌}
 use Rattle.unit.proofs.Says.{says}
 use Rattle.thermometer.specs.Degrees.{degrees_by}
 use Rattle.thermometer.proofs.Accepted.{accepted-usable}
-use borrow.Author.Rules.{rules}
 use Rattle.thermometer.proofs.degrees_by.Goals as goal
 
 pub degrees_over-requires : goal.degrees_over-requires

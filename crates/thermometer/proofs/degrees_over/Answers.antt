@@ -2,10 +2,11 @@
 use mathlib.Core.Path.{sym, ap, ◌∙◌}
 use mathlib.Core.Logic.{inl, inr, ⊎_elim}
 use native.Mathlib.Omega.{arith}
-use Rattle.thermometer.specs.declared.InDegrees.TheVariants.{Thousandths}
+use Rattle.std.specs.Prelude.{Ok, Err}
+use Rattle.refusal.specs.declared.Refusal.{Refusal}
+use Rattle.refusal.specs.Number.{number, number_told, value_told}
 use Rattle.thermometer.specs.Degrees.{thousandths}
 use Rattle.thermometer.proofs.Refusal.{off-refused, on-answered}
-use borrow.Author.Rules.{rules}
 use Rattle.thermometer.proofs.degrees_over.Goals as goal
 
 pub returns-then-probe-eq-FAILED : goal.returns-then-probe-eq-FAILED
@@ -23,13 +24,13 @@ returns-then-reference-eq0 c =
     let at = c.args in
     sym (off-refused at.table.now at.probe at.reference (inr (inr (inl c.if-reference-eq0.true))))
 
-pub returns-then-r-wide : goal.returns-then-r-wide
-returns-then-r-wide c =
+pub returns-then-r-from : goal.returns-then-r-from
+returns-then-r-from c =
     let at = c.args in
     sym (off-refused at.table.now at.probe at.reference (inr (inr (inr (inl (omega arith))))))
 
-pub returns-then-wide-r : goal.returns-then-wide-r
-returns-then-wide-r c =
+pub returns-then-from-r : goal.returns-then-from-r
+returns-then-from-r c =
     let at = c.args in
     sym (off-refused at.table.now at.probe at.reference (inr (inr (inr (inr (omega arith))))))
 
@@ -38,7 +39,7 @@ returns c =
     let zero = c in
     let at = c.args in
     let milliohms = c.resistance-r in
-    ap Thousandths
+    ap Ok
     (c.thousandths.ensures ∙ ap (thousandths at.table.now) milliohms.ensures) ∙
     sym
     (on-answered at.table.now at.probe at.reference

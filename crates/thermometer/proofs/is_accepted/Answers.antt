@@ -2,7 +2,6 @@
 use native.Mathlib.Omega.{arith}
 use mathlib.Core.Path.{◌∙◌}
 use Rattle.thermometer.proofs.Accepted.{too_short, too_long, too-high, rise-decides}
-use borrow.Author.Rules.{rules}
 use Rattle.thermometer.proofs.is_accepted.Goals as goal
 
 pub returns-then-n-lt-FEWEST : goal.returns-then-n-lt-FEWEST

@@ -3,7 +3,6 @@ use mathlib.Core.Path.{sym, ◌∙◌}
 use native.Mathlib.Omega.{arith}
 use Rattle.thermometer.specs.Degrees.{interpolated}
 use Rattle.thermometer.proofs.Meaning.{between, last_of}
-use borrow.Author.Rules.{rules}
 use Rattle.thermometer.proofs.thousandths.Goals as goal
 
 pub returns-then-table-end : goal.returns-then-table-end

@@ -1,6 +1,5 @@
 -- `checker::close::begins` meets its contract.
 -- Assumes nothing.
-use borrow.Author.Rules.{rules}
 use borrow.Author.Tests.{eq-eqb, ne_eqb}
 use Rattle.item_checks.specs.Close.{begins_with}
 use Rattle.checker.proofs.close.begins.Goals as goal

@@ -1,6 +1,5 @@
 -- `checker::close::close` meets its contract.
 -- Assumes nothing.
-use borrow.Author.Rules.{rules}
 use borrow.Author.Tests.{eq-eqb, ne_eqb}
 use Rattle.item_checks.specs.Close.{closed}
 use Rattle.checker.proofs.close.close.Goals as goal

@@ -1,6 +1,5 @@
 -- `checker::close::compare` meets its contract.
 -- Assumes nothing.
-use borrow.Author.Rules.{rules}
 use mathlib.Core.Path.{refl}
 use Rattle.item_state.specs.Log.{added}
 use Rattle.item_checks.specs.Close.{compared}

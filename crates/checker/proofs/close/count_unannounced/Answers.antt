@@ -1,6 +1,5 @@
 -- `checker::close::count_unannounced` meets its contract.
 -- Assumes nothing.
-use borrow.Author.Rules.{rules}
 use borrow.Author.Tests.{eq-eqb, ne_eqb}
 use Rattle.item_state.specs.Log.{added}
 use Rattle.item_checks.specs.Close.{refusal_counted}

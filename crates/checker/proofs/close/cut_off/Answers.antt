@@ -1,6 +1,5 @@
 -- `checker::close::cut_off` meets its contract.
 -- Assumes nothing.
-use borrow.Author.Rules.{rules}
 use Rattle.item_checks.specs.Close.{cut_off}
 use Rattle.checker.proofs.close.cut_off.Goals as goal
 

@@ -1,6 +1,5 @@
 -- `checker::close::first_end` meets its contract.
 -- Assumes nothing.
-use borrow.Author.Rules.{rules}
 use Rattle.item_checks.specs.Close.{first_end}
 use Rattle.checker.proofs.close.first_end.Goals as goal
 

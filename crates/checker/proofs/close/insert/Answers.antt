@@ -1,6 +1,5 @@
 -- `checker::close::insert` meets its contract.
 -- Assumes nothing.
-use borrow.Author.Rules.{rules}
 use native.Mathlib.Omega.{arith}
 use Rattle.checker.proofs.CloseLaws.{first-early, in_order, inserted-short, inserted-long}
 use Rattle.checker.proofs.close.insert.Goals as goal

@@ -1,6 +1,5 @@
 -- `checker::close::judge` meets its contract.
 -- Assumes nothing.
-use borrow.Author.Rules.{rules}
 use Rattle.checker.proofs.CloseLaws.{wanted-put}
 use mathlib.Core.Path.{refl}
 use Rattle.item_checks.specs.Close.{line_words}

@@ -1,6 +1,5 @@
 -- `checker::close::judged` meets its contract.
 -- Assumes nothing.
-use borrow.Author.Rules.{rules}
 use mathlib.Core.Path.{refl}
 use borrow.Author.Tests.{eq-eqb, ne_eqb}
 use Rattle.item_checks.specs.Close.{is_announced, judged_log, expected_from}

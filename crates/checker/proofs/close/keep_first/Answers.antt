@@ -1,6 +1,5 @@
 -- `checker::close::keep_first` meets its contract.
 -- Assumes nothing.
-use borrow.Author.Rules.{rules}
 use borrow.Author.Tests.{eq-eqb, ne_eqb}
 use Rattle.item_checks.specs.Close.{tail, shortened}
 use Rattle.checker.proofs.close.keep_first.Goals as goal

@@ -1,6 +1,5 @@
 -- `checker::close::keep_trouble` meets its contract.
 -- Assumes nothing.
-use borrow.Author.Rules.{rules}
 use borrow.Author.Tests.{eq-eqb, ne_eqb}
 use Rattle.item_checks.specs.Close.{looked}
 use Rattle.checker.proofs.close.keep_trouble.Goals as goal

@@ -1,6 +1,5 @@
 -- `checker::close::shorten` meets its contract.
 -- Assumes nothing.
-use borrow.Author.Rules.{rules}
 use borrow.Author.Tests.{eq-eqb, ne_eqb, le-leb, lt-leb}
 use Rattle.item_checks.specs.Close.{kept_briefly}
 use Rattle.checker.proofs.close.shorten.Goals as goal

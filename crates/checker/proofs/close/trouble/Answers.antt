@@ -1,6 +1,5 @@
 -- `checker::close::trouble` meets its contract.
 -- Assumes nothing.
-use borrow.Author.Rules.{rules}
 use Rattle.item_checks.specs.Close.{trouble}
 use Rattle.checker.proofs.close.trouble.Goals as goal
 

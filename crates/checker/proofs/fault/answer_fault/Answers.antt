@@ -1,6 +1,5 @@
 -- `checker::fault::answer_fault` meets its contract.
 -- Assumes nothing.
-use borrow.Author.Rules.{rules}
 use mathlib.Core.Path.{refl}
 use Rattle.item_checks.specs.Fault.{left_of, fault_log}
 use Rattle.checker.proofs.fault.answer_fault.Goals as goal

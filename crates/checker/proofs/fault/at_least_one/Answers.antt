@@ -2,7 +2,6 @@
 -- Assumes nothing.
 use borrow.Author.Tests.{eq-eqb, ne_eqb}
 use Rattle.item_checks.specs.Fault.{at_least_one}
-use borrow.Author.Rules.{rules}
 use Rattle.checker.proofs.fault.at_least_one.Goals as goal
 
 pub returns-then-n-eq0 : goal.returns-then-n-eq0

@@ -1,14 +1,13 @@
 -- `checker::fault::is_fault` meets its contract.
 -- Assumes nothing.
-use borrow.Author.Rules.{rules}
 use types.Run.{OneOf, miss}
 use denote.Enum.Declared.{tag_of}
 use Rattle.line.specs.contracts.Content.{the_type}
 use Rattle.line.specs.declared.Content.{Content}
-use mathlib.Core.Path.{◌≡◌, refl}
+use mathlib.Core.Path.{◌≡◌}
 use Prim.Native.Nat.{ℕ}
 use mathlib.Core.List.{List, [], ◌∷◌}
-use mathlib.Core.Bool.{Bool, true, false}
+use mathlib.Core.Bool.{Bool}
 use Rattle.item_checks.specs.Fault.{is_past_or_full, is_fault}
 use borrow.Enum.Refused.{opened}
 use Rattle.checker.proofs.fault.is_fault.Goals as goal

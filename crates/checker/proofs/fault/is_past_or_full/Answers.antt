@@ -1,6 +1,5 @@
 -- `checker::fault::is_past_or_full` meets its contract.
 -- Assumes nothing.
-use borrow.Author.Rules.{rules}
 use types.Run.{OneOf, miss}
 use denote.Enum.Declared.{tag_of}
 use Rattle.line.specs.contracts.Content.{the_type}
@@ -8,7 +7,7 @@ use Rattle.line.specs.declared.Content.{Content}
 use mathlib.Core.Path.{◌≡◌, refl}
 use Prim.Native.Nat.{ℕ}
 use mathlib.Core.List.{List, [], ◌∷◌}
-use mathlib.Core.Bool.{Bool, true, false}
+use mathlib.Core.Bool.{false}
 use Rattle.item_checks.specs.Fault.{is_past_or_full}
 use borrow.Enum.Refused.{opened}
 use Rattle.checker.proofs.fault.is_past_or_full.Goals as goal

@@ -1,6 +1,5 @@
 -- `checker::fault::tell_fault` meets its contract.
 -- Assumes nothing.
-use borrow.Author.Rules.{rules}
 use Rattle.item_checks.specs.Fault.{fault_said}
 use Rattle.item_state.specs.Log.{added, said}
 use Rattle.checker.proofs.fault.tell_fault.Goals as goal

@@ -1,6 +1,5 @@
 -- `checker::open::begin_line` meets its contract.
 -- Assumes nothing.
-use borrow.Author.Rules.{rules}
 use Rattle.item_checks.specs.Open.{begun}
 use Rattle.checker.proofs.open.begin_line.Goals as goal
 

@@ -1,6 +1,5 @@
 -- `checker::open::count_line` meets its contract.
 -- Assumes nothing.
-use borrow.Author.Rules.{rules}
 use Rattle.item_state.specs.Log.{added}
 use Rattle.item_checks.specs.Open.{line_counted}
 use Rattle.checker.proofs.open.count_line.Goals as goal

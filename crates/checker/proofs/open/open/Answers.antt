@@ -1,6 +1,5 @@
 -- `checker::open::open` meets its contract.
 -- Assumes nothing.
-use borrow.Author.Rules.{rules}
 use Rattle.item_checks.specs.Open.{opened}
 use Rattle.checker.proofs.OpenLaws.{left-bounded}
 use Rattle.checker.proofs.open.open.Goals as goal

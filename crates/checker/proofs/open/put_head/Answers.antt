@@ -1,6 +1,5 @@
 -- `checker::open::put_head` meets its contract.
 -- Assumes nothing.
-use borrow.Author.Rules.{rules}
 use borrow.Author.Tests.{eq-eqb, ne_eqb}
 use Rattle.item_state.specs.Log.{said}
 use Rattle.item_checks.specs.Open.{headed}

@@ -1,6 +1,5 @@
 -- `checker::open::put_item` meets its contract.
 -- Assumes nothing.
-use borrow.Author.Rules.{rules}
 use mathlib.Core.List.{[], ◌∷◌}
 use Rattle.item_state.specs.Log.{said}
 use Rattle.wording.specs.Wording.{line_feed}

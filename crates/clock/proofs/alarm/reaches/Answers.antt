@@ -8,6 +8,6 @@ pub returns-then-before-after : goal.returns-then-before-after
 unfolding reaches
 returns-then-before-after c = search (rules, tests)
 
-pub returns : goal.returns
+pub returns-else-before-after : goal.returns-else-before-after
 unfolding reaches
-returns c = search (rules, tests)
+returns-else-before-after c = search (rules, tests)

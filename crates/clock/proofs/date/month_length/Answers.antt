@@ -1,33 +1,21 @@
 -- `clock::date::month_length` meets its contract.
+use borrow.Author.Rules.{rules}
 use Rattle.unit.proofs.Tests.{tests}
 use Rattle.calendar.specs.Calendar.{month_length}
-use borrow.Author.Rules.{rules}
 use Rattle.clock.proofs.date.month_length.Goals as goal
 
-pub returns-then-leap : goal.returns-then-leap
+pub returns-in-2 : goal.returns-in-2
 unfolding month_length
-returns-then-leap c = search (rules, tests, c.if-leap.true, ← c.leap.ensures, c.if-month-eq2.true)
+returns-in-2 c = search (rules, tests)
 
-pub returns-then-month-eq2 : goal.returns-then-month-eq2
+pub returns-in-2-2 : goal.returns-in-2-2
 unfolding month_length
-returns-then-month-eq2 c = search (rules, tests, c.if-leap.false, ← c.leap.ensures, c.if-month-eq2.true)
+returns-in-2-2 c = search (rules, tests)
 
-pub returns-then-month-eq4 : goal.returns-then-month-eq4
+pub returns-in-4 : goal.returns-in-4
 unfolding month_length
-returns-then-month-eq4 c = search (rules, tests)
+returns-in-4 c = search (rules, tests)
 
-pub returns-then-month-eq6 : goal.returns-then-month-eq6
+pub returns-in_default : goal.returns-in_default
 unfolding month_length
-returns-then-month-eq6 c = search (rules, tests)
-
-pub returns-then-month-eq9 : goal.returns-then-month-eq9
-unfolding month_length
-returns-then-month-eq9 c = search (rules, tests)
-
-pub returns-then-month-eq11 : goal.returns-then-month-eq11
-unfolding month_length
-returns-then-month-eq11 c = search (rules, tests)
-
-pub returns : goal.returns
-unfolding month_length
-returns c = search (rules, tests)
+returns-in_default c = search (rules, tests)

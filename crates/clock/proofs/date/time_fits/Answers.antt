@@ -4,22 +4,10 @@ use Rattle.unit.proofs.Tests.{tests}
 use Rattle.calendar.specs.Calendar.{time_fits}
 use Rattle.clock.proofs.date.time_fits.Goals as goal
 
-pub returns-then-c-gt23 : goal.returns-then-c-gt23
+pub returns-then-c-le59-2 : goal.returns-then-c-le59-2
 unfolding time_fits
-returns-then-c-gt23 c = search (rules, tests)
+returns-then-c-le59-2 c = search (rules, tests)
 
-pub returns-then-c-gt59 : goal.returns-then-c-gt59
+pub returns-else-c-le59-2 : goal.returns-else-c-le59-2
 unfolding time_fits
-returns-then-c-gt59 c = search (rules, tests)
-
-pub returns-then-c-gt59-2 : goal.returns-then-c-gt59-2
-unfolding time_fits
-returns-then-c-gt59-2 c = search (rules, tests)
-
-pub returns-then-t-gt32767 : goal.returns-then-t-gt32767
-unfolding time_fits
-returns-then-t-gt32767 c = search (rules, tests)
-
-pub returns : goal.returns
-unfolding time_fits
-returns c = search (rules, tests)
+returns-else-c-le59-2 c = search (rules, tests)

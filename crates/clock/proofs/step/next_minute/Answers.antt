@@ -1,13 +1,13 @@
 -- `clock::step::next_minute` meets its contract.
+use borrow.Author.Rules.{rules}
 use Rattle.unit.proofs.Tests.{tests}
 use Rattle.calendar.specs.Calendar.{next_minute}
-use borrow.Author.Rules.{rules}
 use Rattle.clock.proofs.step.next_minute.Goals as goal
 
 pub returns-then-c-ge59 : goal.returns-then-c-ge59
 unfolding next_minute
 returns-then-c-ge59 c = search (rules, tests)
 
-pub returns : goal.returns
+pub returns-else-c-ge59 : goal.returns-else-c-ge59
 unfolding next_minute
-returns c = search (rules, tests)
+returns-else-c-ge59 c = search (rules, tests)

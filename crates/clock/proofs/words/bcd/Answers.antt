@@ -1,7 +1,7 @@
 -- `clock::words::bcd` meets its contract.
+use borrow.Author.Rules.{rules}
 use Rattle.unit.proofs.Tests.{tests}
 use Rattle.calendar.specs.Words.{bcd}
-use borrow.Author.Rules.{rules}
 use Rattle.clock.proofs.words.bcd.Goals as goal
 
 pub returns : goal.returns

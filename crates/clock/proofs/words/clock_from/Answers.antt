@@ -6,4 +6,4 @@ use Rattle.clock.proofs.words.clock_from.Goals as goal
 
 pub returns : goal.returns
 unfolding clock_from
-returns c = search (rules, tests, ← c.twelve_in-twelve.ensures, ← c.hour_in-hour.ensures, ← c.minute_in-minute.ensures)
+returns c = search (rules, tests)

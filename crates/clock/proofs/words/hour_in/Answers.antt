@@ -1,23 +1,17 @@
 -- `clock::words::hour_in` meets its contract.
 use borrow.Author.Rules.{rules}
-use borrow.Author.Tests.{eq-eqb, ne_eqb}
+use Rattle.unit.proofs.Tests.{tests}
 use Rattle.calendar.specs.Words.{hour_in}
 use Rattle.clock.proofs.words.hour_in.Goals as goal
 
+pub returns-then-not-twelve_in : goal.returns-then-not-twelve_in
+unfolding hour_in
+returns-then-not-twelve_in c = search (rules, tests)
+
 pub returns-then-w-eq1 : goal.returns-then-w-eq1
 unfolding hour_in
-returns-then-w-eq1 c = simp (← c.hour_named-named.ensures, ← c.twelve_in.ensures, c.if-twelve_in.true, eq-eqb _ _ c.if-w-eq1.true)
+returns-then-w-eq1 c = search (rules, tests)
 
-pub returns-then-twelve_in : goal.returns-then-twelve_in
+pub returns-else-w-eq1 : goal.returns-else-w-eq1
 unfolding hour_in
-returns-then-twelve_in c =
-    simp (
-      ← c.hour_named-named.ensures,
-      ← c.twelve_in.ensures,
-      c.if-twelve_in.true,
-      ne_eqb _ _ c.if-w-eq1.false,
-    )
-
-pub returns : goal.returns
-unfolding hour_in
-returns c = simp (← c.hour_named-named.ensures, ← c.twelve_in.ensures, c.if-twelve_in.false)
+returns-else-w-eq1 c = search (rules, tests)

@@ -6,8 +6,8 @@ use Rattle.clock.proofs.words.hour_named.Goals as goal
 
 pub returns-then-twelve_in : goal.returns-then-twelve_in
 unfolding hour_named
-returns-then-twelve_in c = search (rules, tests, c.if-twelve_in.true, ← c.twelve_in.ensures)
+returns-then-twelve_in c = search (rules, tests)
 
-pub returns : goal.returns
+pub returns-else-twelve_in : goal.returns-else-twelve_in
 unfolding hour_named
-returns c = search (rules, tests, c.if-twelve_in.false, ← c.twelve_in.ensures)
+returns-else-twelve_in c = search (rules, tests)

@@ -4,14 +4,10 @@ use Rattle.unit.proofs.Tests.{tests}
 use Rattle.calendar.specs.Words.{time_digits}
 use Rattle.clock.proofs.words.time_digits.Goals as goal
 
-pub returns-then-w-gt9 : goal.returns-then-w-gt9
+pub returns-then-w-le9 : goal.returns-then-w-le9
 unfolding time_digits
-returns-then-w-gt9 c = search (rules, tests)
+returns-then-w-le9 c = search (rules, tests)
 
-pub returns-then-w-gt9-2 : goal.returns-then-w-gt9-2
+pub returns-else-w-le9 : goal.returns-else-w-le9
 unfolding time_digits
-returns-then-w-gt9-2 c = search (rules, tests)
-
-pub returns : goal.returns
-unfolding time_digits
-returns c = search (rules, tests)
+returns-else-w-le9 c = search (rules, tests)

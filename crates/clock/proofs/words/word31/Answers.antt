@@ -6,4 +6,4 @@ use Rattle.clock.proofs.words.word31.Goals as goal
 
 pub returns : goal.returns
 unfolding word31
-returns c = search (rules, tests, ← c.hour_digits.ensures.0, ← c.bcd.ensures)
+returns c = search (rules, tests)

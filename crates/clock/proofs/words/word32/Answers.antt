@@ -1,7 +1,7 @@
 -- `clock::words::word32` meets its contract.
+use borrow.Author.Rules.{rules}
 use Rattle.unit.proofs.Tests.{tests}
 use Rattle.calendar.specs.Words.{word32}
-use borrow.Author.Rules.{rules}
 use Rattle.clock.proofs.words.word32.Goals as goal
 
 pub returns : goal.returns

@@ -2,7 +2,6 @@
 use mathlib.Core.Path.{ap}
 use Prim.Native.Nat.{ℕ}
 use native.Mathlib.Omega.{arith}
-use borrow.Author.Rules.{rules}
 use Rattle.unit.specs.declared.Quanta.{Quanta}
 use Rattle.hit.proofs.Rows.{late-row}
 use Rattle.evaluation.proofs.limit.late_from.Goals as goal

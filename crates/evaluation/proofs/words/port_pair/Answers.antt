@@ -1,19 +1,17 @@
 -- `evaluation::words::port_pair` meets its contract.
 use borrow.Author.Rules.{rules}
-use borrow.Author.Tests.{le-leb, lt-leb, lt-ltb, le-ltb}
+use Rattle.unit.proofs.Tests.{tests}
 use Rattle.hit.specs.Words.{port_pair}
 use Rattle.evaluation.proofs.words.port_pair.Goals as goal
 
-pub returns-then-limit-word : goal.returns-then-limit-word
+pub returns-then-limit-quanta : goal.returns-then-limit-quanta
 unfolding port_pair
-returns-then-limit-word c = simp (le-leb _ _ c.if-limit-word.true)
+returns-then-limit-quanta c = search (rules, tests)
 
-pub returns-then-word-short : goal.returns-then-word-short
+pub returns-then-quanta-short : goal.returns-then-quanta-short
 unfolding port_pair
-returns-then-word-short c =
-    simp (lt-leb _ _ c.if-limit-word.false, ← c.short_below-short.ensures, lt-ltb _ _ c.if-word-short.true)
+returns-then-quanta-short c = search (rules, tests)
 
-pub returns : goal.returns
+pub returns-else-quanta-short : goal.returns-else-quanta-short
 unfolding port_pair
-returns c =
-    simp (lt-leb _ _ c.if-limit-word.false, ← c.short_below-short.ensures, le-ltb _ _ c.if-word-short.false)
+returns-else-quanta-short c = search (rules, tests)

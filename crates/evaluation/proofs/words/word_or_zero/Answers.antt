@@ -1,13 +1,21 @@
 -- `evaluation::words::word_or_zero` meets its contract.
-use Rattle.unit.proofs.Tests.{tests}
-use Rattle.hit.specs.Words.{word_or_zero}
+use Prim.Native.Nat.{ℕ}
+use mathlib.Core.Path.{◌≡◌, refl, ◌∙◌}
+use mathlib.Core.List.{List}
+use native.Mathlib.Omega.{arith}
+use lib.ListN.{length, get_or, get_or-eq_default}
 use borrow.Author.Rules.{rules}
+use Rattle.unit.proofs.Cases.{by-ltb}
+use Rattle.hit.specs.Words.{word_or_zero}
 use Rattle.evaluation.proofs.words.word_or_zero.Goals as goal
 
-pub returns-then-i-words : goal.returns-then-i-words
+-- past its end a list reads 0
+padded : (words : List ℕ) (i : ℕ) → get_or words i 0 ≡ word_or_zero words i
 unfolding word_or_zero
-returns-then-i-words c = search (rules, tests)
+padded words i =
+    by-ltb i (length words) (λ h t. rw t refl) (λ h t. rw t (get_or-eq_default words 0 (omega arith)))
 
-pub returns-else-i-words : goal.returns-else-i-words
-unfolding word_or_zero
-returns-else-i-words c = search (rules, tests)
+pub returns : goal.returns
+returns c =
+    let read : c.unwrap_or.result ≡ get_or c.args.words.now c.args.i 0 = search rules in
+    read ∙ padded _ _

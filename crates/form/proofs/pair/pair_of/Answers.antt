@@ -2,7 +2,6 @@
 -- Assumes nothing.
 use mathlib.Core.Path.{refl}
 use Rattle.form.specs.Form.{pair_of}
-use borrow.Author.Rules.{rules}
 use Rattle.form.proofs.pair.pair_of.Goals as goal
 
 pub returns : goal.returns

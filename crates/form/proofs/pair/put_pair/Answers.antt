@@ -3,7 +3,6 @@
 use Rattle.form.specs.Form.{pair_texts}
 use Rattle.numeral.specs.Ascii.{ascii}
 use Rattle.wording.proofs.Each.{put_one, put_first}
-use borrow.Author.Rules.{rules}
 use Rattle.form.proofs.pair.put_pair.Goals as goal
 
 pub returns : goal.returns

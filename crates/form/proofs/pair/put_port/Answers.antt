@@ -4,7 +4,6 @@ use Rattle.form.specs.Form.{port_texts}
 use Rattle.numeral.specs.Ascii.{ascii}
 use Rattle.wording.proofs.Each.{put_one, put_then}
 use borrow.Author.Tests.{eq-eqb, ne_eqb}
-use borrow.Author.Rules.{rules}
 use Rattle.form.proofs.pair.put_port.Goals as goal
 
 pub returns-then-q-eq0 : goal.returns-then-q-eq0

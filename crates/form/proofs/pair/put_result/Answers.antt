@@ -1,7 +1,6 @@
 -- `form::pair::put_result` meets its contract.
 -- Assumes nothing.
 use Rattle.wording.proofs.Each.{put_then}
-use borrow.Author.Rules.{rules}
 use Rattle.form.proofs.pair.put_result.Goals as goal
 
 pub returns : goal.returns

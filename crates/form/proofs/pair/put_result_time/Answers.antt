@@ -4,7 +4,6 @@ use Rattle.form.specs.Form.{result_texts}
 use Rattle.numeral.specs.Ascii.{ascii}
 use Rattle.wording.proofs.Each.{put_one}
 use borrow.Author.Tests.{eq-eqb, ne_eqb}
-use borrow.Author.Rules.{rules}
 use Rattle.form.proofs.pair.put_result_time.Goals as goal
 
 pub returns-then-q-eq4294967295 : goal.returns-then-q-eq4294967295

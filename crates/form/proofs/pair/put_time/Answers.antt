@@ -5,7 +5,6 @@ use Rattle.form.specs.Form.{time_texts}
 use Rattle.numeral.specs.Ascii.{ascii}
 use Rattle.wording.proofs.Each.{put_one, put_first}
 use native.Mathlib.Omega.{arith}
-use borrow.Author.Rules.{rules}
 use Rattle.form.proofs.pair.put_time.Goals as goal
 
 pub overflow_sub-start : goal.overflow_sub-start

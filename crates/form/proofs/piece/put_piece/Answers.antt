@@ -1,47 +1,59 @@
 -- `form::piece::put_piece` meets its contract.
 -- Assumes nothing.
+use Rattle.std.proofs.Common.{◌≡◌, arith}
+use borrow.Author.Tests.{ne_eqb}
 use Rattle.form.specs.Form.{piece_texts}
 use Rattle.wording.proofs.Each.{put_one}
-use borrow.Author.Tests.{eq-eqb, ne_eqb}
-use borrow.Author.Rules.{rules}
 use Rattle.form.proofs.piece.put_piece.Goals as goal
 
-pub returns-then-c-eq35 : goal.returns-then-c-eq35
+pub returns-in-35 : goal.returns-in-35
 unfolding piece_texts
-returns-then-c-eq35 c = rw (← c.byte-c.ensures, eq-eqb _ _ c.if-c-eq35.true) (put_one c.put_decimal.ensures)
+returns-in-35 c = rw (← c.byte.ensures, c.in-35.is) (put_one c.put_decimal.ensures)
 
-pub returns-then-c-eq36 : goal.returns-then-c-eq36
+pub returns-in-36 : goal.returns-in-36
 unfolding piece_texts
-returns-then-c-eq36 c = rw (← c.byte-c.ensures, ne_eqb _ _ c.if-c-eq35.false, eq-eqb _ _ c.if-c-eq36.true) c.put_register.ensures
+returns-in-36 c = rw (← c.byte.ensures, c.in-36.is) c.put_register.ensures
 
-pub returns-then-c-eq37 : goal.returns-then-c-eq37
+pub returns-in-64 : goal.returns-in-64
 unfolding piece_texts
-returns-then-c-eq37 c = rw (← c.byte-c.ensures, ne_eqb _ _ c.if-c-eq35.false, ne_eqb _ _ c.if-c-eq36.false, eq-eqb _ _ c.if-c-eq37.true) (put_one c.put_hex.ensures)
+returns-in-64 c = rw (← c.byte.ensures, c.in-64.is) c.put_register-in-64.ensures
 
-pub returns-then-c-eq38 : goal.returns-then-c-eq38
+pub returns-in-37 : goal.returns-in-37
 unfolding piece_texts
-returns-then-c-eq38 c = rw (← c.byte-c.ensures, ne_eqb _ _ c.if-c-eq35.false, ne_eqb _ _ c.if-c-eq36.false, ne_eqb _ _ c.if-c-eq37.false, eq-eqb _ _ c.if-c-eq38.true) (rw (← c.bytes_from.ensures) c.put_plural.ensures)
+returns-in-37 c = rw (← c.byte.ensures, c.in-37.is) (put_one c.put_hex.ensures)
 
-pub returns-then-c-eq63 : goal.returns-then-c-eq63
+pub returns-in-38 : goal.returns-in-38
 unfolding piece_texts
-returns-then-c-eq63 c = rw (← c.byte-c.ensures, ne_eqb _ _ c.if-c-eq35.false, ne_eqb _ _ c.if-c-eq36.false, ne_eqb _ _ c.if-c-eq37.false, ne_eqb _ _ c.if-c-eq38.false, eq-eqb _ _ c.if-c-eq63.true) (rw (← c.bytes_from-then-c-eq63.ensures, ← c.digit.ensures) c.put_where.ensures)
+returns-in-38 c = rw (← c.byte.ensures, c.in-38.is) (rw c.bytes_from.ensures at c.put_plural.ensures)
 
-pub returns-then-c-eq64 : goal.returns-then-c-eq64
+pub returns-in-63 : goal.returns-in-63
 unfolding piece_texts
-returns-then-c-eq64 c = rw (← c.byte-c.ensures, ne_eqb _ _ c.if-c-eq35.false, ne_eqb _ _ c.if-c-eq36.false, ne_eqb _ _ c.if-c-eq37.false, ne_eqb _ _ c.if-c-eq38.false, ne_eqb _ _ c.if-c-eq63.false, eq-eqb _ _ c.if-c-eq64.true) c.put_register-then-c-eq64.ensures
+returns-in-63 c = rw (← c.byte.ensures, c.in-63.is) (rw (c.bytes_from-in-63.ensures, c.digit.ensures) at c.put_where.ensures)
 
-pub returns-then-c-eq60 : goal.returns-then-c-eq60
+pub returns-in-60 : goal.returns-in-60
 unfolding piece_texts
-returns-then-c-eq60 c = rw (← c.byte-c.ensures, ne_eqb _ _ c.if-c-eq35.false, ne_eqb _ _ c.if-c-eq36.false, ne_eqb _ _ c.if-c-eq37.false, ne_eqb _ _ c.if-c-eq38.false, ne_eqb _ _ c.if-c-eq63.false, ne_eqb _ _ c.if-c-eq64.false, eq-eqb _ _ c.if-c-eq60.true) (rw (← c.pair_of.ensures) c.put_pair.ensures)
+returns-in-60 c = rw (← c.byte.ensures, c.in-60.is) (rw c.pair_of.ensures at c.put_pair.ensures)
 
-pub returns-then-c-eq61 : goal.returns-then-c-eq61
+pub returns-in-61 : goal.returns-in-61
 unfolding piece_texts
-returns-then-c-eq61 c = rw (← c.byte-c.ensures, ne_eqb _ _ c.if-c-eq35.false, ne_eqb _ _ c.if-c-eq36.false, ne_eqb _ _ c.if-c-eq37.false, ne_eqb _ _ c.if-c-eq38.false, ne_eqb _ _ c.if-c-eq63.false, ne_eqb _ _ c.if-c-eq64.false, ne_eqb _ _ c.if-c-eq60.false, eq-eqb _ _ c.if-c-eq61.true) (rw (← c.pair_of-then-c-eq61.ensures) c.put_result.ensures)
+returns-in-61 c = rw (← c.byte.ensures, c.in-61.is) (rw c.pair_of-in-61.ensures at c.put_result.ensures)
 
-pub returns-then-c-eq62 : goal.returns-then-c-eq62
+pub returns-in-62 : goal.returns-in-62
 unfolding piece_texts
-returns-then-c-eq62 c = rw (← c.byte-c.ensures, ne_eqb _ _ c.if-c-eq35.false, ne_eqb _ _ c.if-c-eq36.false, ne_eqb _ _ c.if-c-eq37.false, ne_eqb _ _ c.if-c-eq38.false, ne_eqb _ _ c.if-c-eq63.false, ne_eqb _ _ c.if-c-eq64.false, ne_eqb _ _ c.if-c-eq60.false, ne_eqb _ _ c.if-c-eq61.false, eq-eqb _ _ c.if-c-eq62.true) (rw (← c.pair_of-then-c-eq62.ensures) c.put_port.ensures)
+returns-in-62 c = rw (← c.byte.ensures, c.in-62.is) (rw c.pair_of-in-62.ensures at c.put_port.ensures)
 
-pub returns : goal.returns
+pub returns-in_default : goal.returns-in_default
 unfolding piece_texts
-returns c = rw (← c.byte-c.ensures, ne_eqb _ _ c.if-c-eq35.false, ne_eqb _ _ c.if-c-eq36.false, ne_eqb _ _ c.if-c-eq37.false, ne_eqb _ _ c.if-c-eq38.false, ne_eqb _ _ c.if-c-eq63.false, ne_eqb _ _ c.if-c-eq64.false, ne_eqb _ _ c.if-c-eq60.false, ne_eqb _ _ c.if-c-eq61.false, ne_eqb _ _ c.if-c-eq62.false) (put_one c.put_text.ensures)
+returns-in_default c =
+    let b = c.byte.result in
+    let n35 : ¬ (b ≡ 35) = omega arith in
+    let n36 : ¬ (b ≡ 36) = omega arith in
+    let n37 : ¬ (b ≡ 37) = omega arith in
+    let n38 : ¬ (b ≡ 38) = omega arith in
+    let n63 : ¬ (b ≡ 63) = omega arith in
+    let n64 : ¬ (b ≡ 64) = omega arith in
+    let n60 : ¬ (b ≡ 60) = omega arith in
+    let n61 : ¬ (b ≡ 61) = omega arith in
+    let n62 : ¬ (b ≡ 62) = omega arith in
+    rw (← c.byte.ensures, ne_eqb b 35 n35, ne_eqb b 36 n36, ne_eqb b 37 n37, ne_eqb b 38 n38, ne_eqb b 63 n63, ne_eqb b 64 n64, ne_eqb b 60 n60, ne_eqb b 61 n61, ne_eqb b 62 n62)
+    (put_one c.put_text.ensures)

@@ -4,7 +4,6 @@ use Rattle.form.specs.Form.{plural_texts}
 use Rattle.numeral.specs.Ascii.{ascii}
 use Rattle.wording.proofs.Each.{put_one, put_first}
 use borrow.Author.Tests.{lt-ltb, le-ltb}
-use borrow.Author.Rules.{rules}
 use Rattle.form.proofs.piece.put_plural.Goals as goal
 
 pub returns-then-n-lt2 : goal.returns-then-n-lt2

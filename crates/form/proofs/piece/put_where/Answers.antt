@@ -2,7 +2,6 @@
 -- Assumes nothing.
 use Rattle.wording.specs.Wording.{reported_where}
 use Rattle.wording.proofs.Each.{put_one, put-none}
-use borrow.Author.Rules.{rules}
 use Rattle.form.proofs.piece.put_where.Goals as goal
 
 pub returns-then-holds : goal.returns-then-holds

@@ -1,30 +1,30 @@
 -- `form::piece::takes` meets its contract.
 -- Assumes nothing.
+use Rattle.std.proofs.Common.{arith}
+use Rattle.std.proofs.lemmas.Bool.Decides.{nat_tests}
 use Rattle.form.specs.Form.{takes}
-use borrow.Author.Rules.{rules}
-use borrow.Author.Tests.{lt-ltb, le-ltb, eq-eqb, ne_eqb}
 use Rattle.form.proofs.piece.takes.Goals as goal
 
-pub returns-then-c-lt35 : goal.returns-then-c-lt35
+pub returns-in-60-to-62 : goal.returns-in-60-to-62
 unfolding takes
-returns-then-c-lt35 c = search (rules, lt-ltb, le-ltb, eq-eqb, ne_eqb)
+returns-in-60-to-62 c = grind (arith, nat_tests)
 
-pub returns-then-c-le38 : goal.returns-then-c-le38
+pub returns-in_default : goal.returns-in_default
 unfolding takes
-returns-then-c-le38 c = search (rules, lt-ltb, le-ltb, eq-eqb, ne_eqb)
+returns-in_default c = grind (arith, nat_tests)
 
-pub returns-then-c-lt60 : goal.returns-then-c-lt60
+pub returns-in_default-2 : goal.returns-in_default-2
 unfolding takes
-returns-then-c-lt60 c = search (rules, lt-ltb, le-ltb, eq-eqb, ne_eqb)
+returns-in_default-2 c = grind (arith, nat_tests)
 
-pub returns-then-c-le62 : goal.returns-then-c-le62
+pub returns-in_default-3 : goal.returns-in_default-3
 unfolding takes
-returns-then-c-le62 c = search (rules, lt-ltb, le-ltb, eq-eqb, ne_eqb)
+returns-in_default-3 c = grind (arith, nat_tests)
 
-pub returns-then-c-eq63 : goal.returns-then-c-eq63
+pub returns-in-35-to-38 : goal.returns-in-35-to-38
 unfolding takes
-returns-then-c-eq63 c = search (rules, lt-ltb, le-ltb, eq-eqb, ne_eqb)
+returns-in-35-to-38 c = grind (arith, nat_tests)
 
-pub returns-else-c-eq63 : goal.returns-else-c-eq63
+pub returns-in-35-to-38-2 : goal.returns-in-35-to-38-2
 unfolding takes
-returns-else-c-eq63 c = search (rules, lt-ltb, le-ltb, eq-eqb, ne_eqb)
+returns-in-35-to-38-2 c = grind (arith, nat_tests)

@@ -1,6 +1,5 @@
 -- `item_analysis::differences::add_words` meets its contract.
 -- Assumes nothing.
-use borrow.Author.Rules.{rules}
 use Rattle.item_analysis.specs.Lines.{record_line}
 use Rattle.item_state.specs.Log.{said}
 use Rattle.item_analysis.proofs.differences.add_words.Goals as goal

@@ -1,6 +1,5 @@
 -- `item_analysis::differences::record` meets its contract.
 -- Assumes nothing.
-use borrow.Author.Rules.{rules}
 use borrow.Author.Tests.{eq-eqb, ne_eqb}
 use Rattle.item_analysis.specs.Lines.{record_words}
 use Rattle.item_analysis.proofs.differences.record.Goals as goal

@@ -1,6 +1,5 @@
 -- `item_analysis::differences::tof_diff` meets its contract.
 -- Assumes nothing.
-use borrow.Author.Rules.{rules}
 use Rattle.item_analysis.specs.Lines.{tof_diff}
 use Rattle.item_state.specs.Told.{read_word}
 use Rattle.item_analysis.proofs.differences.tof_diff.Goals as goal

@@ -1,6 +1,5 @@
 -- `item_analysis::questions::listing` meets its contract.
 -- Assumes nothing.
-use borrow.Author.Rules.{rules}
 use Rattle.item_analysis.specs.Lines.{listing_line}
 use Rattle.item_analysis.proofs.questions.listing.Goals as goal
 

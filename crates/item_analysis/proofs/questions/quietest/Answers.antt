@@ -1,6 +1,5 @@
 -- `item_analysis::questions::quietest` meets its contract.
 -- Assumes nothing.
-use borrow.Author.Rules.{rules}
 use Rattle.item_analysis.specs.Lines.{quietest_line}
 use Rattle.item_analysis.proofs.questions.quietest.Goals as goal
 

@@ -1,14 +1,13 @@
 -- `item_analysis::questions::tell_listed` meets its contract.
 -- Assumes nothing.
-use borrow.Author.Rules.{rules}
 use Rattle.item_analysis.specs.Lines.{listing_told}
 use Rattle.item_state.specs.Log.{called}
 use Rattle.item_analysis.proofs.questions.tell_listed.Goals as goal
 
-pub returns-in-Written : goal.returns-in-Written
+pub returns-in-Ok : goal.returns-in-Ok
 unfolding listing_told
-returns-in-Written c = rw (c.in-Written.is, ← c.more.ensures, ← c.count.ensures)
+returns-in-Ok c = rw (c.in-Ok.is, ← c.more.ensures, ← c.count.ensures)
 
-pub returns-in-Refused : goal.returns-in-Refused
+pub returns-in-Err : goal.returns-in-Err
 unfolding listing_told called
-returns-in-Refused c = rw (c.in-Refused.is, ← c.put_listing_refused-used.ensures.next, ← c.put_listing_refused-used.ensures.bytes, ← c.count-in-Refused.ensures)
+returns-in-Err c = rw (c.in-Err.is, ← c.number.ensures.0, ← c.put_listing_refused-used.ensures.next, ← c.put_listing_refused-used.ensures.bytes, ← c.count-in-Err.ensures)

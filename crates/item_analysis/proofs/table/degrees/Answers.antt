@@ -1,6 +1,5 @@
 -- `item_analysis::table::degrees` meets its contract.
 -- Assumes nothing.
-use borrow.Author.Rules.{rules}
 use borrow.Author.Tests.{lt-ltb, le-ltb}
 use Rattle.item_analysis.specs.Lines.{degrees_line}
 use Rattle.item_analysis.proofs.table.degrees.Goals as goal

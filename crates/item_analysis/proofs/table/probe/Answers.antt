@@ -1,6 +1,5 @@
 -- `item_analysis::table::probe` meets its contract.
 -- Assumes nothing.
-use borrow.Author.Rules.{rules}
 use Rattle.item_analysis.specs.Lines.{probe_line}
 use Rattle.item_state.specs.Log.{said}
 use Rattle.item_analysis.proofs.table.probe.Goals as goal

@@ -5,7 +5,6 @@ use Rattle.item_answer.specs.Answer.{Item}
 use Rattle.item_answer.specs.OwnView.{item_of}
 use Rattle.item_answer_code.proofs.Closing.{told-steps}
 use Rattle.item_answer_code.proofs.Firsts.{chip-first, ask-item, ask-further}
-use borrow.Author.Rules.{rules}
 use Rattle.item_answer_code.proofs.asks.ask.Goals as goal
 
 pub returns : goal.returns

@@ -4,7 +4,6 @@ use Rattle.item_answer.specs.Step.{line_step}
 use Rattle.item_answer.specs.OwnView.{item_of}
 use Rattle.item_answer_code.proofs.Closing.{result-steps}
 use Rattle.item_answer_code.proofs.Firsts.{call-told}
-use borrow.Author.Rules.{rules}
 use Rattle.item_answer_code.proofs.calls.call.Goals as goal
 
 pub put_further-end-requires : goal.put_further-end-requires

@@ -2,9 +2,8 @@
 use mathlib.Core.Path.{refl, sym}
 use Rattle.item_answer.specs.OwnView.{item_of}
 use Rattle.item_answer_code.proofs.Firsts.{keep-first}
-use borrow.Author.Rules.{rules}
 use Rattle.item_answer_code.proofs.calls.degrees.Goals as goal
 
 pub returns : goal.returns
 unfolding item_of
-returns c = rw (← c.number_at.ensures, ← c.number_at-2.ensures) (λ ds fs. keep-first c.requires c.put_degrees-first.ensures (sym c.first_words-table.ensures) refl)
+returns c = rw (← c.number_at.ensures, ← c.number_at-2.ensures) (λ ds fs. keep-first c.requires c.put_degrees-first.ensures (sym c.first_items-table.ensures) refl)

@@ -2,7 +2,6 @@
 use mathlib.Core.Path.{refl}
 use Rattle.item_answer.specs.OwnView.{item_of}
 use Rattle.item_answer_code.proofs.Firsts.{keep-first}
-use borrow.Author.Rules.{rules}
 use Rattle.item_answer_code.proofs.calls.frames.Goals as goal
 
 pub returns : goal.returns

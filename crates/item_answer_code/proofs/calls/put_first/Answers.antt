@@ -5,8 +5,6 @@ use Rattle.item_answer.specs.Answer.{call_result, bus_told, set_told, transactio
 use Rattle.item_chip_code.specs.OwnAnswered.{stretch_line}
 use Rattle.item_answer_code.specs.OwnFirst.{told_in, call_told}
 use Rattle.item_answer_code.proofs.Firsts.{chip-first, stretch-ready, stretch-recorded, stretch-probes, tick-runs, at-runs}
-use borrow.Author.Rules.{rules}
-use borrow.Enum.Refused.{opened}
 use Rattle.item_answer_code.proofs.calls.put_first.Goals as goal
 
 pub bus-requires : goal.bus-requires

@@ -1,6 +1,5 @@
 -- `item_answer_code::close::close` meets its contract. Assumes nothing.
 use mathlib.Core.Path.{refl}
-use borrow.Author.Rules.{rules}
 use Rattle.item_answer_code.proofs.close.close.Goals as goal
 
 pub returns : goal.returns

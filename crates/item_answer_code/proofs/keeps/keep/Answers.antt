@@ -1,6 +1,5 @@
 -- `item_answer_code::keeps::keep` meets its contract. Assumes nothing.
 use Rattle.item_line.specs.OwnRead.{as_keep}
-use borrow.Author.Rules.{rules}
 use Rattle.item_answer_code.proofs.keeps.keep.Goals as goal
 
 pub probe-requires : goal.probe-requires

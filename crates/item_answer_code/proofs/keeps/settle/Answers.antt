@@ -1,7 +1,6 @@
 -- `item_answer_code::keeps::settle` meets its contract. Assumes nothing.
 use Rattle.item_line.specs.OwnRead.{as_fault}
 use Rattle.item_answer_code.proofs.Firsts.{no_both}
-use borrow.Author.Rules.{rules}
 use Rattle.item_answer_code.proofs.keeps.settle.Goals as goal
 
 pub returns-then-fits : goal.returns-then-fits

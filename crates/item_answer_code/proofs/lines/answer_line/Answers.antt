@@ -4,7 +4,6 @@ use Rattle.item_line.specs.OwnRead.{as_line}
 use Rattle.item_answer.specs.Answer.{transacted}
 use Rattle.item_answer.specs.Step.{line_step, compared_step}
 use Rattle.item_answer_code.proofs.Firsts.{compared-steps, call-ready, shown-elsewhere}
-use borrow.Author.Rules.{rules}
 use Rattle.item_answer_code.proofs.lines.answer_line.Goals as goal
 
 pub pass-requires : goal.pass-requires

@@ -1,7 +1,6 @@
 -- `item_answer_code::plain::bad` meets its contract. Assumes nothing.
 use mathlib.Core.Path.{refl}
 use Rattle.item_answer.specs.Step.{bad_step}
-use borrow.Author.Rules.{rules}
 use Rattle.item_answer_code.proofs.plain.bad.Goals as goal
 
 pub returns : goal.returns

@@ -1,6 +1,5 @@
 -- `item_answer_code::plain::item` meets its contract. Assumes nothing.
 use Rattle.item_answer_code.proofs.Firsts.{fresh-few}
-use borrow.Author.Rules.{rules}
 use Rattle.item_answer_code.proofs.plain.item.Goals as goal
 
 pub returns : goal.returns

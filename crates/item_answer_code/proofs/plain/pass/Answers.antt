@@ -1,7 +1,6 @@
 -- `item_answer_code::plain::pass` meets its contract. Assumes nothing.
 use mathlib.Core.Path.{refl}
 use Rattle.text.proofs.Putting.{puts_none}
-use borrow.Author.Rules.{rules}
 use Rattle.item_answer_code.proofs.plain.pass.Goals as goal
 
 pub returns : goal.returns

@@ -1,6 +1,5 @@
 -- `item_calls::deliveries::temperature` meets its contract.
 -- Assumes nothing.
-use borrow.Author.Rules.{rules}
 use Rattle.item_calls.specs.Lines.{temperature_line, told}
 use Rattle.item_state.specs.Log.{called}
 use Rattle.item_calls.proofs.deliveries.temperature.Goals as goal

@@ -10,13 +10,12 @@ use Rattle.device.specs.declared.Answer.TheVariants.{Refused, Accepted, Ticked, 
 use Rattle.wording.specs.Text.{PutEach}
 use Rattle.wording.proofs.Each.{put-none}
 use Rattle.item_calls.specs.Lines.{stretch_reports}
-use borrow.Author.Rules.{rules}
 use borrow.Enum.Refused.{opened}
 use Rattle.item_calls.proofs.ticks.add_reports.Goals as goal
 
 others : (a : Answer) (n : ℕ) (l : List ℕ) (at : ℕ) → OneOf (0 ∷ 1 ∷ 2 ∷ 4 ∷ 5 ∷ []) (tag_of the_type a) → PutEach l at (stretch_reports a n) at l
 unfolding stretch_reports
-others (Refused number) n l at h = put-none l at
+others (Refused r) n l at h = put-none l at
 others (Accepted f t) n l at h = put-none l at
 others (Ticked f t) n l at h = put-none l at
 others (Stretched f t) n l at h = absurd (miss (0 ∷ 1 ∷ 2 ∷ 4 ∷ 5 ∷ []) 3 tt h)

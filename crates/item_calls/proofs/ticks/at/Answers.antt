@@ -1,7 +1,6 @@
 -- `item_calls::ticks::at` meets its contract.
 -- Assumes nothing.
 use Rattle.item_calls.specs.Lines.{at_line}
-use borrow.Author.Rules.{rules}
 use Rattle.item_calls.proofs.ticks.at.Goals as goal
 
 pub returns : goal.returns

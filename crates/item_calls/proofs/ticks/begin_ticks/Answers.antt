@@ -3,7 +3,6 @@
 use borrow.Author.Tests.{eq-eqb, ne_eqb}
 use Rattle.item_calls.specs.Lines.{ticks_begun, unless_under_way, ticks_ahead, moved}
 use Rattle.item_state.specs.Log.{added, called}
-use borrow.Author.Rules.{rules}
 use Rattle.item_calls.proofs.ticks.begin_ticks.Goals as goal
 
 pub returns-then-counts-ne0 : goal.returns-then-counts-ne0

@@ -8,7 +8,6 @@ use lib.Dec.{eqb}
 use native.Mathlib.Omega.{arith}
 use Rattle.item_calls.specs.Lines.{part_ended}
 use Rattle.item_state.specs.Log.{said}
-use borrow.Author.Rules.{rules}
 use Rattle.item_calls.proofs.ticks.end_part.Goals as goal
 
 some_left : (n : ℕ) → 0 < n → eqb n 0 ≡ false

@@ -1,10 +1,9 @@
 -- `item_calls::ticks::move_by` meets its contract.
 -- Assumes nothing.
-use borrow.Author.Rules.{rules}
 use types.Run.{OneOf, miss}
 use denote.Enum.Declared.{tag_of}
 use Rattle.device.specs.contracts.Answer.{the_type}
-use mathlib.Core.Path.{◌≡◌, refl}
+use mathlib.Core.Path.{◌≡◌}
 use Prim.Native.Nat.{ℕ}
 use mathlib.Core.List.{List, [], ◌∷◌}
 use Rattle.device.specs.declared.Answer.{Answer}
@@ -17,7 +16,7 @@ use Rattle.item_calls.proofs.ticks.move_by.Goals as goal
 
 others : (a : Answer) (n : ℕ) (l : List ℕ) {l' : List ℕ} → OneOf (1 ∷ 2 ∷ 3 ∷ 4 ∷ 5 ∷ []) (tag_of the_type a) → l' ≡ moved n l → l' ≡ moved_by a n l
 unfolding moved_by refusals number_in
-others (Refused number) n l h e = absurd (miss (1 ∷ 2 ∷ 3 ∷ 4 ∷ 5 ∷ []) 0 tt h)
+others (Refused r) n l h e = absurd (miss (1 ∷ 2 ∷ 3 ∷ 4 ∷ 5 ∷ []) 0 tt h)
 others (Accepted f t) n l h e = e
 others (Ticked f t) n l h e = e
 others (Stretched f t) n l h e = e

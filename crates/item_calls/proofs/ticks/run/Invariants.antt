@@ -1,13 +1,9 @@
 -- `item_calls::ticks::run` meets its contract: a stretch more in each turn.
 use Prim.Native.Nat.{◌+◌, ◌≤◌}
-use mathlib.Core.Path.{◌≡◌, refl}
-use native.Mathlib.Omega.{arith}
+use mathlib.Core.Path.{◌≡◌}
 use lib.ListN.{length}
-use borrow.Author.Rules.{rules}
 use Rattle.numeral.specs.Place.{put_each}
-use Rattle.item_state.specs.Log.{said}
-use Rattle.item_calls.specs.Lines.{ticked, ticks_part}
-use Rattle.item_calls.proofs.Turns.{turn-model, turn-texts, ticks-none}
+use Rattle.item_calls.specs.Lines.{ticked}
 use Rattle.item_calls.proofs.ticks.run.Given as goal
 
 abbrev pub invariant-loop-left : goal.invariant-loop-left

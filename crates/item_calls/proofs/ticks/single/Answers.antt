@@ -1,6 +1,5 @@
 -- `item_calls::ticks::single` meets its contract.
 -- Assumes nothing.
-use borrow.Author.Rules.{rules}
 use Rattle.item_calls.specs.Lines.{single_line, told, moved}
 use Rattle.item_state.specs.Log.{called, added}
 use Rattle.item_calls.proofs.ticks.single.Goals as goal

@@ -1,6 +1,5 @@
 -- `item_calls::ticks::stretch` meets its contract.
 -- Assumes nothing.
-use borrow.Author.Rules.{rules}
 use Rattle.item_calls.specs.Lines.{stretch_line, told}
 use Rattle.item_state.specs.Log.{called}
 use Rattle.item_calls.proofs.ticks.stretch.Goals as goal

@@ -2,7 +2,6 @@
 -- Assumes nothing.
 use borrow.Author.Tests.{eq-eqb, ne_eqb}
 use Rattle.item_calls.specs.Lines.{tick_line}
-use borrow.Author.Rules.{rules}
 use Rattle.item_calls.proofs.ticks.tick.Goals as goal
 
 pub returns-then-n-eq1 : goal.returns-then-n-eq1

@@ -1,6 +1,5 @@
 -- `item_calls::transaction::bus` meets its contract.
 -- Assumes nothing.
-use borrow.Author.Rules.{rules}
 use Rattle.item_calls.proofs.Steps.{buffer-fits}
 use mathlib.Core.Path.{ap, ◌∙◌}
 use Rattle.item_calls.specs.Buffer.{buffer_size}

@@ -1,6 +1,5 @@
 -- `item_calls::transaction::bus_out` meets its contract.
 -- Assumes nothing.
-use borrow.Author.Rules.{rules}
 use mathlib.Core.Path.{sym, ap, ◌∙◌}
 use lib.Seq.{length-take-le}
 use Rattle.numeral.specs.Print.{low_bytes}

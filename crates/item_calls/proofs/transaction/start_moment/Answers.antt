@@ -1,6 +1,5 @@
 -- `item_calls::transaction::start_moment` meets its contract.
 -- Assumes nothing.
-use borrow.Author.Rules.{rules}
 use types.Run.{OneOf, miss}
 use denote.Enum.Declared.{tag_of}
 use Rattle.device.specs.contracts.Answer.{the_type}
@@ -15,7 +14,7 @@ use Rattle.item_calls.proofs.transaction.start_moment.Goals as goal
 
 others : (a : Answer) (l : List ℕ) → OneOf (0 ∷ 2 ∷ 3 ∷ 4 ∷ 5 ∷ []) (tag_of the_type a) → l ≡ start_moment a l
 unfolding start_moment
-others (Refused n) l h = refl
+others (Refused r) l h = refl
 others (Accepted f t) l h = absurd (miss (0 ∷ 2 ∷ 3 ∷ 4 ∷ 5 ∷ []) 1 tt h)
 others (Ticked f t) l h = refl
 others (Stretched f t) l h = refl

@@ -1,6 +1,5 @@
 -- `item_chip_code::asking::ask` meets its contract. Assumes nothing.
 use Rattle.item_chip_code.proofs.Lines.{ask-answers}
-use borrow.Author.Rules.{rules}
 use Rattle.item_chip_code.proofs.asking.ask.Goals as goal
 
 pub returns : goal.returns

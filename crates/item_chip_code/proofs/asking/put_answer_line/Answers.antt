@@ -1,7 +1,6 @@
 -- `item_chip_code::asking::put_answer_line` meets its contract. Assumes nothing.
 use Rattle.item_line.specs.OwnRead.{as_ask}
 use Rattle.item_chip_code.specs.OwnAnswered.{ask_line}
-use borrow.Author.Rules.{rules}
 use Rattle.item_chip_code.proofs.asking.put_answer_line.Goals as goal
 
 pub returns-in-Int : goal.returns-in-Int

@@ -2,7 +2,6 @@
 use Rattle.text.proofs.Putting.{puts_none}
 use Rattle.item_line.specs.OwnRead.{as_ask}
 use Rattle.item_chip_code.specs.OwnAnswered.{ask_further}
-use borrow.Author.Rules.{rules}
 use Rattle.item_chip_code.proofs.asking.put_further.Goals as goal
 
 pub returns-in-Int : goal.returns-in-Int

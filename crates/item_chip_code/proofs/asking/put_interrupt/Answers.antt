@@ -3,7 +3,6 @@ use borrow.Author.Tests.{eq-eqb, ne_eqb}
 use Rattle.numeral.specs.Ascii.{ascii}
 use Rattle.text.proofs.Putting.{puts}
 use Rattle.item_answer.specs.Answer.{int_text}
-use borrow.Author.Rules.{rules}
 use Rattle.item_chip_code.proofs.asking.put_interrupt.Goals as goal
 
 pub returns-then-value-eq1 : goal.returns-then-value-eq1

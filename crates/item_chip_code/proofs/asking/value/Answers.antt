@@ -1,12 +1,8 @@
 -- `item_chip_code::asking::value` meets its contract. Assumes nothing.
-use Rattle.device.specs.Question.{value_told}
-use borrow.Author.Rules.{rules}
 use Rattle.item_chip_code.proofs.asking.value.Goals as goal
 
-pub returns-in-Value : goal.returns-in-Value
-unfolding value_told
-returns-in-Value c = rw c.in-Value.is
+pub returns-in-Ok : goal.returns-in-Ok
+returns-in-Ok c = rw c.in-Ok.is
 
-pub returns-in-Refused : goal.returns-in-Refused
-unfolding value_told
-returns-in-Refused c = rw c.in-Refused.is
+pub returns-in-Err : goal.returns-in-Err
+returns-in-Err c = rw c.in-Err.is

@@ -1,7 +1,6 @@
 -- `item_chip_code::deliveries::temperature` meets its contract. Assumes nothing.
 use Rattle.numeral.specs.Ascii.{ascii}
 use Rattle.item_chip_code.proofs.Lines.{delivery-answers}
-use borrow.Author.Rules.{rules}
 use Rattle.item_chip_code.proofs.deliveries.temperature.Goals as goal
 
 pub returns : goal.returns

@@ -6,7 +6,6 @@ use mathlib.Core.Path.{◌∙◌, sym}
 use lib.Seq.{length-take-le}
 use Rattle.numeral.specs.Ascii.{ascii}
 use Rattle.item_chip_code.proofs.ReadSteps.{expect-fits, sized, expect-steps}
-use borrow.Author.Rules.{rules}
 use Rattle.item_chip_code.proofs.reading.expect.Goals as goal
 
 pub slice_bounds-words-end : goal.slice_bounds-words-end

@@ -9,13 +9,12 @@ use Rattle.device.specs.Reply.{number_in}
 use Rattle.device.specs.declared.Answer.{Answer}
 use Rattle.device.specs.declared.Answer.TheVariants.{Refused, Accepted, Ticked, Stretched, Good, Failed}
 use Rattle.item_answer.specs.Answer.{is_refusal}
-use borrow.Author.Rules.{rules}
 use borrow.Enum.Refused.{opened}
 use Rattle.item_chip_code.proofs.replies.is_refusal.Goals as goal
 
 others : (a : Answer) → OneOf (1 ∷ 2 ∷ 3 ∷ 4 ∷ 5 ∷ []) (tag_of the_type a) → false ≡ is_refusal a
 unfolding is_refusal number_in
-others (Refused n) h = absurd (miss (1 ∷ 2 ∷ 3 ∷ 4 ∷ 5 ∷ []) 0 tt h)
+others (Refused r) h = absurd (miss (1 ∷ 2 ∷ 3 ∷ 4 ∷ 5 ∷ []) 0 tt h)
 others (Accepted f t) h = refl
 others (Ticked f t) h = refl
 others (Stretched f t) h = refl

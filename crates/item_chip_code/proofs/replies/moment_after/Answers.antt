@@ -1,5 +1,4 @@
 -- `item_chip_code::replies::moment_after` meets its contract. Assumes nothing.
-use borrow.Author.Rules.{rules}
 use Rattle.item_chip_code.proofs.replies.moment_after.Goals as goal
 
 pub returns-then-starts : goal.returns-then-starts

@@ -8,13 +8,12 @@ use Rattle.device.specs.contracts.Answer.{the_type}
 use Rattle.device.specs.declared.Answer.{Answer}
 use Rattle.device.specs.declared.Answer.TheVariants.{Refused, Accepted, Ticked, Stretched, Good, Failed}
 use Rattle.item_answer.specs.Answer.{starts}
-use borrow.Author.Rules.{rules}
 use borrow.Enum.Refused.{opened}
 use Rattle.item_chip_code.proofs.replies.starts.Goals as goal
 
 others : (a : Answer) → OneOf (0 ∷ 2 ∷ 3 ∷ 4 ∷ 5 ∷ []) (tag_of the_type a) → false ≡ starts a
 unfolding starts
-others (Refused n) h = refl
+others (Refused r) h = refl
 others (Accepted f t) h = absurd (miss (0 ∷ 2 ∷ 3 ∷ 4 ∷ 5 ∷ []) 1 tt h)
 others (Ticked f t) h = refl
 others (Stretched f t) h = refl

@@ -1,7 +1,6 @@
 -- `item_chip_code::replies::tell` meets its contract. Assumes nothing.
 use mathlib.Core.Path.{refl}
 use Rattle.text.proofs.Putting.{puts_first}
-use borrow.Author.Rules.{rules}
 use Rattle.item_chip_code.proofs.replies.tell.Goals as goal
 
 pub returns : goal.returns

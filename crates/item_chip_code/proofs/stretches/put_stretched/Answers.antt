@@ -1,7 +1,6 @@
 -- `item_chip_code::stretches::put_stretched` meets its contract. Assumes nothing.
 use Rattle.text.proofs.Putting.{puts, puts-last, puts_then}
 use Rattle.numeral.specs.Ascii.{ascii}
-use borrow.Author.Rules.{rules}
 use Rattle.item_chip_code.proofs.stretches.put_stretched.Goals as goal
 
 pub returns : goal.returns

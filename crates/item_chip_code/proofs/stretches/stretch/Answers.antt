@@ -3,7 +3,6 @@ use native.Mathlib.Omega.{arith}
 use mathlib.Core.Path.{refl}
 use Rattle.numeral.specs.Ascii.{ascii}
 use Rattle.item_chip_code.proofs.Lines.{stretch-answers, stretch-refused}
-use borrow.Author.Rules.{rules}
 use borrow.Enum.Refused.{opened}
 use Rattle.item_chip_code.proofs.stretches.stretch.Goals as goal
 

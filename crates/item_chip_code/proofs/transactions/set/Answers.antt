@@ -3,7 +3,6 @@ use Rattle.numeral.specs.Ascii.{ascii}
 use Rattle.item_line.specs.OwnRead.{as_call}
 use Rattle.item_chip_code.proofs.FrameFacts.{set-frame}
 use Rattle.item_chip_code.proofs.Lines.{set-answers}
-use borrow.Author.Rules.{rules}
 use Rattle.item_chip_code.proofs.transactions.set.Goals as goal
 
 pub returns : goal.returns

@@ -1,6 +1,5 @@
 -- `item_keep_code::analysis::put_listed` meets its contract.
 -- Assumes nothing.
-use borrow.Author.Rules.{rules}
 use native.Mathlib.Omega.{arith}
 use Rattle.item_keep_code.proofs.Listed.{listed-put, further-is}
 use Rattle.item_keep_code.proofs.analysis.put_listed.Goals as goal

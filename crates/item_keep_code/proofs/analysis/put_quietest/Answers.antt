@@ -8,21 +8,21 @@ use Rattle.item_keep_code.proofs.Quietest.{place-fits, place_same, run-printed}
 use Rattle.item_keep_code.proofs.analysis.put_quietest.Goals as goal
 
 pub overflow_add-start : goal.overflow_add-start
-overflow_add-start c = search (rules, place-fits _ _ c.quietest_place.ensures.same c.in-At.is)
+overflow_add-start c = search (rules, place-fits _ _ c.quietest_place.ensures.same c.in-Ok.is)
 
 pub offset_bounds-kept-start : goal.offset_bounds-kept-start
-offset_bounds-kept-start c = search (rules, place-fits _ _ c.quietest_place.ensures.same c.in-At.is)
+offset_bounds-kept-start c = search (rules, place-fits _ _ c.quietest_place.ensures.same c.in-Ok.is)
 
 pub slice_bounds-run_spread-start : goal.slice_bounds-run_spread-start
-slice_bounds-run_spread-start c = search (rules, place-fits _ _ c.quietest_place.ensures.same c.in-At.is)
+slice_bounds-run_spread-start c = search (rules, place-fits _ _ c.quietest_place.ensures.same c.in-Ok.is)
 
 pub slice_bounds-run_spread-end : goal.slice_bounds-run_spread-end
-slice_bounds-run_spread-end c = place-fits _ _ c.quietest_place.ensures.same c.in-At.is
+slice_bounds-run_spread-end c = place-fits _ _ c.quietest_place.ensures.same c.in-Ok.is
 
-pub returns-in-At : goal.returns-in-At
+pub returns-in-Ok : goal.returns-in-Ok
 unfolding quietest_told
-returns-in-At c = λ i e. let found = place_same c.quietest_place.ensures.same c.in-At.is in rw (e, found) (record { line = rw (← run-printed _ _ c.quietest_place.ensures.same c.in-At.is c.run_spread-spread.ensures) c.put_run-end.ensures; refused = refl; item = refl })
+returns-in-Ok c = λ i e. let found = place_same c.quietest_place.ensures.same c.in-Ok.is in rw (e, found) (record { line = rw (← run-printed _ _ c.quietest_place.ensures.same c.in-Ok.is c.run_spread-spread.ensures) c.put_run-end.ensures; refused = refl; item = refl })
 
-pub returns-in-Refused : goal.returns-in-Refused
+pub returns-in-Err : goal.returns-in-Err
 unfolding quietest_told ascii
-returns-in-Refused c = λ i e. rw (e, place_same c.quietest_place.ensures.same c.in-Refused.is) (record { line = c.put_refused.ensures.0; refused = c.put_refused.ensures.1; item = refl })
+returns-in-Err c = λ i e. rw (e, place_same c.quietest_place.ensures.same c.in-Err.is) (record { line = c.put_refused.ensures.0; refused = c.put_refused.ensures.1; item = refl })

@@ -1,6 +1,5 @@
 -- `item_keep_code::analysis::put_run` meets its contract.
 -- Assumes nothing.
-use borrow.Author.Rules.{rules}
 use Rattle.numeral.specs.Ascii.{ascii}
 use Rattle.text.proofs.Putting.{puts, puts_first, puts-last}
 use Rattle.item_keep_code.proofs.analysis.put_run.Goals as goal

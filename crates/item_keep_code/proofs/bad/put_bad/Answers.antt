@@ -1,6 +1,5 @@
 -- `item_keep_code::bad::put_bad` meets its contract.
 -- Assumes nothing.
-use borrow.Author.Rules.{rules}
 use Rattle.text.specs.Text.{ended}
 use Rattle.text.proofs.Putting.{puts-last}
 use Rattle.item_keep_code.proofs.bad.put_bad.Goals as goal

@@ -1,6 +1,5 @@
 -- `item_keep_code::differences::put_words` meets its contract.
 -- Assumes nothing.
-use borrow.Author.Rules.{rules}
 use Rattle.numeral.specs.Ascii.{ascii}
 use Rattle.text.proofs.Putting.{puts_first}
 use Rattle.item_keep_code.proofs.differences.put_words.Goals as goal

@@ -1,6 +1,5 @@
 -- `item_keep_code::differences::tof_diff` meets its contract.
 -- Assumes nothing.
-use borrow.Author.Rules.{rules}
 use Rattle.item_keep_code.proofs.differences.tof_diff.Goals as goal
 
 pub returns : goal.returns

@@ -1,12 +1,11 @@
 -- `item_keep_code::frames::frames_of` meets its contract.
 -- Assumes nothing.
-use borrow.Author.Rules.{rules}
 use mathlib.Core.Path.{refl}
 use Rattle.item_keep_code.proofs.FrameLines.{frames-held, not-refused}
 use Rattle.item_keep_code.proofs.frames.frames_of.Goals as goal
 
-pub returns-in-Frames : goal.returns-in-Frames
-returns-in-Frames c = frames-held c.args.m c.requires refl refl c.setup_frames-framed.ensures.0 c.in-Frames.is
+pub returns-in-Ok : goal.returns-in-Ok
+returns-in-Ok c = frames-held c.args.m c.requires refl refl c.in-Ok.ensures.0 refl
 
-pub returns-in-Refused : goal.returns-in-Refused
-returns-in-Refused c = not-refused c.args.m c.requires refl refl c.setup_frames-framed.ensures.0 c.in-Refused.is
+pub returns-in-Err : goal.returns-in-Err
+returns-in-Err c = not-refused c.args.m c.requires refl refl c.in-Err.ensures.0 refl

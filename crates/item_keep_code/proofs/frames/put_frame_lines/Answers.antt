@@ -1,6 +1,5 @@
 -- `item_keep_code::frames::put_frame_lines` meets its contract.
 -- Assumes nothing.
-use borrow.Author.Rules.{rules}
 use Rattle.item_answer.specs.Answer.{frames_told}
 use Rattle.item_keep_code.proofs.frames.put_frame_lines.Goals as goal
 

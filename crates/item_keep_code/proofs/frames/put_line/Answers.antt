@@ -1,6 +1,5 @@
 -- `item_keep_code::frames::put_line` meets its contract.
 -- Assumes nothing.
-use borrow.Author.Rules.{rules}
 use Rattle.text.specs.Text.{ended}
 use Rattle.text.proofs.Putting.{puts-last}
 use Rattle.item_keep_code.proofs.frames.put_line.Goals as goal

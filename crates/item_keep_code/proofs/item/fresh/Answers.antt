@@ -1,6 +1,5 @@
 -- `item_keep_code::item::fresh` meets its contract.
 -- Assumes nothing.
-use borrow.Author.Rules.{rules}
 use Rattle.device.specs.Model.{fresh_model}
 use Rattle.item_keep_code.proofs.item.fresh.Goals as goal
 

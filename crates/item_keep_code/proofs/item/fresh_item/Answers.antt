@@ -7,4 +7,4 @@ use Rattle.item_keep_code.proofs.item.fresh_item.Goals as goal
 
 pub returns : goal.returns
 unfolding item_of fresh_item
-returns c = λ ds es. rw (c.fresh.ensures, c.erase_all.ensures, c.requires)
+returns c = λ ds es. rw (c.fresh.ensures, c.fill.ensures.after (search rules), c.requires)

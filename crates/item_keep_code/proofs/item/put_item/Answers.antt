@@ -1,6 +1,5 @@
 -- `item_keep_code::item::put_item` meets its contract.
 -- Assumes nothing.
-use borrow.Author.Rules.{rules}
 use Rattle.numeral.specs.Ascii.{ascii}
 use Rattle.text.specs.Text.{ended, spaced}
 use Rattle.text.proofs.Putting.{puts_first, puts-last}

@@ -1,6 +1,5 @@
 -- `item_keep_code::item::put_name` meets its contract.
 -- Assumes nothing.
-use borrow.Author.Rules.{rules}
 use mathlib.Core.Path.{sym, ◌∙◌}
 use Rattle.numeral.specs.Ascii.{ascii}
 use Rattle.text.specs.Text.{spaced_each, words}

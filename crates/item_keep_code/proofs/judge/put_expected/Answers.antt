@@ -1,6 +1,5 @@
 -- `item_keep_code::judge::put_expected` meets its contract.
 -- Assumes nothing.
-use borrow.Author.Rules.{rules}
 use Rattle.numeral.specs.Ascii.{ascii}
 use Rattle.text.proofs.Putting.{puts_first, puts-last}
 use Rattle.item_keep_code.proofs.judge.put_expected.Goals as goal

@@ -1,9 +1,8 @@
 -- `item_keep_code::refused::put_refused` meets its contract.
 -- Assumes nothing.
-use borrow.Author.Rules.{rules}
 use mathlib.Core.Path.{refl}
 use Rattle.text.proofs.Putting.{puts_first}
 use Rattle.item_keep_code.proofs.refused.put_refused.Goals as goal
 
 pub returns : goal.returns
-returns c = (puts_first c.put_text-a.ensures c.put_refusal-end.ensures, refl)
+returns c = (puts_first c.put_text-a.ensures (rw (← c.number.ensures.0) c.put_refusal-end.ensures), refl)

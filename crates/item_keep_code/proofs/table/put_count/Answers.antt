@@ -2,7 +2,6 @@
 -- Assumes nothing.
 use Rattle.numeral.specs.Ascii.{ascii}
 use Rattle.text.proofs.Putting.{puts, puts_first}
-use borrow.Author.Rules.{rules}
 use Rattle.item_keep_code.proofs.table.put_count.Goals as goal
 
 pub returns : goal.returns

@@ -1,6 +1,5 @@
 -- `item_keep_code::table::reading` meets its contract.
 -- Assumes nothing.
-use borrow.Author.Rules.{rules}
 use borrow.Author.Tests.{eq-eqb, ne_eqb}
 use Rattle.item_answer.specs.Answer.{degrees_of}
 use Rattle.item_keep_code.proofs.table.reading.Goals as goal

@@ -1,7 +1,6 @@
 -- `item_line_code::calls::counted_call` meets its contract. Assumes nothing.
 use Rattle.item_line.specs.OwnRead.{as_call}
 use Rattle.item_line_code.specs.OwnReads.{counted_call}
-use borrow.Author.Rules.{rules}
 use Rattle.item_line_code.proofs.calls.counted_call.Goals as goal
 
 pub returns-in-Tick : goal.returns-in-Tick

@@ -1,7 +1,6 @@
 -- `item_line_code::calls::is_out` meets its contract. Assumes nothing.
 use mathlib.Core.Path.{◌∙◌}
 use Rattle.numeral.specs.Ascii.{ascii}
-use borrow.Author.Rules.{rules}
 use Rattle.item_line_code.proofs.calls.is_out.Goals as goal
 
 pub returns : goal.returns

@@ -1,6 +1,5 @@
 -- `item_line_code::calls::size` meets its contract. Assumes nothing.
 use mathlib.Core.Path.{◌∙◌}
-use borrow.Author.Rules.{rules}
 use Rattle.item_line_code.proofs.calls.size.Goals as goal
 
 pub returns : goal.returns

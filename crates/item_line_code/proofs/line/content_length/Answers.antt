@@ -3,7 +3,6 @@ use mathlib.Core.Path.{sym, ◌∙◌}
 use native.Mathlib.Omega.{arith}
 use lib.Seq.{take-length}
 use Rattle.item_line_code.proofs.LineLaws.{no_return, return-drops, return-none}
-use borrow.Author.Rules.{rules}
 use Rattle.item_line_code.proofs.line.content_length.Goals as goal
 
 pub returns-then-n-lt1 : goal.returns-then-n-lt1

@@ -2,7 +2,6 @@
 use mathlib.Core.Path.{◌∙◌}
 use native.Mathlib.Omega.{arith}
 use Rattle.item_line_code.proofs.PartLaws.{comment-cut}
-use borrow.Author.Rules.{rules}
 use Rattle.item_line_code.proofs.line.uncommented.Goals as goal
 
 pub returns : goal.returns

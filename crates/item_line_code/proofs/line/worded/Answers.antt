@@ -1,13 +1,13 @@
 -- `item_line_code::line::worded` meets its contract. Assumes nothing.
+use Rattle.item_line_code.specs.OwnReads.{as_read}
 use Rattle.numeral.specs.Ascii.{ascii}
 use Rattle.item_line.specs.Reading.{worded}
 use Rattle.item_line.specs.OwnRead.{as_line}
 use Rattle.item_line_code.specs.OwnReads.{wanted_of}
-use borrow.Author.Rules.{rules}
 use Rattle.item_line_code.proofs.line.worded.Goals as goal
 
 pub returns-then-same : goal.returns-then-same
-unfolding worded ascii as_line
+unfolding worded ascii as_read as_line
 returns-then-same c = rw (← c.part_of-w.ensures, ← c.same.ensures, c.if-same.true, ← c.uncommented.ensures.words) (c.alone.ensures _)
 
 pub returns-then-same-2 : goal.returns-then-same-2

@@ -1,12 +1,7 @@
--- `item_line_code::numbers::is_slash` meets its contract.
--- Assumes nothing.
-use borrow.Author.Rules.{rules}
+-- `item_line_code::numbers::is_slash` meets its contract. Assumes nothing.
 use Rattle.numeral.specs.Ascii.{ascii}
 use Rattle.item_line_code.proofs.numbers.is_slash.Goals as goal
 
 pub returns-then-slash : goal.returns-then-slash
 unfolding ascii
 returns-then-slash c = rw c.if-slash.true c.same.ensures
-
-pub returns-else-slash : goal.returns-else-slash
-returns-else-slash c = rw c.if-slash.false

@@ -1,6 +1,5 @@
 -- `item_line_code::numbers::list_word` meets its contract. Assumes nothing.
 use Rattle.item_line_code.specs.OwnNumbers.{list_word}
-use borrow.Author.Rules.{rules}
 use Rattle.item_line_code.proofs.numbers.list_word.Goals as goal
 
 pub returns-then-is_slash : goal.returns-then-is_slash

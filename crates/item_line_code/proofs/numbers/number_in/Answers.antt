@@ -1,6 +1,5 @@
 -- `item_line_code::numbers::number_in` meets its contract. Assumes nothing.
 use Rattle.item_line_code.specs.OwnNumbers.{read_as, number_in}
-use borrow.Author.Rules.{rules}
 use Rattle.item_line_code.proofs.numbers.number_in.Goals as goal
 
 pub returns-in-Hex : goal.returns-in-Hex

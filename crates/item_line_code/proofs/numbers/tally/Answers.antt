@@ -1,14 +1,10 @@
 -- `item_line_code::numbers::tally` meets its contract. The invariant: to go on from i with what is counted and stored gives what all words come to;
 -- the measure is what is left of the bytes. Assumes nothing.
-use Prim.Native.Nat.{◌+◌, ◌-◌, ◌≤◌}
-use mathlib.Core.Path.{◌≡◌, refl, sym, ◌∙◌}
+use mathlib.Core.Path.{refl, sym, ◌∙◌}
 use native.Mathlib.Omega.{arith}
-use lib.ListN.{length, drop}
-use borrow.Author.Rules.{rules}
-use Rattle.text.specs.Text.{words}
 use Rattle.text.specs.OwnPart.{part}
 use Rattle.text_code.proofs.WordLaws.{words-end}
-use Rattle.item_line_code.specs.OwnNumbers.{as_tally, tallied, EndsBy}
+use Rattle.item_line_code.specs.OwnNumbers.{as_tally, EndsBy}
 use Rattle.item_line_code.proofs.NumberLaws.{tally-end, tally-slash, tally-word, tally-wrong}
 use Rattle.item_line_code.proofs.DigitLaws.{passed_on}
 use Rattle.item_line_code.proofs.numbers.tally.Goals as goal

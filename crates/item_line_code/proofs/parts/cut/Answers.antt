@@ -1,10 +1,9 @@
 -- `item_line_code::parts::cut` meets its contract. The invariant: no word before i ends what counts; the measure is what is left of the part.
 -- Assumes nothing.
-use Prim.Native.Nat.{◌-◌}
 use mathlib.Core.Path.{sym, ◌∙◌}
 use native.Mathlib.Omega.{arith}
 use Rattle.text.specs.OwnPart.{part}
-use Rattle.item_line_code.proofs.PartLaws.{Looked, looked-first, looked-next, looked-found, looked-all, looked-end}
+use Rattle.item_line_code.proofs.PartLaws.{looked-first, looked-next, looked-found, looked-all, looked-end}
 use Rattle.item_line_code.proofs.parts.cut.Goals as goal
 
 pub loop-i-init : goal.loop-i-init

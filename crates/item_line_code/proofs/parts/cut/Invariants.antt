@@ -1,9 +1,6 @@
 -- `item_line_code::parts::cut` meets its contract. The invariant: no word before i ends what counts; the measure is what is left of the part.
 use Prim.Native.Nat.{◌-◌}
-use mathlib.Core.Path.{sym, ◌∙◌}
-use native.Mathlib.Omega.{arith}
-use Rattle.text.specs.OwnPart.{part}
-use Rattle.item_line_code.proofs.PartLaws.{Looked, looked-first, looked-next, looked-found, looked-all, looked-end}
+use Rattle.item_line_code.proofs.PartLaws.{Looked}
 use Rattle.item_line_code.proofs.parts.cut.Given as goal
 
 abbrev pub invariant-loop-i : goal.invariant-loop-i

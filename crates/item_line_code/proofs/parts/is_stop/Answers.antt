@@ -1,7 +1,6 @@
 -- `item_line_code::parts::is_stop` meets its contract. Assumes nothing.
 use Rattle.numeral.specs.Ascii.{ascii}
 use Rattle.item_line_code.specs.OwnParts.{is_stop}
-use borrow.Author.Rules.{rules}
 use Rattle.item_line_code.proofs.parts.is_stop.Goals as goal
 
 pub returns-then-same : goal.returns-then-same

@@ -3,7 +3,6 @@ use mathlib.Core.Path.{sym, ◌∙◌}
 use Rattle.numeral.specs.Ascii.{ascii}
 use Rattle.text.specs.OwnPart.{part}
 use Rattle.item_line_code.proofs.PartLaws.{split-none, split-comment, split-mark}
-use borrow.Author.Rules.{rules}
 use Rattle.item_line_code.proofs.parts.split.Goals as goal
 
 pub returns-then-to-from : goal.returns-then-to-from

@@ -4,7 +4,6 @@ use Rattle.text.specs.OwnPart.{part}
 use Rattle.item_line.specs.OwnRead.{as_fault}
 use Rattle.item_line_code.specs.OwnReads.{address_line, WithinRest}
 use Rattle.item_line_code.proofs.ReadLaws.{address-none, address-wrong, address-low, address-high, address-fits}
-use borrow.Author.Rules.{rules}
 use Rattle.item_line_code.proofs.reads.address_in.Goals as goal
 
 pub returns-then-end-start : goal.returns-then-end-start

@@ -3,7 +3,6 @@ use native.Mathlib.Omega.{arith}
 use Rattle.item_line.specs.OwnRead.{as_fault}
 use Rattle.item_line_code.specs.OwnReads.{count_line}
 use Rattle.item_line_code.proofs.ReadLaws.{few_words, count-wrong, count_fits, count-few, count-many}
-use borrow.Author.Rules.{rules}
 use Rattle.item_line_code.proofs.reads.counted_numbers.Goals as goal
 
 pub returns-then-count-least : goal.returns-then-count-least

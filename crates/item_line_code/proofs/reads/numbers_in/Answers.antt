@@ -5,7 +5,6 @@ use native.Mathlib.Omega.{arith}
 use Rattle.text.specs.OwnPart.{part}
 use Rattle.item_line_code.proofs.PartLaws.{drop-take}
 use Rattle.item_line_code.proofs.ReadLaws.{tally-part}
-use borrow.Author.Rules.{rules}
 use Rattle.item_line_code.proofs.reads.numbers_in.Goals as goal
 
 pub slice_bounds-tally-end : goal.slice_bounds-tally-end

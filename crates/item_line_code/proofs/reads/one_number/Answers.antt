@@ -4,7 +4,6 @@ use Rattle.text.specs.OwnPart.{part}
 use Rattle.item_line.specs.OwnRead.{as_fault}
 use Rattle.item_line_code.specs.OwnReads.{number_line}
 use Rattle.item_line_code.proofs.ReadLaws.{counted_none, counted-some, one_none, one-wrong, one_value}
-use borrow.Author.Rules.{rules}
 use Rattle.item_line_code.proofs.reads.one_number.Goals as goal
 
 pub returns-then-end-start : goal.returns-then-end-start

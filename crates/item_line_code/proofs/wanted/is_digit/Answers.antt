@@ -1,7 +1,6 @@
 -- `item_line_code::wanted::is_digit` meets its contract. Assumes nothing.
 use borrow.Author.Tests.{eq-eqb, ne_eqb}
 use Rattle.item_line.specs.Reading.{is_digit}
-use borrow.Author.Rules.{rules}
 use Rattle.item_line_code.proofs.wanted.is_digit.Goals as goal
 
 pub returns-then-c-eq120 : goal.returns-then-c-eq120

@@ -2,7 +2,7 @@
 use borrow.Author.Tests.{le-leb, lt-leb}
 use Rattle.numeral.specs.Ascii.{ascii}
 use Rattle.item_line.specs.Reading.{is_wanted}
-use borrow.Author.Rules.{rules}
+use Rattle.item_line_code.proofs.WantedLaws.{not_negate}
 use Rattle.item_line_code.proofs.wanted.is_wanted.Goals as goal
 
 pub returns-then-word-lt1 : goal.returns-then-word-lt1
@@ -13,13 +13,9 @@ pub returns-then-word-gt4 : goal.returns-then-word-gt4
 unfolding is_wanted ascii
 returns-then-word-gt4 c = rw (le-leb _ _ c.if-word-lt1.false, lt-leb _ _ c.if-word-gt4.true)
 
-pub returns-then-same : goal.returns-then-same
+pub returns-then-are_digits : goal.returns-then-are_digits
 unfolding is_wanted ascii
-returns-then-same c = rw (le-leb _ _ c.if-word-lt1.false, le-leb _ _ c.if-word-gt4.false, ← c.are_digits.ensures, c.if-are_digits.true, ← c.first_bytes.ensures, ← c.same.ensures, c.if-same.true)
-
-pub returns-else-same : goal.returns-else-same
-unfolding is_wanted ascii
-returns-else-same c = rw (le-leb _ _ c.if-word-lt1.false, le-leb _ _ c.if-word-gt4.false, ← c.are_digits.ensures, c.if-are_digits.true, ← c.first_bytes.ensures, ← c.same.ensures, c.if-same.false)
+returns-then-are_digits c = rw (le-leb _ _ c.if-word-lt1.false, le-leb _ _ c.if-word-gt4.false, ← c.are_digits.ensures, c.if-are_digits.true, ← c.first_bytes.ensures, ← c.same.ensures) (not_negate c.same.result)
 
 pub returns-else-are_digits : goal.returns-else-are_digits
 unfolding is_wanted ascii

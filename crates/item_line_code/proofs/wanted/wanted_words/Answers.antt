@@ -1,14 +1,11 @@
 -- `item_line_code::wanted::wanted_words` meets its contract. Assumes nothing.
-use Prim.Native.Nat.{◌-◌, ◌≤◌}
 use mathlib.Core.Path.{sym, ◌∙◌}
 use native.Mathlib.Omega.{arith}
-use Rattle.text.specs.Text.{words}
 use Rattle.text.specs.OwnPart.{part}
-use Rattle.text_code.specs.OwnWords.{between}
 use Rattle.item_line.specs.OwnRead.{as_fault}
 use Rattle.item_line_code.specs.OwnReads.{wanted_by}
 use Rattle.item_line_code.proofs.ReadLaws.{no_words}
-use Rattle.item_line_code.proofs.WantedLaws.{Judged, judged-first, judged-next, judged-wrong, judged-many, judged-all}
+use Rattle.item_line_code.proofs.WantedLaws.{judged-first, judged-next, judged-wrong, judged-many, judged-all}
 use Rattle.item_line_code.proofs.wanted.wanted_words.Goals as goal
 
 pub loop-i-init : goal.loop-i-init

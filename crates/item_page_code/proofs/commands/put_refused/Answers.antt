@@ -1,16 +1,24 @@
 -- `item_page_code::commands::put_refused` meets its contract. Assumes nothing.
-use borrow.Author.Tests.{eq-eqb, ne_eqb}
+use borrow.Author.Rules.{rules}
+use mathlib.Core.Bool.{false}
+use mathlib.Core.Path.{◌≡◌}
+use lib.Dec.{eqb}
 use Rattle.numeral.specs.Ascii.{ascii}
 use Rattle.text.specs.Text.{text_where}
 use Rattle.text.proofs.Putting.{puts_none, puts_then, puts_first}
 use Rattle.item_page.specs.Page.{answer_text}
-use borrow.Author.Rules.{rules}
+use Rattle.refusal.specs.declared.Refusal.{Refusal}
+use Rattle.refusal.specs.Number.{number}
 use Rattle.item_page_code.proofs.commands.put_refused.Goals as goal
 
-pub returns-then-number-eq-SET_UP : goal.returns-then-number-eq-SET_UP
+pub returns-then-eq : goal.returns-then-eq
 unfolding ascii answer_text text_where
-returns-then-number-eq-SET_UP c = rw (eq-eqb _ _ c.if-number-eq-SET_UP.true) (puts_then c.put_refusal-a.ensures (puts_first c.put_text-b.ensures c.put_fields.ensures))
+returns-then-eq c =
+    let e : c.args.refusal ≡ Refusal.SetUp = search rules in
+    rw e (puts_then (rw (c.number.ensures.0, e) at c.put_refusal-a.ensures) (puts_first c.put_text-b.ensures c.put_fields.ensures))
 
 pub returns : goal.returns
 unfolding answer_text text_where
-returns c = rw (ne_eqb _ _ c.if-number-eq-SET_UP.false) (puts_then c.put_refusal-a.ensures (puts_none _ _))
+returns c =
+    let t : eqb (number c.args.refusal) 9 ≡ false = search rules in
+    rw (t, ← c.number.ensures.0) (puts_then c.put_refusal-a.ensures (puts_none _ _))

@@ -2,7 +2,6 @@
 -- Assumes nothing.
 use mathlib.Core.Path.{refl}
 use Rattle.item_page_form.specs.OwnForm.{pair_of}
-use borrow.Author.Rules.{rules}
 use Rattle.item_page_form.proofs.pair.pair_of.Goals as goal
 
 pub returns : goal.returns

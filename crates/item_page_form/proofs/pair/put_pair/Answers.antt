@@ -2,7 +2,6 @@
 use Rattle.numeral.specs.Ascii.{ascii}
 use Rattle.text.proofs.Putting.{puts_first}
 use Rattle.item_page_form.specs.OwnForm.{pair_then}
-use borrow.Author.Rules.{rules}
 use Rattle.item_page_form.proofs.pair.put_pair.Goals as goal
 
 pub returns : goal.returns

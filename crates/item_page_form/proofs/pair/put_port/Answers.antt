@@ -3,7 +3,6 @@ use borrow.Author.Tests.{eq-eqb, ne_eqb}
 use Rattle.numeral.specs.Ascii.{ascii}
 use Rattle.text.proofs.Putting.{puts}
 use Rattle.item_page.specs.Registers.{port_text}
-use borrow.Author.Rules.{rules}
 use Rattle.item_page_form.proofs.pair.put_port.Goals as goal
 
 pub returns-then-q-eq0 : goal.returns-then-q-eq0

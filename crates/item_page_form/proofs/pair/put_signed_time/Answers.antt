@@ -4,7 +4,6 @@ use Rattle.numeral.specs.Ascii.{ascii}
 use Rattle.text.proofs.Putting.{puts, puts_first}
 use Rattle.item_page.specs.Registers.{signed_time}
 use Rattle.item_page_form.proofs.Justified.{signed-end, signed_part}
-use borrow.Author.Rules.{rules}
 use Rattle.item_page_form.proofs.pair.put_signed_time.Goals as goal
 
 pub overflow_sub-start : goal.overflow_sub-start

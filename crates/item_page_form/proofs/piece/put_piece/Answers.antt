@@ -1,48 +1,47 @@
 -- `item_page_form::piece::put_piece` meets its contract. Assumes nothing.
-use borrow.Author.Tests.{eq-eqb, ne_eqb}
+use native.Mathlib.Omega.{arith}
+use borrow.Author.Rules.{rules}
 use Rattle.text.proofs.Putting.{puts_then, puts_first}
 use Rattle.item_page.specs.Registers.{result_text, port_text}
 use Rattle.item_page_form.specs.OwnForm.{piece_then}
-use Rattle.item_page_form.proofs.Fill.{twice}
-use borrow.Author.Rules.{rules}
+use Rattle.item_page_form.proofs.Fill.{twice, word-piece, other-piece}
 use Rattle.item_page_form.proofs.piece.put_piece.Goals as goal
 
-pub returns-then-c-eq35 : goal.returns-then-c-eq35
+pub returns-in-35 : goal.returns-in-35
 unfolding piece_then
-returns-then-c-eq35 c = record { on = λ rest s k after. rw (← c.byte-c.ensures, eq-eqb _ _ c.if-c-eq35.true) (puts_first c.put_decimal.ensures after) }
+returns-in-35 c = record { on = λ rest s k after. rw (← c.byte.ensures, c.in-35.is) (puts_first (rw c.from.ensures at c.put_decimal.ensures) after) }
 
-pub returns-then-c-eq36 : goal.returns-then-c-eq36
-unfolding piece_then
-returns-then-c-eq36 c = record { on = λ rest s k after. rw (← c.byte-c.ensures, ne_eqb _ _ c.if-c-eq35.false, eq-eqb _ _ c.if-c-eq36.true) (puts_first c.put_hex.ensures after) }
+pub returns-in-36 : goal.returns-in-36
+returns-in-36 c = record { on = λ rest s k after. rw (word-piece c.args.piece.now c.args.v c.args.w rest c.byte.ensures c.in-36.is) (puts_first c.put_hex.ensures after) }
 
-pub returns-then-c-eq37 : goal.returns-then-c-eq37
+pub returns-in-37 : goal.returns-in-37
 unfolding piece_then
-returns-then-c-eq37 c = record { on = λ rest s k after. rw (← c.byte-c.ensures, ne_eqb _ _ c.if-c-eq35.false, ne_eqb _ _ c.if-c-eq36.false, eq-eqb _ _ c.if-c-eq37.true) (puts_first c.put_hex-then-c-eq37.ensures after) }
+returns-in-37 c = record { on = λ rest s k after. rw (← c.byte.ensures, c.in-37.is) (puts_first c.put_hex-in-37.ensures after) }
 
-pub returns-then-c-eq38 : goal.returns-then-c-eq38
+pub returns-in-38 : goal.returns-in-38
 unfolding piece_then
-returns-then-c-eq38 c = record { on = λ rest s k after. rw (← c.byte-c.ensures, ne_eqb _ _ c.if-c-eq35.false, ne_eqb _ _ c.if-c-eq36.false, ne_eqb _ _ c.if-c-eq37.false, eq-eqb _ _ c.if-c-eq38.true) (rw (← c.bytes_from.ensures) (c.put_plural.ensures.on rest s k after)) }
+returns-in-38 c = record { on = λ rest s k after. rw (← c.byte.ensures, c.in-38.is) (rw (← c.bytes_from.ensures) (c.put_plural.ensures.on rest s k after)) }
 
-pub returns-then-c-eq63 : goal.returns-then-c-eq63
+pub returns-in-63 : goal.returns-in-63
 unfolding piece_then
-returns-then-c-eq63 c = record { on = λ rest s k after. rw (← c.byte-c.ensures, ne_eqb _ _ c.if-c-eq35.false, ne_eqb _ _ c.if-c-eq36.false, ne_eqb _ _ c.if-c-eq37.false, ne_eqb _ _ c.if-c-eq38.false, eq-eqb _ _ c.if-c-eq63.true) (rw (← c.bytes_from-then-c-eq63.ensures, ← c.digit.ensures) (puts_then c.put_where.ensures after)) }
+returns-in-63 c = record { on = λ rest s k after. rw (← c.byte.ensures, c.in-63.is) (rw (← c.bytes_from-in-63.ensures, ← c.digit.ensures) (puts_then c.put_where.ensures after)) }
 
-pub returns-then-c-eq64 : goal.returns-then-c-eq64
+pub returns-in-60 : goal.returns-in-60
 unfolding piece_then
-returns-then-c-eq64 c = record { on = λ rest s k after. rw (← c.byte-c.ensures, ne_eqb _ _ c.if-c-eq35.false, ne_eqb _ _ c.if-c-eq36.false, ne_eqb _ _ c.if-c-eq37.false, ne_eqb _ _ c.if-c-eq38.false, ne_eqb _ _ c.if-c-eq63.false, eq-eqb _ _ c.if-c-eq64.true) (puts_first c.put_hex-then-c-eq64.ensures after) }
+returns-in-60 c = record { on = λ rest s k after. rw (← c.byte.ensures, c.in-60.is) (rw (← c.pair_of.ensures) (c.put_pair.ensures.on rest s k after)) }
 
-pub returns-then-c-eq60 : goal.returns-then-c-eq60
+pub returns-in-61 : goal.returns-in-61
 unfolding piece_then
-returns-then-c-eq60 c = record { on = λ rest s k after. rw (← c.byte-c.ensures, ne_eqb _ _ c.if-c-eq35.false, ne_eqb _ _ c.if-c-eq36.false, ne_eqb _ _ c.if-c-eq37.false, ne_eqb _ _ c.if-c-eq38.false, ne_eqb _ _ c.if-c-eq63.false, ne_eqb _ _ c.if-c-eq64.false, eq-eqb _ _ c.if-c-eq60.true) (rw (← c.pair_of.ensures) (c.put_pair.ensures.on rest s k after)) }
+returns-in-61 c = record { on = λ rest s k after. rw (← c.byte.ensures, c.in-61.is) (twice result_text c.pair_of-in-61.ensures c.pair_of-in-61-2.ensures c.put_pair-a.ensures c.put_result.ensures after) }
 
-pub returns-then-c-eq61 : goal.returns-then-c-eq61
+pub returns-in-62 : goal.returns-in-62
 unfolding piece_then
-returns-then-c-eq61 c = record { on = λ rest s k after. rw (← c.byte-c.ensures, ne_eqb _ _ c.if-c-eq35.false, ne_eqb _ _ c.if-c-eq36.false, ne_eqb _ _ c.if-c-eq37.false, ne_eqb _ _ c.if-c-eq38.false, ne_eqb _ _ c.if-c-eq63.false, ne_eqb _ _ c.if-c-eq64.false, ne_eqb _ _ c.if-c-eq60.false, eq-eqb _ _ c.if-c-eq61.true) (twice result_text c.pair_of-then-c-eq61.ensures c.pair_of-then-c-eq61-2.ensures c.put_pair-a.ensures c.put_result.ensures after) }
+returns-in-62 c = record { on = λ rest s k after. rw (← c.byte.ensures, c.in-62.is) (twice port_text c.pair_of-in-62.ensures c.pair_of-in-62-2.ensures c.put_pair-a-in-62.ensures c.put_port.ensures after) }
 
-pub returns-then-c-eq62 : goal.returns-then-c-eq62
-unfolding piece_then
-returns-then-c-eq62 c = record { on = λ rest s k after. rw (← c.byte-c.ensures, ne_eqb _ _ c.if-c-eq35.false, ne_eqb _ _ c.if-c-eq36.false, ne_eqb _ _ c.if-c-eq37.false, ne_eqb _ _ c.if-c-eq38.false, ne_eqb _ _ c.if-c-eq63.false, ne_eqb _ _ c.if-c-eq64.false, ne_eqb _ _ c.if-c-eq60.false, ne_eqb _ _ c.if-c-eq61.false, eq-eqb _ _ c.if-c-eq62.true) (twice port_text c.pair_of-then-c-eq62.ensures c.pair_of-then-c-eq62-2.ensures c.put_pair-a-then-c-eq62.ensures c.put_port.ensures after) }
-
-pub returns : goal.returns
-unfolding piece_then
-returns c = record { on = λ rest s k after. rw (← c.byte-c.ensures, ne_eqb _ _ c.if-c-eq35.false, ne_eqb _ _ c.if-c-eq36.false, ne_eqb _ _ c.if-c-eq37.false, ne_eqb _ _ c.if-c-eq38.false, ne_eqb _ _ c.if-c-eq63.false, ne_eqb _ _ c.if-c-eq64.false, ne_eqb _ _ c.if-c-eq60.false, ne_eqb _ _ c.if-c-eq61.false, ne_eqb _ _ c.if-c-eq62.false) (puts_first c.put_text.ensures after) }
+pub returns-in_default : goal.returns-in_default
+returns-in_default c =
+    record {
+      on = λ rest s k after.
+          rw (other-piece c.args.piece.now c.args.v c.args.w rest c.byte.ensures (record { n35 = omega arith; n36 = grind arith; n37 = omega arith; n38 = omega arith; n63 = omega arith; n64 = search rules; n60 = omega arith; n61 = omega arith; n62 = omega arith }))
+          (puts_first c.put_text.ensures after);
+    }

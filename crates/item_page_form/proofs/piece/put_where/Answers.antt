@@ -1,7 +1,6 @@
 -- `item_page_form::piece::put_where` meets its contract. Assumes nothing.
 use Rattle.text.specs.Text.{text_where}
 use Rattle.text.proofs.Putting.{puts, puts_none}
-use borrow.Author.Rules.{rules}
 use Rattle.item_page_form.proofs.piece.put_where.Goals as goal
 
 pub returns-then-holds : goal.returns-then-holds

@@ -1,30 +1,29 @@
--- `item_page_form::piece::takes` meets its contract.
--- Assumes nothing.
-use Rattle.item_page_form.specs.OwnForm.{takes}
+-- `item_page_form::piece::takes` meets its contract. Assumes nothing.
 use borrow.Author.Rules.{rules}
 use borrow.Author.Tests.{lt-ltb, le-ltb, eq-eqb, ne_eqb}
+use Rattle.item_page_form.specs.OwnForm.{takes}
 use Rattle.item_page_form.proofs.piece.takes.Goals as goal
 
-pub returns-then-c-lt35 : goal.returns-then-c-lt35
+pub returns-in-35-to-38 : goal.returns-in-35-to-38
 unfolding takes
-returns-then-c-lt35 c = search (rules, lt-ltb, le-ltb, eq-eqb, ne_eqb)
+returns-in-35-to-38 c = search (rules, lt-ltb, le-ltb, eq-eqb, ne_eqb)
 
-pub returns-then-c-le38 : goal.returns-then-c-le38
+pub returns-in-35-to-38-2 : goal.returns-in-35-to-38-2
 unfolding takes
-returns-then-c-le38 c = search (rules, lt-ltb, le-ltb, eq-eqb, ne_eqb)
+returns-in-35-to-38-2 c = search (rules, lt-ltb, le-ltb, eq-eqb, ne_eqb)
 
-pub returns-then-c-lt60 : goal.returns-then-c-lt60
+pub returns-in-60-to-62 : goal.returns-in-60-to-62
 unfolding takes
-returns-then-c-lt60 c = search (rules, lt-ltb, le-ltb, eq-eqb, ne_eqb)
+returns-in-60-to-62 c = search (rules, lt-ltb, le-ltb, eq-eqb, ne_eqb)
 
-pub returns-then-c-le62 : goal.returns-then-c-le62
+pub returns-in_default : goal.returns-in_default
 unfolding takes
-returns-then-c-le62 c = search (rules, lt-ltb, le-ltb, eq-eqb, ne_eqb)
+returns-in_default c = search (rules, lt-ltb, le-ltb, eq-eqb, ne_eqb)
 
-pub returns-then-c-eq63 : goal.returns-then-c-eq63
+pub returns-in_default-2 : goal.returns-in_default-2
 unfolding takes
-returns-then-c-eq63 c = search (rules, lt-ltb, le-ltb, eq-eqb, ne_eqb)
+returns-in_default-2 c = search (rules, lt-ltb, le-ltb, eq-eqb, ne_eqb)
 
-pub returns-else-c-eq63 : goal.returns-else-c-eq63
+pub returns-in_default-3 : goal.returns-in_default-3
 unfolding takes
-returns-else-c-eq63 c = search (rules, lt-ltb, le-ltb, eq-eqb, ne_eqb)
+returns-in_default-3 c = search (rules, lt-ltb, le-ltb, eq-eqb, ne_eqb)

@@ -1,15 +1,16 @@
 -- `item_questions::expectation::differing` meets its contract: what was counted, and what is still to count, are all that differ.
 -- Assumes nothing.
-use Rattle.std.proofs.Common.{◌≡◌, ◌+◌, ◌-◌, ◌≤◌, length, drop, zero-add, arith, rules}
-use Rattle.item_questions.specs.Answers.{differing}
+use Rattle.std.proofs.Common.{◌≡◌, Bool, true, false, cond, not, refl, ◌∙◌, arith}
+use Rattle.std.specs.Int.{from_bool}
 use Rattle.item_questions.proofs.Steps.{count-on, count-end}
 use Rattle.item_questions.proofs.expectation.differing.Goals as goal
 
-pub loop-i-init : goal.loop-i-init
-loop-i-init c = (search rules, rw zero-add)
+one_where_not : (t : Bool) → from_bool (not t) ≡ cond t 0 1
+one_where_not true = refl
+one_where_not false = refl
 
-pub loop-i-preserved : goal.loop-i-preserved
-loop-i-preserved c = count-on c.args.m c.loop-i.address c.args.words.now c.loop-i.i c.loop-i-test.true c.loop-i.n _ c.loop-i.invariant.0 (omega arith) c.word.ensures c.differs.ensures c.more-n.ensures c.wrapping_add_u32-address.ensures.value c.loop-i.invariant.1
+pub loop-wanted-preserved : goal.loop-wanted-preserved
+loop-wanted-preserved c = count-on c.args.m c.loop-wanted.address c.args.words.now c.loop-wanted.wanted-index c.loop-wanted-test.true c.loop-wanted.n _ c.loop-wanted.invariant.0 (omega arith) c.word.ensures (c.from.ensures ∙ one_where_not _) c.more-n.ensures refl c.loop-wanted.invariant.1
 
 pub returns : goal.returns
-returns c = count-end c.args.m c.loop-i.address c.args.words.now c.loop-i.i c.loop-i-test.false c.loop-i.invariant.1
+returns c = count-end c.args.m c.loop-wanted.address c.args.words.now c.loop-wanted.wanted-index c.loop-wanted-test.false c.loop-wanted.invariant.1

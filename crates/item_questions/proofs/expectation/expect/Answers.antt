@@ -1,6 +1,5 @@
 -- `item_questions::expectation::expect` meets its contract.
 -- Assumes nothing.
-use Rattle.std.proofs.Common.{rules}
 use Rattle.item_state.specs.Log.{added}
 use Rattle.item_questions.proofs.expectation.expect.Goals as goal
 

@@ -1,6 +1,5 @@
 -- `item_questions::expectation::put_expectation` meets its contract.
 -- Assumes nothing.
-use Rattle.std.proofs.Common.{rules}
 use Rattle.item_questions.specs.Answers.{expectation}
 use Rattle.wording.proofs.Each.{put_then}
 use Rattle.item_questions.proofs.expectation.put_expectation.Goals as goal

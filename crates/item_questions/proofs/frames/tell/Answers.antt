@@ -1,6 +1,5 @@
 -- `item_questions::frames::tell` meets its contract.
 -- Assumes nothing.
-use Rattle.std.proofs.Common.{rules}
 use Rattle.wording.proofs.Each.{put_then}
 use Rattle.item_questions.specs.Answers.{frames_told}
 use Rattle.item_state.specs.Log.{called}

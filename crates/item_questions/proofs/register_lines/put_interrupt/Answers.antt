@@ -1,6 +1,5 @@
 -- `item_questions::register_lines::put_interrupt` meets its contract.
 -- Assumes nothing.
-use Rattle.std.proofs.Common.{rules}
 use Rattle.item_questions.specs.Answers.{interrupt}
 use Rattle.item_questions.proofs.register_lines.put_interrupt.Goals as goal
 

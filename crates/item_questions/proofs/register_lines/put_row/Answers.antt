@@ -1,6 +1,5 @@
 -- `item_questions::register_lines::put_row` meets its contract.
 -- Assumes nothing.
-use Rattle.std.proofs.Common.{rules}
 use Rattle.item_questions.specs.Answers.{row}
 use Rattle.item_questions.proofs.register_lines.put_row.Goals as goal
 

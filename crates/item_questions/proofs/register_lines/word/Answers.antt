@@ -1,6 +1,5 @@
 -- `item_questions::register_lines::word` meets its contract.
 -- Assumes nothing.
-use Rattle.std.proofs.Common.{rules}
 use Rattle.item_state.specs.Told.{read_word}
 use Rattle.item_questions.proofs.register_lines.word.Goals as goal
 

@@ -1,6 +1,5 @@
 -- `item_replay_code::count::add` meets its contract.
 -- Assumes nothing.
-use borrow.Author.Rules.{rules}
 use native.Mathlib.Omega.{arith}
 use mathlib.Core.Path.{refl}
 use Rattle.item_answer.specs.OwnView.{tally_of}

@@ -1,6 +1,5 @@
 -- `item_replay_code::ended::at_line` meets its contract.
 -- Assumes nothing.
-use borrow.Author.Rules.{rules}
 use native.Mathlib.Omega.{arith}
 use mathlib.Core.Path.{refl}
 use Rattle.item_replay_code.proofs.LineLaws.{begins-bounded, at_bound, at-turns}

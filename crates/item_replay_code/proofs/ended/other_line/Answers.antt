@@ -1,6 +1,5 @@
 -- `item_replay_code::ended::other_line` meets its contract.
 -- Assumes nothing.
-use borrow.Author.Rules.{rules}
 use Rattle.item_answer.specs.OwnView.{item_of}
 use Rattle.item_replay_code.proofs.LineLaws.{answered-few, line-turns, steps-answered}
 use Rattle.item_replay_code.proofs.TurnLaws.{bounded-few}

@@ -1,6 +1,5 @@
 -- `item_replay_code::ended::tick_line` meets its contract.
 -- Assumes nothing.
-use borrow.Author.Rules.{rules}
 use native.Mathlib.Omega.{arith}
 use Rattle.item_replay_code.proofs.LineLaws.{begins-bounded, tick-bound, tick-turns}
 use Rattle.item_replay_code.proofs.ended.tick_line.Goals as goal

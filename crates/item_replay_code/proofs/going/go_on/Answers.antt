@@ -1,6 +1,5 @@
 -- `item_replay_code::going::go_on` meets its contract.
 -- Assumes nothing.
-use borrow.Author.Rules.{rules}
 use Rattle.item_replay_code.proofs.TurnLaws.{bounded-few, turns-rest}
 use Rattle.item_replay_code.proofs.going.go_on.Goals as goal
 

@@ -1,6 +1,5 @@
 -- `item_replay_code::hold::hold_line` meets its contract.
 -- Assumes nothing.
-use borrow.Author.Rules.{rules}
 use Rattle.item_replay_code.proofs.HeldLaws.{held_whole, held-part}
 use Rattle.item_replay_code.proofs.hold.hold_line.Goals as goal
 

@@ -1,11 +1,10 @@
 -- `item_replay_code::lines::go` meets its contract.
 -- Assumes nothing.
 use borrow.Author.Rules.{rules}
-use Prim.Native.Nat.{◌≤◌}
 use native.Mathlib.Omega.{arith}
-use mathlib.Core.Path.{◌≡◌, refl, sym, ◌∙◌}
+use mathlib.Core.Path.{refl, sym, ◌∙◌}
 use lib.ListN.{length}
-use Rattle.item_replay_code.proofs.GoneLaws.{Sofar, sofar-first, sofar-next, roomy, turn-ready, used-small, left_over, less-next, gone}
+use Rattle.item_replay_code.proofs.GoneLaws.{sofar-first, sofar-next, roomy, turn-ready, used-small, less-next, gone}
 use Rattle.item_replay_code.proofs.lines.go.Goals as goal
 
 pub loop-more-init : goal.loop-more-init

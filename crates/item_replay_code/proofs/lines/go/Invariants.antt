@@ -1,10 +1,8 @@
 -- `item_replay_code::lines::go` meets its contract.
-use borrow.Author.Rules.{rules}
 use Prim.Native.Nat.{◌≤◌}
-use native.Mathlib.Omega.{arith}
-use mathlib.Core.Path.{◌≡◌, refl, sym, ◌∙◌}
+use mathlib.Core.Path.{◌≡◌}
 use lib.ListN.{length}
-use Rattle.item_replay_code.proofs.GoneLaws.{Sofar, sofar-first, sofar-next, roomy, turn-ready, used-small, left_over, less-next, gone}
+use Rattle.item_replay_code.proofs.GoneLaws.{Sofar, left_over}
 use Rattle.item_replay_code.proofs.lines.go.Given as goal
 
 abbrev pub invariant-loop-more : goal.invariant-loop-more

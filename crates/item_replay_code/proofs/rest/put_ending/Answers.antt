@@ -1,6 +1,5 @@
 -- `item_replay_code::rest::put_ending` meets its contract.
 -- Assumes nothing.
-use borrow.Author.Rules.{rules}
 use borrow.Author.Tests.{eq-eqb, ne_eqb}
 use Rattle.text.proofs.Putting.{puts_none}
 use Rattle.item_replay_code.specs.OwnRest.{ending_of}

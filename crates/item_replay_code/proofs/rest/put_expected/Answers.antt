@@ -1,16 +1,15 @@
 -- `item_replay_code::rest::put_expected` meets its contract.
 -- Assumes nothing.
-use borrow.Author.Rules.{rules}
 use Rattle.numeral.specs.Ascii.{ascii}
 use Rattle.text.proofs.Putting.{puts_none, puts_first}
 use Rattle.item_line.specs.OwnRead.{as_expected}
 use Rattle.item_answer.specs.Step.{expected_text}
 use Rattle.item_replay_code.proofs.rest.put_expected.Goals as goal
 
-pub returns-in-Unmarked : goal.returns-in-Unmarked
+pub returns-in-None : goal.returns-in-None
 unfolding ascii as_expected expected_text
-returns-in-Unmarked c = rw c.in-Unmarked.is (puts_none _ _)
+returns-in-None c = rw c.in-None.is (puts_none _ _)
 
-pub returns-in-Marked : goal.returns-in-Marked
+pub returns-in-Some : goal.returns-in-Some
 unfolding ascii as_expected expected_text
-returns-in-Marked c = rw c.in-Marked.is (puts_first c.put_text-a.ensures (rw c.part_of.ensures at c.put_spaced.ensures))
+returns-in-Some c = rw c.in-Some.is (puts_first c.put_text-a.ensures (rw c.part_of.ensures at c.put_spaced.ensures))

@@ -1,6 +1,5 @@
 -- `item_replay_code::rest::put_line_ending` meets its contract.
 -- Assumes nothing.
-use borrow.Author.Rules.{rules}
 use Rattle.numeral.specs.Ascii.{ascii}
 use Rattle.text.specs.Text.{text_where, ended}
 use Rattle.text.proofs.Putting.{puts, puts-last}

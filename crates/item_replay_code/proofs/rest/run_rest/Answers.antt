@@ -1,12 +1,11 @@
 -- `item_replay_code::rest::run_rest` meets its contract.
 -- Assumes nothing.
 use borrow.Author.Rules.{rules}
-use native.Mathlib.Omega.{arith}
 use Rattle.item_replay_code.proofs.RestLaws.{rest-runs}
 use Rattle.item_replay_code.proofs.rest.run_rest.Goals as goal
 
-pub overflow_add-carried : goal.overflow_add-carried
-overflow_add-carried c =
+pub overflow_add-moment : goal.overflow_add-moment
+overflow_add-moment c =
     let pre = c.requires in
     let ran = c.run_ticks-r.ensures.going.count in
     search (rules, pre, ran)

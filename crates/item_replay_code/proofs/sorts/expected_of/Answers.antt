@@ -1,6 +1,5 @@
 -- `item_replay_code::sorts::expected_of` meets its contract.
 -- Assumes nothing.
-use borrow.Author.Rules.{rules}
 use Rattle.item_line.specs.OwnRead.{as_expected, as_line}
 use Rattle.item_replay.specs.Going.{expected_of}
 use Rattle.item_replay_code.proofs.sorts.expected_of.Goals as goal

@@ -1,6 +1,5 @@
 -- `item_replay_code::sorts::sort` meets its contract.
 -- Assumes nothing.
-use borrow.Author.Rules.{rules}
 use mathlib.Core.Path.{refl}
 use Rattle.item_answer_code.specs.OwnSteps.{is_show}
 use Rattle.item_replay_code.specs.OwnLine.{OfSort}

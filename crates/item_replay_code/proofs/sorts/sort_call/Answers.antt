@@ -1,8 +1,7 @@
 -- `item_replay_code::sorts::sort_call` meets its contract.
 -- Assumes nothing.
-use borrow.Author.Rules.{rules}
 use mathlib.Core.Path.{refl}
-use Rattle.item_line.specs.OwnRead.{as_call, as_line}
+use Rattle.item_line.specs.OwnRead.{as_call}
 use Rattle.item_answer.specs.OwnRoom.{runs_ticks, is_ticks}
 use Rattle.item_answer_code.specs.OwnSteps.{is_show}
 use Rattle.item_replay_code.specs.OwnLine.{OfSort}

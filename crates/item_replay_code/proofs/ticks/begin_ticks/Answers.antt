@@ -1,6 +1,5 @@
 -- `item_replay_code::ticks::begin_ticks` meets its contract.
 -- Assumes nothing.
-use borrow.Author.Rules.{rules}
 use Rattle.text.proofs.Putting.{puts, puts_then}
 use Rattle.item_replay_code.proofs.ticks.begin_ticks.Goals as goal
 

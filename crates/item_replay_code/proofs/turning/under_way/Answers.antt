@@ -1,6 +1,5 @@
 -- `item_replay_code::turning::under_way` meets its contract.
 -- Assumes nothing.
-use borrow.Author.Rules.{rules}
 use native.Mathlib.Omega.{arith}
 use Rattle.item_replay_code.proofs.LineLaws.{under}
 use Rattle.item_replay_code.proofs.turning.under_way.Goals as goal

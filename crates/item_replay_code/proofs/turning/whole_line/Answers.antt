@@ -1,6 +1,5 @@
 -- `item_replay_code::turning::whole_line` meets its contract.
 -- Assumes nothing.
-use borrow.Author.Rules.{rules}
 use Rattle.item_replay_code.specs.OwnLine.{OfSort}
 use Rattle.item_replay_code.proofs.LineLaws.{sorted, asks-ready}
 use Rattle.item_replay_code.proofs.turning.whole_line.Goals as goal

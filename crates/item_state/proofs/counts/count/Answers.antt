@@ -1,6 +1,5 @@
 -- `item_state::counts::count` meets its contract.
 -- Assumes nothing.
-use borrow.Author.Rules.{rules}
 use Rattle.item_state.specs.Log.{added, call_counted, counted}
 use Rattle.item_state.proofs.counts.count.Goals as goal
 

@@ -1,7 +1,5 @@
 -- `item_state::counts::count_call` meets its contract.
 -- Assumes nothing.
-use borrow.Author.Rules.{rules}
-use Rattle.item_state.specs.Log.{refusals}
 use Rattle.item_state.proofs.counts.count_call.Goals as goal
 
 pub returns : goal.returns

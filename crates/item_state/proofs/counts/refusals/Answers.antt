@@ -1,14 +1,12 @@
 -- `item_state::counts::refusals` meets its contract.
 -- Assumes nothing.
-use borrow.Author.Rules.{rules}
 use types.Run.{OneOf, miss}
 use denote.Enum.Declared.{tag_of}
 use Rattle.device.specs.contracts.Answer.{the_type}
 use Rattle.device.specs.Reply.{number_in}
 use Rattle.item_state.specs.Log.{refusals}
 use mathlib.Core.Path.{◌≡◌, refl}
-use Prim.Native.Nat.{ℕ}
-use mathlib.Core.List.{List, [], ◌∷◌}
+use mathlib.Core.List.{[], ◌∷◌}
 use Rattle.device.specs.declared.Answer.{Answer}
 use Rattle.device.specs.declared.Answer.TheVariants.{Refused, Accepted, Ticked, Stretched, Good, Failed}
 use borrow.Enum.Refused.{opened}
@@ -16,7 +14,7 @@ use Rattle.item_state.proofs.counts.refusals.Goals as goal
 
 others : (a : Answer) → OneOf (1 ∷ 2 ∷ 3 ∷ 4 ∷ 5 ∷ []) (tag_of the_type a) → 0 ≡ refusals a
 unfolding refusals number_in
-others (Refused n) h = absurd (miss (1 ∷ 2 ∷ 3 ∷ 4 ∷ 5 ∷ []) 0 tt h)
+others (Refused r) h = absurd (miss (1 ∷ 2 ∷ 3 ∷ 4 ∷ 5 ∷ []) 0 tt h)
 others (Accepted f t) h = refl
 others (Ticked f t) h = refl
 others (Stretched f t) h = refl

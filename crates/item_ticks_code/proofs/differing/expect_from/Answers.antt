@@ -1,7 +1,6 @@
 -- `item_ticks_code::differing::expect_from` meets its contract.
 -- Assumes nothing.
 use Rattle.item_ticks_code.proofs.Holding.{expected-from}
-use borrow.Author.Rules.{rules}
 use Rattle.item_ticks_code.proofs.differing.expect_from.Goals as goal
 
 pub returns : goal.returns

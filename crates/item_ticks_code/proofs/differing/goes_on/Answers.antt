@@ -6,5 +6,5 @@ use Rattle.item_ticks_code.proofs.differing.goes_on.Goals as goal
 pub returns-then-left-gt0 : goal.returns-then-left-gt0
 returns-then-left-gt0 c = rw (lt-ltb _ _ c.if-left-gt0.true)
 
-pub returns : goal.returns
-returns c = rw (le-ltb _ _ c.if-left-gt0.false)
+pub returns-else-left-gt0 : goal.returns-else-left-gt0
+returns-else-left-gt0 c = rw (le-ltb _ _ c.if-left-gt0.false)

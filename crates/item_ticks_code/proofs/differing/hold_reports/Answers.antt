@@ -3,7 +3,6 @@
 use Rattle.numeral.specs.Ascii.{ascii}
 use Rattle.item_ticks_code.specs.OwnHeld.{report_words}
 use Rattle.item_ticks_code.proofs.Holding.{held_then}
-use borrow.Author.Rules.{rules}
 use Rattle.item_ticks_code.proofs.differing.hold_reports.Goals as goal
 
 pub returns : goal.returns

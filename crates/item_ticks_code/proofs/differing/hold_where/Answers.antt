@@ -1,7 +1,6 @@
 -- `item_ticks_code::differing::hold_where` meets its contract.
 -- Assumes nothing.
 use Rattle.item_ticks_code.proofs.Holding.{held-not}
-use borrow.Author.Rules.{rules}
 use Rattle.item_ticks_code.proofs.differing.hold_where.Goals as goal
 
 pub returns-then-happened : goal.returns-then-happened

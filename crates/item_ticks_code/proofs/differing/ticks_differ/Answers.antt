@@ -1,15 +1,7 @@
 -- `item_ticks_code::differing::ticks_differ` meets its contract.
 -- Assumes nothing.
-use Prim.Native.Nat.{◌+◌, ◌≤◌}
-use mathlib.Core.Bool.{true}
-use mathlib.Core.Path.{◌≡◌, refl, sym, ◌∙◌}
+use mathlib.Core.Path.{refl, sym, ◌∙◌}
 use native.Mathlib.Omega.{arith}
-use lib.ListN.{length}
-use borrow.Author.Rules.{rules}
-use Rattle.device.specs.Model.{is_sound}
-use Rattle.text.specs.Text.{words}
-use Rattle.item_answer.specs.Answer.{ticked}
-use Rattle.item_ticks_code.specs.OwnHeld.{differs_by}
 use Rattle.item_ticks_code.proofs.Ticks.{moved-sound}
 use Rattle.item_ticks_code.proofs.ReportWords.{tick-differs, at-differs}
 use Rattle.item_ticks_code.proofs.Holding.{tick-more, held-turn, held-end}
@@ -27,8 +19,8 @@ move_on-moved-requires c = (c.loop-model.invariant.1, tick-more _ c.loop-model.h
 pub overflow_add-later : goal.overflow_add-later
 overflow_add-later c = omega (arith, c.wide.ensures.0, c.move_on-moved.ensures.few, c.loop-model.invariant.2, c.requires.1)
 
-pub overflow_sub-fewer : goal.overflow_sub-fewer
-overflow_sub-fewer c = omega (arith, c.move_on-moved.ensures.few)
+pub overflow_sub-left : goal.overflow_sub-left
+overflow_sub-left c = omega (arith, c.move_on-moved.ensures.few)
 
 pub overflow_sub-later : goal.overflow_sub-later
 overflow_sub-later c = omega (arith, c.wide.ensures.0, c.move_on-moved.ensures.some)

@@ -1,17 +1,12 @@
 -- `item_ticks_code::differing::ticks_differ` meets its contract.
 use Prim.Native.Nat.{◌+◌, ◌≤◌}
 use mathlib.Core.Bool.{true}
-use mathlib.Core.Path.{◌≡◌, refl, sym, ◌∙◌}
-use native.Mathlib.Omega.{arith}
+use mathlib.Core.Path.{◌≡◌}
 use lib.ListN.{length}
-use borrow.Author.Rules.{rules}
 use Rattle.device.specs.Model.{is_sound}
 use Rattle.text.specs.Text.{words}
 use Rattle.item_answer.specs.Answer.{ticked}
 use Rattle.item_ticks_code.specs.OwnHeld.{differs_by}
-use Rattle.item_ticks_code.proofs.Ticks.{moved-sound}
-use Rattle.item_ticks_code.proofs.ReportWords.{tick-differs, at-differs}
-use Rattle.item_ticks_code.proofs.Holding.{tick-more, held-turn, held-end}
 use Rattle.item_ticks_code.proofs.differing.ticks_differ.Given as goal
 
 abbrev pub invariant-loop-model : goal.invariant-loop-model

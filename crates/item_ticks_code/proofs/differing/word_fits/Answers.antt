@@ -2,7 +2,6 @@
 -- Assumes nothing.
 use mathlib.Core.Path.{refl}
 use Rattle.item_ticks_code.proofs.Holding.{word_end, word-long, word-there}
-use borrow.Author.Rules.{rules}
 use Rattle.item_ticks_code.proofs.differing.word_fits.Goals as goal
 
 pub slice_bounds-word-end : goal.slice_bounds-word-end

@@ -1,10 +1,8 @@
 -- `item_ticks_code::running::run_ticks` meets its contract.
 -- Assumes nothing.
-use mathlib.Core.Path.{◌≡◌, refl, sym, ◌∙◌}
+use mathlib.Core.Path.{refl, sym, ◌∙◌}
 use native.Mathlib.Omega.{arith}
-use lib.ListN.{length}
 use borrow.Author.Rules.{rules}
-use Rattle.item_ticks_code.specs.OwnRan.{Going}
 use Rattle.item_ticks_code.proofs.Turns.{another, going-none, going_on, ran_out}
 use Rattle.item_ticks_code.proofs.running.run_ticks.Goals as goal
 

@@ -1,10 +1,7 @@
 -- `item_ticks_code::running::run_ticks` meets its contract.
-use mathlib.Core.Path.{◌≡◌, refl, sym, ◌∙◌}
-use native.Mathlib.Omega.{arith}
+use mathlib.Core.Path.{◌≡◌}
 use lib.ListN.{length}
-use borrow.Author.Rules.{rules}
 use Rattle.item_ticks_code.specs.OwnRan.{Going}
-use Rattle.item_ticks_code.proofs.Turns.{another, going-none, going_on, ran_out}
 use Rattle.item_ticks_code.proofs.running.run_ticks.Given as goal
 
 abbrev pub invariant-loop-buf : goal.invariant-loop-buf

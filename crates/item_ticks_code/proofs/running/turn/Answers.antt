@@ -2,7 +2,6 @@
 -- Assumes nothing.
 use Rattle.item_ticks_code.proofs.Turns.{turned}
 use mathlib.Core.Path.{refl}
-use borrow.Author.Rules.{rules}
 use Rattle.item_ticks_code.proofs.running.turn.Goals as goal
 
 pub returns : goal.returns

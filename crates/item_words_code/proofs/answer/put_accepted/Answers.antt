@@ -1,6 +1,5 @@
 -- `item_words_code::answer::put_accepted` meets its contract.
 -- Assumes nothing.
-use borrow.Author.Rules.{rules}
 use Rattle.numeral.specs.Ascii.{ascii}
 use Rattle.text.proofs.Putting.{puts}
 use Rattle.item_answer.specs.Words.{started}

@@ -1,6 +1,5 @@
 -- `item_words_code::answer::put_answer` meets its contract.
 -- Assumes nothing.
-use borrow.Author.Rules.{rules}
 use Prim.Native.Nat.{ℕ}
 use mathlib.Core.List.{List, [], ◌∷◌}
 use types.Run.{OneOf, miss}
@@ -16,7 +15,7 @@ use Rattle.item_words_code.proofs.answer.put_answer.Goals as goal
 
 others : (a : Answer) (l : List ℕ) (at : ℕ) → OneOf (2 ∷ 3 ∷ []) (tag_of the_type a) → Puts l at (answer_text a) at l
 unfolding answer_text
-others (Refused n) l at h = absurd (miss (2 ∷ 3 ∷ []) 0 tt h)
+others (Refused r) l at h = absurd (miss (2 ∷ 3 ∷ []) 0 tt h)
 others (Accepted f t) l at h = absurd (miss (2 ∷ 3 ∷ []) 1 tt h)
 others (Ticked f t) l at h = puts_none l at
 others (Stretched f t) l at h = puts_none l at
@@ -25,7 +24,7 @@ others Failed l at h = absurd (miss (2 ∷ 3 ∷ []) 5 tt h)
 
 pub returns-in-Refused : goal.returns-in-Refused
 unfolding answer_text
-returns-in-Refused c = rw c.in-Refused.is c.put_refusal.ensures
+returns-in-Refused c = rw (c.in-Refused.is, ← c.number.ensures.0) c.put_refusal.ensures
 
 pub returns-in-Accepted : goal.returns-in-Accepted
 unfolding answer_text

@@ -1,6 +1,5 @@
 -- `item_words_code::expectation::digit_backward` meets its contract.
 -- Assumes nothing.
-use borrow.Author.Rules.{rules}
 use borrow.Author.Tests.{lt-ltb, le-ltb}
 use Rattle.item_words_code.specs.OwnTexts.{backward}
 use Rattle.item_words_code.proofs.expectation.digit_backward.Goals as goal

@@ -1,6 +1,5 @@
 -- `item_words_code::expectation::four_digits` meets its contract.
 -- Assumes nothing.
-use borrow.Author.Rules.{rules}
 use Rattle.item_words_code.proofs.Digits.{four}
 use Rattle.item_words_code.proofs.expectation.four_digits.Goals as goal
 

@@ -1,6 +1,5 @@
 -- `item_words_code::expectation::put_difference` meets its contract.
 -- Assumes nothing.
-use borrow.Author.Rules.{rules}
 use Rattle.numeral.specs.Ascii.{ascii}
 use Rattle.text.proofs.Putting.{puts, puts-last}
 use Rattle.item_words_code.specs.OwnTexts.{difference_text}

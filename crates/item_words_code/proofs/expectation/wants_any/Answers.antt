@@ -1,6 +1,5 @@
 -- `item_words_code::expectation::wants_any` meets its contract.
 -- Assumes nothing.
-use borrow.Author.Rules.{rules}
 use Rattle.numeral.specs.Ascii.{ascii}
 use Rattle.item_words_code.proofs.expectation.wants_any.Goals as goal
 

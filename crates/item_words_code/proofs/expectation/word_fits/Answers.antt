@@ -1,6 +1,5 @@
 -- `item_words_code::expectation::word_fits` meets its contract.
 -- Assumes nothing.
-use borrow.Author.Rules.{rules}
 use Rattle.numeral.proofs.DigitLaws.{length_digits}
 use Rattle.item_words_code.proofs.Digits.{filled}
 use Rattle.item_words_code.proofs.expectation.word_fits.Goals as goal

@@ -1,6 +1,5 @@
 -- `item_words_code::fault::put_fault` meets its contract.
 -- Assumes nothing.
-use borrow.Author.Rules.{rules}
 use Rattle.numeral.specs.Ascii.{ascii}
 use Rattle.text.proofs.Putting.{puts, puts-last, puts_then}
 use Rattle.item_answer.specs.Words.{fault_line}

@@ -1,6 +1,5 @@
 -- `item_words_code::fault::put_shown` meets its contract.
 -- Assumes nothing.
-use borrow.Author.Rules.{rules}
 use borrow.Author.Tests.{lt-ltb}
 use Rattle.numeral.specs.Ascii.{ascii}
 use Rattle.text.specs.Text.{text_where}

@@ -1,6 +1,5 @@
 -- `item_words_code::fault::put_why` meets its contract.
 -- Assumes nothing.
-use borrow.Author.Rules.{rules}
 use Rattle.numeral.specs.Ascii.{ascii}
 use Rattle.text.proofs.Putting.{puts, puts_first}
 use Rattle.item_line.specs.OwnRead.{as_fault}

@@ -1,6 +1,5 @@
 -- `item_words_code::kept::put_count` meets its contract.
 -- Assumes nothing.
-use borrow.Author.Rules.{rules}
 use Rattle.text.proofs.Putting.{puts, puts-last}
 use Rattle.item_words_code.proofs.kept.put_count.Goals as goal
 

@@ -1,6 +1,5 @@
 -- `item_words_code::kept::put_frame` meets its contract.
 -- Assumes nothing.
-use borrow.Author.Rules.{rules}
 use Rattle.numeral.specs.Ascii.{ascii}
 use Rattle.text.proofs.Putting.{puts_first}
 use Rattle.item_answer.specs.Words.{frame_line}

@@ -1,6 +1,5 @@
 -- `item_words_code::register_lines::put_register_line` meets its contract.
 -- Assumes nothing.
-use borrow.Author.Rules.{rules}
 use Rattle.text.proofs.Putting.{puts_first}
 use Rattle.item_answer.specs.Words.{register_line}
 use Rattle.item_words_code.proofs.register_lines.put_register_line.Goals as goal

@@ -1,6 +1,5 @@
 -- `item_words_code::reports::next_named` meets its contract.
 -- Assumes nothing.
-use borrow.Author.Rules.{rules}
 use Rattle.item_words_code.specs.OwnReports.{next_named}
 use Rattle.item_words_code.proofs.reports.next_named.Goals as goal
 

@@ -1,6 +1,5 @@
 -- `item_words_code::reports::put_report` meets its contract.
 -- Assumes nothing.
-use borrow.Author.Rules.{rules}
 use Rattle.text.specs.Text.{text_where}
 use Rattle.text.proofs.Putting.{puts, puts_none, puts-last}
 use Rattle.item_words_code.proofs.reports.put_report.Goals as goal

@@ -1,6 +1,5 @@
 -- `item_words_code::reports::put_reports` meets its contract.
 -- Assumes nothing.
-use borrow.Author.Rules.{rules}
 use Rattle.numeral.specs.Ascii.{ascii}
 use Rattle.text.proofs.Putting.{puts_then}
 use Rattle.item_answer.specs.Words.{report, reports}

@@ -1,13 +1,10 @@
 -- `item_words_code::reports::put_reports_after` meets its contract: the ticks named, one after the other.
 -- Assumes nothing.
 use borrow.Author.Rules.{rules}
-use Prim.Native.Nat.{◌-◌, ◌≤◌}
-use mathlib.Core.Path.{◌≡◌, refl}
+use mathlib.Core.Path.{refl}
 use native.Mathlib.Omega.{arith}
-use lib.ListN.{length}
-use Rattle.text.specs.OwnPut.{Puts}
 use Rattle.text.proofs.Putting.{puts_none}
-use Rattle.item_words_code.specs.OwnReports.{reports_after, next_named}
+use Rattle.item_words_code.specs.OwnReports.{reports_after}
 use Rattle.item_words_code.proofs.Named.{later, turn, done_all}
 use Rattle.item_words_code.proofs.reports.put_reports_after.Goals as goal
 

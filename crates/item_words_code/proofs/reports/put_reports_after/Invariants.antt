@@ -1,13 +1,9 @@
 -- `item_words_code::reports::put_reports_after` meets its contract: the ticks named, one after the other.
-use borrow.Author.Rules.{rules}
 use Prim.Native.Nat.{◌-◌, ◌≤◌}
-use mathlib.Core.Path.{◌≡◌, refl}
-use native.Mathlib.Omega.{arith}
+use mathlib.Core.Path.{◌≡◌}
 use lib.ListN.{length}
 use Rattle.text.specs.OwnPut.{Puts}
-use Rattle.text.proofs.Putting.{puts_none}
 use Rattle.item_words_code.specs.OwnReports.{reports_after, next_named}
-use Rattle.item_words_code.proofs.Named.{later, turn, done_all}
 use Rattle.item_words_code.proofs.reports.put_reports_after.Given as goal
 
 abbrev pub invariant-loop-next : goal.invariant-loop-next

@@ -1,6 +1,5 @@
 -- `item_words_code::reports::put_reports_at` meets its contract.
 -- Assumes nothing.
-use borrow.Author.Rules.{rules}
 use Prim.Native.Nat.{ℕ}
 use mathlib.Core.List.{List, [], ◌∷◌}
 use types.Run.{OneOf, miss}
@@ -16,7 +15,7 @@ use Rattle.item_words_code.proofs.reports.put_reports_at.Goals as goal
 
 others : (a : Answer) (i : ℕ) (l : List ℕ) (at : ℕ) → OneOf (0 ∷ 1 ∷ 4 ∷ 5 ∷ []) (tag_of the_type a) → Puts l at (reports_at i a) at l
 unfolding reports_at
-others (Refused n) i l at h = puts_none l at
+others (Refused r) i l at h = puts_none l at
 others (Accepted f t) i l at h = puts_none l at
 others (Ticked f t) i l at h = absurd (miss (0 ∷ 1 ∷ 4 ∷ 5 ∷ []) 2 tt h)
 others (Stretched f t) i l at h = absurd (miss (0 ∷ 1 ∷ 4 ∷ 5 ∷ []) 3 tt h)

@@ -1,6 +1,5 @@
 -- `item_words_code::reports::put_reports_to` meets its contract.
 -- Assumes nothing.
-use borrow.Author.Rules.{rules}
 use Rattle.item_words_code.proofs.Named.{after_none}
 use Rattle.item_words_code.proofs.reports.put_reports_to.Goals as goal
 

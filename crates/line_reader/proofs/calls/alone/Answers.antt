@@ -1,6 +1,5 @@
 -- `line_reader::calls::alone` meets its contract.
 -- Assumes nothing.
-use borrow.Author.Rules.{rules}
 use Rattle.line.specs.Line.{alone}
 use Rattle.line_reader.proofs.calls.alone.Goals as goal
 

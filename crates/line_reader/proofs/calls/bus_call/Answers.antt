@@ -1,7 +1,6 @@
 -- `line_reader::calls::bus_call` meets its contract.
 -- Assumes nothing.
 use mathlib.Core.Path.{sym, ◌∙◌}
-use borrow.Author.Rules.{rules}
 use Rattle.line.specs.Line.{bus_reading}
 use Rattle.line_reader.proofs.calls.bus_call.Goals as goal
 

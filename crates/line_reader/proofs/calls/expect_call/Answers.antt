@@ -1,6 +1,5 @@
 -- `line_reader::calls::expect_call` meets its contract.
 -- Assumes nothing.
-use borrow.Author.Rules.{rules}
 use Rattle.line.specs.Line.{expect_reading}
 use Rattle.line_reader.proofs.calls.expect_call.Goals as goal
 

@@ -1,7 +1,6 @@
 -- `line_reader::calls::expect_from` meets its contract.
 -- Assumes nothing.
 use borrow.Author.Tests.{lt-ltb, le-ltb}
-use borrow.Author.Rules.{rules}
 use Rattle.line.specs.Line.{expect_from}
 use Rattle.line_reader.proofs.calls.expect_from.Goals as goal
 

@@ -1,7 +1,6 @@
 -- `line_reader::calls::expect_words` meets its contract.
 -- Assumes nothing.
 use borrow.Author.Tests.{lt-ltb, le-ltb}
-use borrow.Author.Rules.{rules}
 use Rattle.line.specs.Line.{expect_words, expect_call}
 use Rattle.line.proofs.LineLaws.{read-by}
 use Rattle.line_reader.proofs.calls.expect_words.Goals as goal

@@ -1,6 +1,5 @@
 -- `line_reader::calls::flight_call` meets its contract.
 -- Assumes nothing.
-use borrow.Author.Rules.{rules}
 use Rattle.line.specs.Line.{flight_reading, flight_call}
 use Rattle.line.proofs.LineLaws.{read-by}
 use Rattle.line_reader.proofs.calls.flight_call.Goals as goal

@@ -1,6 +1,5 @@
 -- `line_reader::calls::item_call` meets its contract.
 -- Assumes nothing.
-use borrow.Author.Rules.{rules}
 use Rattle.line.specs.Line.{item_call}
 use Rattle.line_reader.proofs.calls.item_call.Goals as goal
 

@@ -1,14 +1,13 @@
 -- `line_reader::calls::keyword_call` meets its contract.
 -- Assumes nothing.
-use borrow.Author.Rules.{rules}
 use Prim.Native.Nat.{ℕ}
 use mathlib.Core.List.{List, [], ◌∷◌}
-use mathlib.Core.Path.{◌≡◌, refl, sym, ◌∙◌}
+use mathlib.Core.Path.{◌≡◌, refl, ◌∙◌}
 use types.Run.{OneOf, miss}
 use denote.Enum.Declared.{tag_of}
 use Rattle.line.specs.declared.Keyword.{Keyword}
 use Rattle.line.specs.contracts.Keyword.{the_type}
-use Rattle.line.specs.Line.{reading, later_reading, keyword_reading}
+use Rattle.line.specs.Line.{later_reading, keyword_reading}
 use Rattle.line_reader.proofs.calls.keyword_call.Goals as goal
 
 others : (k : Keyword) (l : List ℕ) (ws : List (List ℕ)) → OneOf (10 ∷ 11 ∷ 12 ∷ 13 ∷ 14 ∷ 15 ∷ 16 ∷ 17 ∷ 18 ∷ 19 ∷ []) (tag_of the_type k) → later_reading k l ws ≡ keyword_reading k l ws

@@ -1,7 +1,6 @@
 -- `line_reader::calls::out_call` meets its contract.
 -- Assumes nothing.
 use borrow.Author.Tests.{lt-ltb, le-ltb}
-use borrow.Author.Rules.{rules}
 use Rattle.line.specs.declared.Content.TheVariants.{BusOut}
 use Rattle.line.specs.Line.{out_reading, bytes_reading, bytes_call}
 use Rattle.line.proofs.LineLaws.{read-by}

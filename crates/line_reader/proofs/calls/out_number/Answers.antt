@@ -6,7 +6,6 @@ use mathlib.Core.Path.{ap, ◌∙◌}
 use native.Mathlib.Omega.{arith}
 use lib.ListN.{length, drop, length-drop}
 use lib.Seq.{take_all}
-use borrow.Author.Rules.{rules}
 use Rattle.numeral.specs.Read.{read_decimal}
 use Rattle.line.proofs.LineLaws.{out-long}
 use Rattle.line_reader.proofs.calls.out_number.Goals as goal

@@ -1,7 +1,6 @@
 -- `line_reader::calls::temperature_call` meets its contract.
 -- Assumes nothing.
 use borrow.Author.Tests.{lt-ltb, le-ltb}
-use borrow.Author.Rules.{rules}
 use Rattle.line.specs.Line.{temperature_reading, temperature_call}
 use Rattle.line.proofs.LineLaws.{read-by}
 use Rattle.line_reader.proofs.calls.temperature_call.Goals as goal

@@ -1,6 +1,5 @@
 -- `line_reader::decimals::decimal_of` meets its contract.
 -- Assumes nothing.
-use borrow.Author.Rules.{rules}
 use Rattle.line.specs.Decimals.{decimal_of}
 use Rattle.line_reader.proofs.decimals.decimal_of.Goals as goal
 

@@ -1,12 +1,9 @@
 -- `line_reader::decimals::decimals` meets its contract. The invariant: to go on from i comes to the same; the measure is what is left of the bytes.
-use Prim.Native.Nat.{◌+◌, ◌-◌, ◌≤◌}
-use mathlib.Core.Path.{◌≡◌, refl, sym, ◌∙◌}
-use native.Mathlib.Omega.{arith}
+use Prim.Native.Nat.{◌-◌, ◌≤◌}
+use mathlib.Core.Path.{◌≡◌}
 use lib.ListN.{length, drop}
 use Rattle.line.specs.Words.{words}
-use Rattle.line.proofs.WordLaws.{words-end}
 use Rattle.line.specs.Decimals.{listed}
-use borrow.Author.Rules.{rules}
 use Rattle.line_reader.proofs.decimals.decimals.Given as goal
 
 abbrev pub invariant-loop-i : goal.invariant-loop-i

@@ -1,6 +1,5 @@
 -- `line_reader::keywords::keyword` meets its contract.
 -- Assumes nothing.
-use borrow.Author.Rules.{rules}
 use Rattle.numeral.specs.Ascii.{ascii}
 use Rattle.line.specs.Line.{keyword_of}
 use Rattle.line.proofs.LineLaws.{here, below}

@@ -1,7 +1,6 @@
 -- `line_reader::keywords::last_keyword` meets its contract.
 -- Assumes nothing.
 use mathlib.Core.Path.{refl}
-use borrow.Author.Rules.{rules}
 use Rattle.numeral.specs.Ascii.{ascii}
 use Rattle.line.proofs.LineLaws.{here, below}
 use Rattle.line_reader.proofs.keywords.last_keyword.Goals as goal

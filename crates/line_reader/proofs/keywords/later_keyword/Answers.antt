@@ -1,6 +1,5 @@
 -- `line_reader::keywords::later_keyword` meets its contract.
 -- Assumes nothing.
-use borrow.Author.Rules.{rules}
 use Rattle.numeral.specs.Ascii.{ascii}
 use Rattle.line.proofs.LineLaws.{here, below}
 use Rattle.line_reader.proofs.keywords.later_keyword.Goals as goal

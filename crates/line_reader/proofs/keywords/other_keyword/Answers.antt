@@ -1,6 +1,5 @@
 -- `line_reader::keywords::other_keyword` meets its contract.
 -- Assumes nothing.
-use borrow.Author.Rules.{rules}
 use Rattle.numeral.specs.Ascii.{ascii}
 use Rattle.line.proofs.LineLaws.{here, below}
 use Rattle.line_reader.proofs.keywords.other_keyword.Goals as goal

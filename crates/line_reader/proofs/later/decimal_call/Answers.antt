@@ -1,6 +1,5 @@
 -- `line_reader::later::decimal_call` meets its contract.
 -- Assumes nothing.
-use borrow.Author.Rules.{rules}
 use Rattle.line.specs.Line.{decimal_call, decimal_with}
 use Rattle.line_reader.proofs.later.decimal_call.Goals as goal
 

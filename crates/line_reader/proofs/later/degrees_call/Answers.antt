@@ -1,6 +1,5 @@
 -- `line_reader::later::degrees_call` meets its contract.
 -- Assumes nothing.
-use borrow.Author.Rules.{rules}
 use borrow.Author.Tests.{eq-eqb, ne_eqb}
 use Rattle.line.specs.Line.{degrees_reading, degrees_call}
 use Rattle.line.proofs.LineLaws.{read-by}

@@ -1,6 +1,5 @@
 -- `line_reader::later::hex_call` meets its contract.
 -- Assumes nothing.
-use borrow.Author.Rules.{rules}
 use Rattle.line.specs.Line.{hex_call, hex_with}
 use Rattle.line_reader.proofs.later.hex_call.Goals as goal
 

@@ -1,6 +1,5 @@
 -- `line_reader::later::listing_call` meets its contract.
 -- Assumes nothing.
-use borrow.Author.Rules.{rules}
 use Rattle.numeral.specs.Ascii.{ascii}
 use Rattle.line.specs.Line.{listing_call}
 use Rattle.line_reader.proofs.later.listing_call.Goals as goal

@@ -1,6 +1,5 @@
 -- `line_reader::later::numbered` meets its contract.
 -- Assumes nothing.
-use borrow.Author.Rules.{rules}
 use Rattle.line.specs.Line.{numbered}
 use Rattle.line_reader.proofs.later.numbered.Goals as goal
 

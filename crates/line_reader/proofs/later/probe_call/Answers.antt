@@ -1,6 +1,5 @@
 -- `line_reader::later::probe_call` meets its contract.
 -- Assumes nothing.
-use borrow.Author.Rules.{rules}
 use borrow.Author.Tests.{lt-ltb, le-ltb}
 use Rattle.line.specs.Line.{probe_reading, probe_call}
 use Rattle.line.proofs.LineLaws.{read-by}

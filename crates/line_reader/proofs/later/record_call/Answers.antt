@@ -1,6 +1,5 @@
 -- `line_reader::later::record_call` meets its contract.
 -- Assumes nothing.
-use borrow.Author.Rules.{rules}
 use Rattle.line.specs.Line.{record_reading, record_call}
 use Rattle.line.proofs.LineLaws.{read-by}
 use Rattle.line_reader.proofs.later.record_call.Goals as goal

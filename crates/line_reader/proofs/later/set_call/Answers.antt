@@ -1,6 +1,5 @@
 -- `line_reader::later::set_call` meets its contract.
 -- Assumes nothing.
-use borrow.Author.Rules.{rules}
 use Rattle.line.specs.Line.{set_reading}
 use Rattle.line_reader.proofs.later.set_call.Goals as goal
 

@@ -1,7 +1,6 @@
 -- `line_reader::later::set_from` meets its contract.
 -- Assumes nothing.
 use borrow.Author.Tests.{lt-ltb, le-ltb}
-use borrow.Author.Rules.{rules}
 use Rattle.line.specs.Line.{set_from}
 use Rattle.line_reader.proofs.later.set_from.Goals as goal
 

@@ -1,6 +1,5 @@
 -- `line_reader::later::set_words` meets its contract.
 -- Assumes nothing.
-use borrow.Author.Rules.{rules}
 use borrow.Author.Tests.{lt-ltb, le-ltb}
 use Rattle.line.specs.Line.{set_words, set_call}
 use Rattle.line.proofs.LineLaws.{read-by}

@@ -1,6 +1,5 @@
 -- `line_reader::mark::call_part` meets its contract.
 -- Assumes nothing.
-use borrow.Author.Rules.{rules}
 use Rattle.line.proofs.MarkLaws.{whole-call}
 use Rattle.line_reader.proofs.mark.call_part.Goals as goal
 

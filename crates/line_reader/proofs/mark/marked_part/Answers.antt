@@ -1,14 +1,11 @@
 -- `line_reader::mark::marked_part` meets its contract. The invariant: no word before i is the mark; the measure is what is left of the bytes.
 -- Assumes nothing.
-use Prim.Native.Nat.{◌-◌}
 use mathlib.Core.Path.{sym, ◌∙◌}
 use native.Mathlib.Omega.{arith}
-use lib.ListN.{length}
 use Rattle.numeral.specs.Ascii.{ascii}
 use Rattle.line.specs.Mark.{is_mark}
 use Rattle.line.proofs.WordLaws.{words-end}
-use Rattle.line.proofs.MarkLaws.{Looked, looked-first, looked-next, looked-mark, looked-all}
-use borrow.Author.Rules.{rules}
+use Rattle.line.proofs.MarkLaws.{looked-first, looked-next, looked-mark, looked-all}
 use Rattle.line_reader.proofs.mark.marked_part.Goals as goal
 
 pub loop-i-init : goal.loop-i-init

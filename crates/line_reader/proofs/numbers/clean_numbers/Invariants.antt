@@ -1,11 +1,8 @@
 -- `line_reader::numbers::clean_numbers` meets its contract. The invariant: the numbers up to i are stored; the measure is what is left of the bytes.
 use Prim.Native.Nat.{◌-◌, ◌≤◌}
-use mathlib.Core.Path.{◌≡◌, refl}
-use native.Mathlib.Omega.{arith}
-use lib.ListN.{length, length-set}
-use borrow.Author.Rules.{rules}
+use mathlib.Core.Path.{◌≡◌}
+use lib.ListN.{length}
 use Rattle.line.specs.Clean.{Passed}
-use Rattle.line.proofs.CleanLaws.{passed_none, passed-more}
 use Rattle.line_reader.proofs.numbers.clean_numbers.Given as goal
 
 abbrev pub invariant-loop-i : goal.invariant-loop-i

@@ -1,37 +1,17 @@
--- `line_reader::numbers::digits_at` meets its contract. The invariant: the bytes up to i are digits of the value; the measure is what is left of the places.
+-- `line_reader::numbers::digits_at` meets its contract.
 -- Assumes nothing.
-use Prim.Native.Nat.{◌-◌}
-use native.Mathlib.Omega.{arith}
-use Rattle.line.specs.Clean.{DigitsAt}
+use Rattle.std.proofs.Common.{◌≡◌, ◌+◌, arith}
 use Rattle.line.proofs.CleanLaws.{digits-none, digits_more, digits-fit}
 use Rattle.line_reader.proofs.numbers.digits_at.Goals as goal
 
-pub stop_of-stop-requires : goal.stop_of-stop-requires
-stop_of-stop-requires c = omega arith
-
 pub loop-i-init : goal.loop-i-init
 loop-i-init c = digits-none _ _ _ c.requires
-
-pub bounds-s-i : goal.bounds-s-i
-bounds-s-i c = omega arith
-
-pub hex_digit-d-requires : goal.hex_digit-d-requires
-hex_digit-d-requires c = tt
-
-pub returns-then-d-ge16 : goal.returns-then-d-ge16
-returns-then-d-ge16 c = c.loop-i.invariant
 
 pub overflow_mul-value : goal.overflow_mul-value
 overflow_mul-value c = omega (arith, digits-fit c.loop-i.invariant (omega arith))
 
 pub overflow_add-value : goal.overflow_add-value
 overflow_add-value c = omega (arith, digits-fit c.loop-i.invariant (omega arith))
-
-pub overflow_add-i : goal.overflow_add-i
-overflow_add-i c = omega arith
-
-pub loop-i-smaller : goal.loop-i-smaller
-loop-i-smaller c = omega arith
 
 pub loop-i-preserved : goal.loop-i-preserved
 loop-i-preserved c =
@@ -40,4 +20,7 @@ loop-i-preserved c =
     rw d (digits_more k.invariant (omega arith) (omega arith) (omega arith) (rw d at c.if-d-ge16.false))
 
 pub returns : goal.returns
-returns c = c.loop-i.invariant
+returns c =
+    let k = c.loop-i in
+    let all : k.i ≡ c.args.start + c.min-2.result = omega arith in
+    rw all at k.invariant

@@ -1,6 +1,5 @@
 -- `line_reader::numbers::is_slash` meets its contract.
 -- Assumes nothing.
-use borrow.Author.Rules.{rules}
 use Rattle.line.specs.Numbers.{is_slash}
 use Rattle.line_reader.proofs.numbers.is_slash.Goals as goal
 

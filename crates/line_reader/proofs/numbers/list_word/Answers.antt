@@ -1,7 +1,6 @@
 -- `line_reader::numbers::list_word` meets its contract.
 -- Assumes nothing.
 use borrow.Author.Tests.{le-leb, lt-leb}
-use borrow.Author.Rules.{rules}
 use Rattle.line.specs.Numbers.{list_word}
 use Rattle.line_reader.proofs.numbers.list_word.Goals as goal
 

@@ -1,12 +1,9 @@
 -- `line_reader::numbers::pairs` meets its contract. The invariant: the numbers up to i are stored; the measure is what is left of the bytes.
 use Prim.Native.Nat.{◌-◌, ◌≤◌}
-use mathlib.Core.Path.{◌≡◌, refl}
-use native.Mathlib.Omega.{arith}
-use lib.ListN.{length, length-set}
-use borrow.Author.Rules.{rules}
+use mathlib.Core.Path.{◌≡◌}
+use lib.ListN.{length}
 use Rattle.line.specs.declared.Form.{Form}
 use Rattle.line.specs.Clean.{Passed}
-use Rattle.line.proofs.CleanLaws.{passed_none, passed-pair}
 use Rattle.line_reader.proofs.numbers.pairs.Given as goal
 
 abbrev pub invariant-loop-i : goal.invariant-loop-i

@@ -2,7 +2,6 @@
 -- Assumes nothing.
 use mathlib.Core.Path.{sym}
 use lib.Seq.{set_out}
-use borrow.Author.Rules.{rules}
 use Rattle.line_reader.proofs.numbers.store.Goals as goal
 
 pub returns-else-i-numbers : goal.returns-else-i-numbers

@@ -1,12 +1,7 @@
 -- `line_reader::numbers::tally` meets its contract. The invariant: to go on from i with what is counted and stored gives what all words come to; the measure is what is left of the bytes.
 -- Assumes nothing.
-use Prim.Native.Nat.{◌+◌, ◌-◌, ◌≤◌}
-use mathlib.Core.Path.{◌≡◌, refl, sym, ◌∙◌}
+use mathlib.Core.Path.{refl, sym, ◌∙◌}
 use native.Mathlib.Omega.{arith}
-use lib.ListN.{length, drop}
-use borrow.Author.Rules.{rules}
-use Rattle.line.specs.Words.{words}
-use Rattle.line.specs.Numbers.{tallied}
 use Rattle.line.proofs.WordLaws.{words-end}
 use Rattle.line.proofs.NumberLaws.{tally-end, tally-slash, tally-past, tally-word, tally-wrong}
 use Rattle.line.proofs.CleanLaws.{passed_on}

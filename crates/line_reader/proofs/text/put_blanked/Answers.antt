@@ -1,13 +1,8 @@
 -- `line_reader::text::put_blanked` meets its contract. The invariant: to go on from i gives what is to be written; the measure is what is left of the bytes.
 -- Assumes nothing.
-use Prim.Native.Nat.{◌-◌, ◌≤◌}
-use mathlib.Core.Path.{◌≡◌, refl, ◌∙◌}
+use mathlib.Core.Path.{refl, ◌∙◌}
 use native.Mathlib.Omega.{arith}
-use lib.ListN.{length, drop}
-use Rattle.numeral.specs.Place.{put_each}
-use Rattle.line.specs.Words.{words}
 use Rattle.line.proofs.WordLaws.{words-end}
-use Rattle.line.specs.Spaced.{blanked}
 use Rattle.line.proofs.SpacedLaws.{blanked-end, blanked-next}
 use Rattle.line_reader.proofs.text.put_blanked.Goals as goal
 

@@ -1,7 +1,6 @@
 -- `line_reader::text::put_spaced` meets its contract.
 -- Assumes nothing.
 use mathlib.Core.Path.{◌∙◌}
-use borrow.Author.Rules.{rules}
 use Rattle.line.proofs.SpacedLaws.{spaced-end, spaced-next}
 use Rattle.line_reader.proofs.text.put_spaced.Goals as goal
 

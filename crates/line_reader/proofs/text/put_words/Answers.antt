@@ -2,7 +2,6 @@
 -- Assumes nothing.
 use mathlib.Core.Path.{sym}
 use lib.Seq.{length-take-le}
-use borrow.Author.Rules.{rules}
 use Rattle.line_reader.proofs.text.put_words.Goals as goal
 
 pub slice_bounds-put_spaced-end : goal.slice_bounds-put_spaced-end

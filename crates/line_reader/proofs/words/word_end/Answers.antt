@@ -1,50 +1,33 @@
--- `line_reader::words::word_end` meets its contract. The invariant: the word has begun with the bytes up to i; the measure is what is left of the bytes.
+-- `line_reader::words::word_end` meets its contract.
 -- Assumes nothing.
-use Prim.Native.Nat.{◌-◌, ◌≤◌, ◌<◌}
-use mathlib.Core.Path.{◌≡◌, sym, ◌∙◌}
-use native.Mathlib.Omega.{arith}
-use lib.ListN.{length, drop}
-use Rattle.line.specs.Words.{words, words_after, part}
+use Rattle.std.proofs.Common.{◌≡◌, length, arith, sym, ◌∙◌}
 use Rattle.line.proofs.WordLaws.{word-begins, word-grows, word-stops, word-ends}
 use Rattle.line_reader.proofs.words.word_end.Goals as goal
 
-pub overflow_add-i : goal.overflow_add-i
-overflow_add-i c = omega arith
-
 pub loop-i-init : goal.loop-i-init
-loop-i-init c = (omega arith, omega arith, word-begins _ _ c.requires.0 c.requires.1)
-
-pub bounds-s-i : goal.bounds-s-i
-bounds-s-i c = omega arith
-
-pub is_blank-requires : goal.is_blank-requires
-is_blank-requires c = tt
+loop-i-init c = word-begins _ _ c.requires.0 c.requires.1
 
 pub returns-then-is_blank : goal.returns-then-is_blank
 returns-then-is_blank c =
     let k = c.loop-i in
     record {
-      low = k.invariant.0;
-      high = k.invariant.1;
-      first = k.invariant.2 ∙ word-stops _ _ c.loop-i-test.true _ k.invariant.0 (sym c.is_blank.ensures ∙ c.if-is_blank.true);
+      low = omega arith;
+      high = omega arith;
+      first = k.invariant ∙ word-stops _ _ c.loop-i-test.true _ (omega arith) (sym c.is_blank.ensures ∙ c.if-is_blank.true);
       stops = λ _. sym c.is_blank.ensures ∙ c.if-is_blank.true;
     }
 
-pub overflow_add-i-in-loop-i : goal.overflow_add-i-in-loop-i
-overflow_add-i-in-loop-i c = omega arith
-
-pub loop-i-smaller : goal.loop-i-smaller
-loop-i-smaller c = omega arith
-
 pub loop-i-preserved : goal.loop-i-preserved
 loop-i-preserved c =
-    let k = c.loop-i in (
-      omega arith,
-      omega arith,
-      k.invariant.2 ∙ word-grows _ _ c.loop-i-test.true _ (omega arith) (sym c.is_blank.ensures ∙ c.if-is_blank.false),
-    )
+    c.loop-i.invariant ∙ word-grows _ _ c.loop-i-test.true _ (omega arith) (sym c.is_blank.ensures ∙ c.if-is_blank.false)
 
 pub returns : goal.returns
 returns c =
     let k = c.loop-i in
-    record { low = k.invariant.0; high = k.invariant.1; first = k.invariant.2 ∙ word-ends _ _ _ k.invariant.0 k.invariant.1 c.loop-i-test.false; stops = λ h. absurd (omega arith) }
+    let all : k.i ≡ length c.args.s.now = omega arith in
+    record {
+      low = omega arith;
+      high = omega arith;
+      first = rw all at (k.invariant ∙ word-ends _ _ k.i (omega arith) (omega arith) c.loop-i-test.false);
+      stops = λ h. absurd (omega arith);
+    }

@@ -1,14 +1,7 @@
--- `line_reader::words::word_end` meets its contract. The invariant: the word has begun with the bytes up to i; the measure is what is left of the bytes.
-use Prim.Native.Nat.{◌-◌, ◌≤◌, ◌<◌}
-use mathlib.Core.Path.{◌≡◌, sym, ◌∙◌}
-use native.Mathlib.Omega.{arith}
-use lib.ListN.{length, drop}
+-- `line_reader::words::word_end` meets its contract. The invariant: the word has begun with the bytes up to i.
+use Rattle.std.proofs.Common.{◌≡◌, drop}
 use Rattle.line.specs.Words.{words, words_after, part}
-use Rattle.line.proofs.WordLaws.{word-begins, word-grows, word-stops, word-ends}
 use Rattle.line_reader.proofs.words.word_end.Given as goal
 
 abbrev pub invariant-loop-i : goal.invariant-loop-i
-invariant-loop-i l = (l.start < l.i) × (l.i ≤ length l.s) × (words (drop l.start l.s) ≡ words_after (part l.start l.i l.s) (drop l.i l.s))
-
-abbrev pub decreases-loop-i : goal.decreases-loop-i
-decreases-loop-i l = length l.s - l.i
+invariant-loop-i l = words (drop l.start l.s) ≡ words_after (part l.start l.i l.s) (drop l.i l.s)

@@ -1,6 +1,5 @@
 -- `listing::line::put_sign` meets its contract.
 -- Assumes nothing.
-use borrow.Author.Rules.{rules}
 use Rattle.listing.specs.Listing.{sign}
 use Rattle.listing.proofs.Signed.{tested}
 use Rattle.listing.proofs.line.put_sign.Goals as goal

@@ -1,7 +1,6 @@
 -- `listing::line::put_time` meets its contract: the 12 places before the time's end in a field of blanks.
 -- Assumes nothing.
 use native.Mathlib.Omega.{arith}
-use borrow.Author.Rules.{rules}
 use Rattle.listing.proofs.Time.{time-fits, time-end, time-part}
 use Rattle.listing.proofs.line.put_time.Goals as goal
 

@@ -4,7 +4,6 @@ use Prim.Native.Nat.{◌^◌}
 use mathlib.Core.Path.{refl}
 use native.Mathlib.Nat.{one-mul, mod-eq_of_lt}
 use native.Mathlib.Omega.{arith}
-use borrow.Author.Rules.{rules}
 use Rattle.listing.proofs.Capture.{sixteens, at-most-word}
 use Rattle.listing.proofs.lines.numbers_of.Goals as goal
 

@@ -1,35 +1,29 @@
--- `numeral::print::decimal_width` meets its contract. The invariant: the digits counted and those of the rest are one more than all; the measure is the rest.
+-- `numeral::print::decimal_width` meets its contract: a number of k + 1 digits is from 10 ^ k to below 10 ^ (k + 1).
 -- Assumes nothing.
-use Prim.Native.Nat.{ℕ, zero, suc, ◌+◌, ◌-◌, ◌/◌, ◌^◌, ◌≤◌, ◌<◌}
-use mathlib.Core.Path.{◌≡◌, refl}
-use native.Mathlib.Omega.{arith}
+use Rattle.std.proofs.Common.{◌≡◌, ℕ, suc, ◌+◌, ◌*◌, ◌^◌, ◌≤◌, ◌<◌, sym, arith}
+use native.Mathlib.Nat.{pow-suc, pow-le-pow_right}
+use native.Mathlib.Decide.{dec_lt}
 use Rattle.numeral.specs.Print.{width_from, decimal_width}
-use Rattle.numeral.proofs.PrintLaws.{width_one, width-more, tenth}
+use Rattle.numeral.proofs.PrintLaws.{width_one, width-holds, width-most}
 use Rattle.numeral.proofs.print.decimal_width.Goals as goal
 
-turn : (n rest w : ℕ) → n ≤ 20 → rest < 10 ^ suc (20 - n) → n + width_from (20 - n) rest ≡ w → 10 ≤ rest
-    → (n + 1 ≤ 20) × (rest / 10 < 10 ^ suc (20 - (n + 1))) × (n + 1 + width_from (20 - (n + 1)) (rest / 10) ≡ w)
-turn n rest w most less = go (20 - n) refl less
+more : (k w v : ℕ) → 10 ^ k ≤ v → v < 10 ^ w → k < w
+more k w v low high = go (dec_lt k w)
   where
-    go : (k : ℕ) → 20 - n ≡ k → rest < 10 ^ suc k → n + width_from (20 - n) rest ≡ w → 10 ≤ rest
-        → (n + 1 ≤ 20) × (rest / 10 < 10 ^ suc (20 - (n + 1))) × (n + 1 + width_from (20 - (n + 1)) (rest / 10) ≡ w)
-    go zero e l h t = absurd (omega arith)
-    go (suc k) e l h t =
-        let e' : 20 - (n + 1) ≡ k = omega arith in
-        rw e' (omega arith, tenth k rest l, (omega (arith, width-more k rest t, rw e at h)))
+    go : Dec (k < w) → k < w
+    go (yes p) = p
+    go (no p) = let h : w ≤ k = omega arith in let grown : 10 ^ w ≤ 10 ^ k = pow-le-pow_right (omega arith) h in absurd (omega arith)
 
-pub loop-rest-init : goal.loop-rest-init
-loop-rest-init c = omega arith
+exact : (k v : ℕ) → v < 2 ^ 64 → 10 ^ k ≤ v → v < 10 * 10 ^ k → k + 1 ≡ width_from 19 v
+exact k v fits low high =
+    let most : width_from 19 v ≤ suc k = width-most 19 k v (rw pow-suc (omega arith)) in
+    omega (arith, more k (width_from 19 v) v low (width-holds 19 v (omega arith)))
 
-pub overflow_add-n : goal.overflow_add-n
-overflow_add-n c = omega arith
-
-pub loop-rest-smaller : goal.loop-rest-smaller
-loop-rest-smaller c = omega arith
-
-pub loop-rest-preserved : goal.loop-rest-preserved
-loop-rest-preserved c = turn _ _ _ c.loop-rest.invariant.0 c.loop-rest.invariant.1 c.loop-rest.invariant.2 c.loop-rest-test.true
-
-pub returns : goal.returns
+pub returns-in-Some : goal.returns-in-Some
 unfolding decimal_width
-returns c = omega (arith, width_one (20 - c.loop-rest.n) c.loop-rest.rest c.loop-rest-test.false)
+returns-in-Some c =
+    let e = c.in-Some.ensures in (exact _ _ c.ranges.v.fits e.power_le e.next_power_gt, omega arith)
+
+pub returns-in-None : goal.returns-in-None
+unfolding decimal_width
+returns-in-None c = (rw c.in-None.ensures.none (sym (width_one 19 0 (omega arith))), omega arith)

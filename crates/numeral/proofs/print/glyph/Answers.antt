@@ -7,8 +7,8 @@ use Rattle.numeral.proofs.print.glyph.Goals as goal
 
 pub returns-then-d-lt10 : goal.returns-then-d-lt10
 unfolding glyph
-returns-then-d-lt10 c = search (rules, lt-ltb, le-ltb)
+returns-then-d-lt10 c = search (rules, lt-ltb)
 
 pub returns-else-d-lt10 : goal.returns-else-d-lt10
 unfolding glyph
-returns-else-d-lt10 c = search (rules, lt-ltb, le-ltb)
+returns-else-d-lt10 c = search (rules, le-ltb)

@@ -1,6 +1,5 @@
 -- `numeral::print::put_decimal` meets its contract.
 -- Assumes nothing.
-use borrow.Author.Rules.{rules}
 use Rattle.numeral.specs.Print.{decimal}
 use Rattle.numeral.proofs.print.put_decimal.Goals as goal
 

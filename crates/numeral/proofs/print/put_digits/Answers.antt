@@ -1,13 +1,10 @@
 -- `numeral::print::put_digits` meets its contract.
 -- Assumes nothing.
 use Prim.Native.Nat.{◌+◌, ◌≤◌}
-use mathlib.Core.Path.{◌≡◌, sym, ◌∙◌}
-use mathlib.Core.Bool.{true}
+use mathlib.Core.Path.{sym, ◌∙◌}
 use native.Mathlib.Omega.{arith}
-use lib.Dec.{leb}
 use lib.ListN.{length}
 use borrow.Author.Tests.{leb-true}
-use borrow.Author.Rules.{rules}
 use Rattle.numeral.proofs.DigitLaws.{length_digits}
 use Rattle.numeral.proofs.PlaceLaws.{put-done, put_refused}
 use Rattle.numeral.proofs.print.put_digits.Goals as goal

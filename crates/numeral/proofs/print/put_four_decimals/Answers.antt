@@ -1,6 +1,5 @@
 -- `numeral::print::put_four_decimals` meets its contract.
 -- Assumes nothing.
-use borrow.Author.Rules.{rules}
 use Rattle.numeral.specs.Print.{four_decimals}
 use Rattle.numeral.proofs.print.put_four_decimals.Goals as goal
 

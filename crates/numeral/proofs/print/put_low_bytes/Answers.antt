@@ -1,13 +1,10 @@
 -- `numeral::print::put_low_bytes` meets its contract.
 -- Assumes nothing.
 use Prim.Native.Nat.{◌+◌, ◌≤◌}
-use mathlib.Core.Path.{◌≡◌, sym, ◌∙◌}
-use mathlib.Core.Bool.{true}
+use mathlib.Core.Path.{sym, ◌∙◌}
 use native.Mathlib.Omega.{arith}
-use lib.Dec.{leb}
 use lib.ListN.{length}
 use borrow.Author.Tests.{leb-true}
-use borrow.Author.Rules.{rules}
 use Rattle.numeral.proofs.PrintLaws.{length-low-bytes}
 use Rattle.numeral.proofs.PlaceLaws.{put-done, put_refused}
 use Rattle.numeral.proofs.print.put_low_bytes.Goals as goal

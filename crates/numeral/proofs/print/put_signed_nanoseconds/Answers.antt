@@ -4,7 +4,6 @@ use Prim.Native.Nat.{ℕ, suc, ◌+◌, ◌≤◌, ◌<◌}
 use mathlib.Core.Path.{refl}
 use native.Mathlib.Omega.{arith}
 use borrow.Author.Tests.{lt-ltb, le-ltb, lt-leb}
-use borrow.Author.Rules.{rules}
 use Rattle.numeral.specs.Print.{ten_thousandths, nanoseconds, signed_nanoseconds}
 use Rattle.numeral.proofs.PlaceLaws.{put_refused, put-before, put-before-refused}
 use Rattle.numeral.proofs.print.put_signed_nanoseconds.Goals as goal
@@ -24,10 +23,10 @@ returns-then-buf-at c =
 pub returns-then-next : goal.returns-then-next
 unfolding signed_nanoseconds nanoseconds ten_thousandths
 returns-then-next c =
-    rw (le-ltb _ _ c.if-word-lt2147483648.false) (put-before _ _ _ _ _ _ c.put_four_decimals-next.ensures c.if-next.true)
+    rw (le-ltb _ _ c.if-word-lt2147483648.false) (put-before _ _ _ _ _ _ (rw c.from.ensures at c.put_four_decimals-next.ensures) c.if-next.true)
 
 pub returns-else-next : goal.returns-else-next
 unfolding signed_nanoseconds nanoseconds ten_thousandths
 returns-else-next c =
     rw (le-ltb _ _ c.if-word-lt2147483648.false)
-    (put-before-refused _ _ _ _ _ _ c.put_four_decimals-next.ensures c.if-next.false (omega arith))
+    (put-before-refused _ _ _ _ _ _ (rw c.from.ensures at c.put_four_decimals-next.ensures) c.if-next.false (omega arith))

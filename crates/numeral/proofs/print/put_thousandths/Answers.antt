@@ -1,9 +1,8 @@
 -- `numeral::print::put_thousandths` meets its contract.
 -- Assumes nothing.
-use borrow.Author.Rules.{rules}
 use Rattle.numeral.specs.Print.{thousandths}
 use Rattle.numeral.proofs.print.put_thousandths.Goals as goal
 
 pub returns : goal.returns
 unfolding thousandths
-returns c = c.put_pointed.ensures
+returns c = rw (c.from.ensures, c.from-2.ensures) at c.put_pointed.ensures

@@ -1,9 +1,34 @@
 -- `numeral::read::hex_digit` meets its contract.
 -- Assumes nothing.
-use native.Mathlib.Omega.{arith}
-use borrow.Author.Rules.{rules}
-use Rattle.numeral.proofs.DigitLaws.{digit-most}
+use Rattle.std.proofs.Common.{arith}
+use Rattle.std.proofs.lemmas.Bool.Decides.{nat_tests}
+use Rattle.numeral.specs.Digit.{digit_of}
 use Rattle.numeral.proofs.read.hex_digit.Goals as goal
 
-pub overflow_cast-result : goal.overflow_cast-result
-overflow_cast-result c = omega (arith, digit-most c.args.c)
+pub returns-in-48-to-57 : goal.returns-in-48-to-57
+unfolding digit_of
+returns-in-48-to-57 c = grind (arith, nat_tests)
+
+pub returns-in-65-to-70 : goal.returns-in-65-to-70
+unfolding digit_of
+returns-in-65-to-70 c = grind (arith, nat_tests)
+
+pub returns-in-97-to-102 : goal.returns-in-97-to-102
+unfolding digit_of
+returns-in-97-to-102 c = grind (arith, nat_tests)
+
+pub returns-in_default : goal.returns-in_default
+unfolding digit_of
+returns-in_default c = grind (arith, nat_tests)
+
+pub returns-in_default-2 : goal.returns-in_default-2
+unfolding digit_of
+returns-in_default-2 c = grind (arith, nat_tests)
+
+pub returns-in_default-3 : goal.returns-in_default-3
+unfolding digit_of
+returns-in_default-3 c = grind (arith, nat_tests)
+
+pub returns-in_default-4 : goal.returns-in_default-4
+unfolding digit_of
+returns-in_default-4 c = grind (arith, nat_tests)

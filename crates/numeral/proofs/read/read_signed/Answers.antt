@@ -1,28 +1,33 @@
 -- `numeral::read::read_signed` meets its contract.
 -- Assumes nothing.
-use Prim.Native.Nat.{ℕ, ◌-◌, ◌≤◌}
-use mathlib.Core.List.{List}
-use mathlib.Core.Path.{ap, ◌∙◌}
-use native.Mathlib.Omega.{arith}
-use lib.ListN.{length, drop, length-drop}
-use lib.Seq.{take_all}
-use borrow.Author.Tests.{lt-ltb, le-ltb, eq-eqb, ne_eqb}
-use borrow.Author.Rules.{rules}
+use Rattle.std.proofs.Common.{◌≡◌, ℕ, suc, List, [], ◌∷◌, Bool, true, false, ◌&&◌, eqb, length, take, drop, refl, sym, ap, ◌∙◌, arith}
+use Rattle.std.specs.Cmp.Lexicographic.{pointwise}
+use borrow.Author.Tests.{le-ltb}
 use Rattle.numeral.specs.Read.{negated, read_decimal, read_signed}
 use Rattle.numeral.proofs.read.read_signed.Goals as goal
 
-pub returns-then-s-lt1 : goal.returns-then-s-lt1
+minus : (s : List ℕ) → pointwise eqb (take 1 s) (45 ∷ []) ≡ true → read_signed s ≡ negated (read_decimal 2147483648 (drop 1 s))
 unfolding read_signed
-returns-then-s-lt1 c = rw (lt-ltb _ _ c.if-s-lt1.true)
+minus [] e = cc
+minus (c ∷ cs) e = go (eqb c 45) refl e
+  where
+    go : (b : Bool) → eqb c 45 ≡ b → b && true ≡ true → read_signed (c ∷ cs) ≡ negated (read_decimal 2147483648 cs)
+    go true p h = rw (le-ltb (suc (length cs)) 1 (omega arith), p)
+    go false p h = cc
 
-pub returns-then-s-eq45 : goal.returns-then-s-eq45
-unfolding read_signed
-returns-then-s-eq45 c =
-    let w : List ℕ = c.args.s.now in
-    let all : length (drop 1 w) ≤ length w - 1 = rw length-drop (omega arith) in
-    rw (le-ltb _ _ c.if-s-lt1.false, eq-eqb _ _ c.if-s-eq45.true)
-    (c.negated.ensures ∙ ap negated (c.read_decimal.ensures ∙ ap (read_decimal 2147483648) (take_all _ _ all)))
+plain : (s : List ℕ) → pointwise eqb (take 1 s) (45 ∷ []) ≡ false → read_signed s ≡ read_decimal 2147483647 s
+unfolding read_signed read_decimal
+plain [] e = refl
+plain (c ∷ cs) e = go (eqb c 45) refl e
+  where
+    go : (b : Bool) → eqb c 45 ≡ b → b && true ≡ false → read_signed (c ∷ cs) ≡ read_decimal 2147483647 (c ∷ cs)
+    go true p h = cc
+    go false p h = rw (le-ltb (suc (length cs)) 1 (omega arith), p)
 
-pub returns-else-s-eq45 : goal.returns-else-s-eq45
-unfolding read_signed
-returns-else-s-eq45 c = rw (le-ltb _ _ c.if-s-lt1.false, ne_eqb _ _ c.if-s-eq45.false) c.read_decimal-else-s-eq45.ensures
+pub returns-in-Some : goal.returns-in-Some
+returns-in-Some c =
+    let e = c.in-Some.ensures.cases in
+    c.negated.ensures ∙ ap negated (c.read_decimal.ensures ∙ ap (read_decimal 2147483648) e.1) ∙ sym (minus _ e.0)
+
+pub returns-in-None : goal.returns-in-None
+returns-in-None c = c.read_decimal-in-None.ensures ∙ sym (plain _ c.in-None.ensures.cases)

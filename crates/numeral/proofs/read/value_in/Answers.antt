@@ -1,6 +1,6 @@
--- `numeral::read::value_in` meets its contract. The invariant: n is the value of the first i digits, and below 16 to the power i; the measure is what is left of the bytes.
+-- `numeral::read::value_in` meets its contract.
 -- Assumes nothing.
-use Prim.Native.Nat.{ℕ, ◌+◌, ◌-◌, ◌*◌, ◌^◌, ◌≤◌, ◌<◌}
+use Prim.Native.Nat.{ℕ, ◌+◌, ◌*◌, ◌^◌, ◌≤◌, ◌<◌}
 use mathlib.Core.Path.{◌≡◌, refl, sym, ◌∙◌}
 use mathlib.Core.List.{List, []}
 use mathlib.Core.Bool.{true, false}
@@ -37,68 +37,51 @@ module _ (base : ℕ) (s : List ℕ) (i : ℕ) (more : i < length s) where
   value_grows n = rw (add-one, drop-cons s i 0 more)
 
 -- all digits are read
-finished : (base : ℕ) (s : List ℕ) (n i : ℕ) → (i ≤ length s) × (n < 16 ^ i) × (are_digits base (drop i s) ≡ are_digits base s) × (value_of base n (drop i s) ≡ value_of base 0 s) → length s ≤ i → (are_digits base s ≡ true) × (value_of base 0 s ≡ n)
+finished : (base : ℕ) (s : List ℕ) (n i : ℕ) → (n < 16 ^ i) × (are_digits base (drop i s) ≡ are_digits base s) × (value_of base n (drop i s) ≡ value_of base 0 s) → length s ≤ i → (are_digits base s ≡ true) × (value_of base 0 s ≡ n)
 unfolding are_digits value_of
 finished base s n i inv h =
     let none : drop i s ≡ [] = drop_of_length-le s h in
-    (sym inv.2 ∙ rw none, sym inv.3 ∙ rw none)
+    (sym inv.1 ∙ rw none, sym inv.2 ∙ rw none)
 
-pub loop-i-init : goal.loop-i-init
-loop-i-init c = (omega arith, omega arith, refl, refl)
-
-pub bounds-s-i : goal.bounds-s-i
-bounds-s-i c = omega arith
-
-pub digit-d-requires : goal.digit-d-requires
-digit-d-requires c = tt
+pub loop-c-init : goal.loop-c-init
+loop-c-init c = (omega arith, refl, refl)
 
 pub returns-then-base-d : goal.returns-then-base-d
 unfolding value_in
 returns-then-base-d c =
-    let k = c.loop-i in
-    let more = c.loop-i-test.true in
-    rw (← k.invariant.2, digit-stops _ _ _ more (rw c.digit-d.ensures at c.if-base-d.true))
+    let k = c.loop-c in
+    rw (← k.invariant.1, digit-stops _ _ _ c.loop-c-test.true (rw (c.from-d.ensures, c.hex_digit.ensures) at c.if-base-d.true))
 
 pub overflow_mul-n : goal.overflow_mul-n
 overflow_mul-n c =
-    let k = c.loop-i in
-    let g = grow k.n _ 0 k.i k.invariant.1 c.requires.1 (omega arith) in
-    omega (arith, g, small k.i (omega arith))
+    let k = c.loop-c in
+    let g = grow k.n _ 0 k.c-index k.invariant.0 c.requires.1 (omega arith) in
+    omega (arith, g, small k.c-index (omega arith))
 
 pub overflow_add-n : goal.overflow_add-n
 overflow_add-n c =
-    let k = c.loop-i in
-    let g = grow k.n _ _ k.i k.invariant.1 c.requires.1 c.if-base-d.false in
-    omega (arith, g, small k.i (omega arith))
+    let k = c.loop-c in
+    let g = grow k.n _ _ k.c-index k.invariant.0 c.requires.1 c.if-base-d.false in
+    omega (arith, g, small k.c-index (omega arith))
 
-pub overflow_add-i : goal.overflow_add-i
-overflow_add-i c = omega arith
-
-pub loop-i-smaller : goal.loop-i-smaller
-loop-i-smaller c = omega arith
-
-pub loop-i-preserved : goal.loop-i-preserved
-loop-i-preserved c =
-    let k = c.loop-i in
-    let a = c.args in
-    let more = c.loop-i-test.true in (
-      omega arith,
-      grow k.n _ _ k.i k.invariant.1 c.requires.1 c.if-base-d.false,
-      digit-counts _ _ _ more (rw c.digit-d.ensures at c.if-base-d.false) ∙ k.invariant.2,
-      rw c.digit-d.ensures (value_grows _ _ _ more k.n) ∙ k.invariant.3,
+pub loop-c-preserved : goal.loop-c-preserved
+loop-c-preserved c =
+    let k = c.loop-c in
+    let more = c.loop-c-test.true in
+    let d = c.from-d.ensures ∙ c.hex_digit.ensures in (
+      grow k.n _ _ k.c-index k.invariant.0 c.requires.1 c.if-base-d.false,
+      digit-counts _ _ _ more (rw d at c.if-base-d.false) ∙ k.invariant.1,
+      rw d (value_grows _ _ _ more k.n) ∙ k.invariant.2,
     )
-
-pub overflow_cast-result : goal.overflow_cast-result
-overflow_cast-result c = omega arith
 
 pub returns-then-n-limit : goal.returns-then-n-limit
 unfolding value_in
 returns-then-n-limit c =
-    let e = finished _ _ _ _ c.loop-i.invariant c.loop-i-test.false in
+    let e = finished _ _ _ _ c.loop-c.invariant c.loop-c-test.false in
     rw (e.0, e.1, le-leb _ _ c.if-n-limit.true)
 
 pub returns-else-n-limit : goal.returns-else-n-limit
 unfolding value_in
 returns-else-n-limit c =
-    let e = finished _ _ _ _ c.loop-i.invariant c.loop-i-test.false in
+    let e = finished _ _ _ _ c.loop-c.invariant c.loop-c-test.false in
     rw (e.0, e.1, lt-leb _ _ c.if-n-limit.false)

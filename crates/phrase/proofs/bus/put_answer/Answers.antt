@@ -14,7 +14,7 @@ use Rattle.phrase.proofs.bus.put_answer.Goals as goal
 
 others : (a : Answer) (l : List ℕ) (at : ℕ) → OneOf (2 ∷ 3 ∷ 4 ∷ 5 ∷ []) (tag_of the_type a) → PutEach l at (bus_answer a) at l
 unfolding bus_answer
-others (Refused n) l at h = absurd (miss (2 ∷ 3 ∷ 4 ∷ 5 ∷ []) 0 tt h)
+others (Refused r) l at h = absurd (miss (2 ∷ 3 ∷ 4 ∷ 5 ∷ []) 0 tt h)
 others (Accepted f t) l at h = absurd (miss (2 ∷ 3 ∷ 4 ∷ 5 ∷ []) 1 tt h)
 others (Ticked f t) l at h = put-none l at
 others (Stretched f t) l at h = put-none l at
@@ -23,7 +23,7 @@ others Failed l at h = put-none l at
 
 pub returns-in-Refused : goal.returns-in-Refused
 unfolding bus_answer
-returns-in-Refused c = rw c.in-Refused.is c.put_refusal.ensures
+returns-in-Refused c = rw (c.in-Refused.is, ← c.number.ensures.0) c.put_refusal.ensures
 
 pub returns-in-Accepted : goal.returns-in-Accepted
 unfolding bus_answer

@@ -14,7 +14,7 @@ use Rattle.phrase.proofs.delivery.put_answer.Goals as goal
 
 others : (a : Answer) (l : List ℕ) (at : ℕ) → OneOf (1 ∷ 2 ∷ 3 ∷ []) (tag_of the_type a) → PutEach l at (delivery_answer a) at l
 unfolding delivery_answer
-others (Refused n) l at h = absurd (miss (1 ∷ 2 ∷ 3 ∷ []) 0 tt h)
+others (Refused r) l at h = absurd (miss (1 ∷ 2 ∷ 3 ∷ []) 0 tt h)
 others (Accepted f t) l at h = put-none l at
 others (Ticked f t) l at h = put-none l at
 others (Stretched f t) l at h = put-none l at
@@ -23,7 +23,7 @@ others Failed l at h = absurd (miss (1 ∷ 2 ∷ 3 ∷ []) 5 tt h)
 
 pub returns-in-Refused : goal.returns-in-Refused
 unfolding delivery_answer
-returns-in-Refused c = rw c.in-Refused.is c.put_refusal.ensures
+returns-in-Refused c = rw (c.in-Refused.is, ← c.number.ensures.0) c.put_refusal.ensures
 
 pub returns-in-Good : goal.returns-in-Good
 unfolding delivery_answer ascii

@@ -15,7 +15,7 @@ use Rattle.phrase.proofs.ticks.put_single.Goals as goal
 
 others : (a : Answer) (l : List ℕ) (at : ℕ) → OneOf (0 ∷ 1 ∷ 3 ∷ 4 ∷ 5 ∷ []) (tag_of the_type a) → PutEach l at (single a) at l
 unfolding single
-others (Refused n) l at h = put-none l at
+others (Refused r) l at h = put-none l at
 others (Accepted f t) l at h = put-none l at
 others (Ticked f t) l at h = absurd (miss (0 ∷ 1 ∷ 3 ∷ 4 ∷ 5 ∷ []) 2 tt h)
 others (Stretched f t) l at h = put-none l at

@@ -15,7 +15,7 @@ use Rattle.phrase.proofs.ticks.put_stretched.Goals as goal
 
 others : (a : Answer) (l : List ℕ) (at : ℕ) (k : ℕ) → OneOf (1 ∷ 2 ∷ 4 ∷ 5 ∷ []) (tag_of the_type a) → PutEach l at (stretched a k) at l
 unfolding stretched
-others (Refused n) l at k h = absurd (miss (1 ∷ 2 ∷ 4 ∷ 5 ∷ []) 0 tt h)
+others (Refused r) l at k h = absurd (miss (1 ∷ 2 ∷ 4 ∷ 5 ∷ []) 0 tt h)
 others (Accepted f t) l at k h = put-none l at
 others (Ticked f t) l at k h = put-none l at
 others (Stretched f t) l at k h = absurd (miss (1 ∷ 2 ∷ 4 ∷ 5 ∷ []) 3 tt h)
@@ -24,7 +24,7 @@ others Failed l at k h = put-none l at
 
 pub returns-in-Refused : goal.returns-in-Refused
 unfolding stretched
-returns-in-Refused c = rw c.in-Refused.is c.put_refusal.ensures
+returns-in-Refused c = rw (c.in-Refused.is, ← c.number.ensures.0) c.put_refusal.ensures
 
 pub returns-in-Stretched : goal.returns-in-Stretched
 unfolding ascii stretched

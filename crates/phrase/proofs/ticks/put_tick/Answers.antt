@@ -8,4 +8,4 @@ use Rattle.phrase.proofs.ticks.put_tick.Goals as goal
 
 pub returns : goal.returns
 unfolding ascii tick_reports
-returns c = rw (← c.wrapping_add_u32.ensures.value, ← c.same.ensures, ← c.same-2.ensures, ← c.same-3.ensures, ← c.same-4.ensures) (put_then c.put_report-a.ensures (put_then c.put_report-b.ensures (put_then c.put_report-c.ensures c.put_report.ensures)))
+returns c = rw (← c.same.ensures, ← c.same-2.ensures, ← c.same-3.ensures, ← c.same-4.ensures) (put_then c.put_report-a.ensures (put_then c.put_report-b.ensures (put_then c.put_report-c.ensures c.put_report.ensures)))

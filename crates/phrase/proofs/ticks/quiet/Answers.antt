@@ -1,5 +1,6 @@
 -- `phrase::ticks::quiet` meets its contract.
 -- Assumes nothing.
+use Rattle.std.proofs.Common.{◌≡◌, Bool, true, false, cond, not, refl}
 use Rattle.wording.specs.Wording.{quiet}
 use Rattle.phrase.proofs.ticks.quiet.Goals as goal
 
@@ -15,10 +16,10 @@ pub returns-then-temperature : goal.returns-then-temperature
 unfolding quiet
 returns-then-temperature c = rw (c.if-flight.false, c.if-flight-2.false, c.if-temperature.true)
 
-pub returns-then-temperature-2 : goal.returns-then-temperature-2
-unfolding quiet
-returns-then-temperature-2 c = rw (c.if-flight.false, c.if-flight-2.false, c.if-temperature.false, c.if-temperature-2.true)
+failed : (b : Bool) → not b ≡ cond b false true
+failed true = refl
+failed false = refl
 
-pub returns-else-temperature-2 : goal.returns-else-temperature-2
+pub returns : goal.returns
 unfolding quiet
-returns-else-temperature-2 c = rw (c.if-flight.false, c.if-flight-2.false, c.if-temperature.false, c.if-temperature-2.false)
+returns c = rw (c.if-flight.false, c.if-flight-2.false, c.if-temperature.false) (failed c.args.temperature.failed)

@@ -1,43 +1,39 @@
-use Prim.Native.Nat.{ℕ, ◌+◌}
-use mathlib.Core.List.{List}
+use Prim.Native.Nat.{◌+◌, ◌-◌, ◌<◌}
 use mathlib.Core.Path.{◌≡◌, ◌∙◌, ap}
 use native.Mathlib.Omega.{arith}
 use native.Mathlib.Numerals.{add-one}
 use borrow.Author.Rules.{rules}
 use lib.IntN.{ℤ}
+use lib.ListN.{take, drop, length-take, length-drop}
 use mir.Syntax.{w32}
-use mir.Val.{to_z}
-use Rattle.quietest.specs.Quietest.{value_at, larger, smaller, extreme, largest, smallest}
-use Rattle.quietest.specs.Search.{extremes_of}
-use Rattle.quietest.specs.declared.extremes.Extremes.{Extremes}
+use mir.Val.{SFits, of_z, to_z}
+use mir.ValLaws.{to_z-of_z}
+use Rattle.quietest.specs.Quietest.{value_at, larger, smaller, extreme}
+use Rattle.quietest.proofs.Meaning.{same-value}
+use Rattle.quietest.proofs.Order.{larger-max, smaller-min}
 use Rattle.quietest.proofs.Signed.{back}
 use Rattle.quietest.proofs.extremes.extremes_of.Goals as goal
 
-ended :
-    (values : List ℤ) (from n : ℕ) {k : ℕ} {high low : ℤ} → k ≡ n → high ≡ largest values from k → low ≡ smallest values from k
-    → ◌≡◌ {A = Extremes} (record { high = high; low = low }) (extremes_of values from n)
-ended values from n e h l = cc
-
-pub loop-k-init : goal.loop-k-init
+pub loop-x-init : goal.loop-x-init
 unfolding extreme
-loop-k-init c = (omega arith, back _ c.high-1.given, back _ c.high-1.given)
+loop-x-init c =
+    let f : SFits w32 (value_at c.args.values.now c.args.from) = search rules in
+    (to_z-of_z w32 _ f, to_z-of_z w32 _ f)
 
-pub loop-k-preserved : goal.loop-k-preserved
+pub loop-x-preserved : goal.loop-x-preserved
 unfolding extreme
-loop-k-preserved c =
-    let at-loop = c.loop-k in
-    let high = c.larger-high in
-    let low = c.smaller-low in
-    let args = c.args in
-    let x = value_at args.values.now (args.from + at-loop.k) in (
-      search rules,
-      rw (add-one at-loop.k) (back high.result high.type_inv ∙ high.ensures ∙ ap (λ (y : ℤ). larger (to_z w32 at-loop.high-bits) y) (back x c.x-1.given) ∙ ap (λ (y : ℤ). larger y x) at-loop.invariant.1),
-      rw (add-one at-loop.k) (back low.result low.type_inv ∙ low.ensures ∙ ap (λ (y : ℤ). smaller (to_z w32 at-loop.low-bits) y) (back x c.x-1.given) ∙ ap (λ (y : ℤ). smaller y x) at-loop.invariant.2),
+loop-x-preserved c =
+    let at-loop = c.loop-x in
+    let k = at-loop.x-index in
+    let high = c.max-high in
+    let low = c.min-low in
+    let values = c.args.values.now in
+    let from = c.args.from in
+    let count = from + c.args.count - from in
+    let x = value_at (take count (drop from values)) k in
+    let f : SFits w32 x = search rules in
+    let here : k < count = omega (arith, length-take count (drop from values), length-drop from values, c.loop-x-test.true) in
+    let e : to_z w32 (of_z w32 x) ≡ value_at values (from + k) = to_z-of_z w32 x f ∙ same-value values from count k here in (
+      rw (add-one k) (back high.result high.type_inv ∙ high.ensures.value ∙ larger-max _ _ ∙ ap (λ (y : ℤ). larger (to_z w32 at-loop.high-bits) y) e ∙ ap (λ (y : ℤ). larger y (value_at values (from + k))) at-loop.invariant.0),
+      rw (add-one k) (back low.result low.type_inv ∙ low.ensures.value ∙ smaller-min _ _ ∙ ap (λ (y : ℤ). smaller (to_z w32 at-loop.low-bits) y) e ∙ ap (λ (y : ℤ). smaller y (value_at values (from + k))) at-loop.invariant.1),
     )
-
-pub returns : goal.returns
-returns c =
-    let at-loop = c.loop-k in
-    let args = c.args in
-    let k : at-loop.k ≡ args.count = search rules in
-    ended args.values.now args.from args.count k at-loop.invariant.1 at-loop.invariant.2

@@ -1,4 +1,4 @@
-use Prim.Native.Nat.{ℕ, ◌-◌, ◌<◌}
+use Prim.Native.Nat.{ℕ, ◌+◌, ◌-◌}
 use native.Mathlib.Omega.{arith}
 use mathlib.Core.Path.{◌≡◌, ap, ◌∙◌}
 use lib.ListN.{length}
@@ -9,11 +9,10 @@ use Rattle.quietest.specs.Search.{found}
 use Rattle.quietest.proofs.Join.{first-start, next-group, found-itself}
 use Rattle.quietest.proofs.search.search_all.Goals as goal
 
-pub loop-left-init : goal.loop-left-init
-loop-left-init c =
+pub loop-from-init : goal.loop-from-init
+loop-from-init c =
     let d = c.spread_of in
     let args = c.args in (
-      omega arith,
       omega arith,
       first-start args.values.now args.width c.extremes_of.ensures
           (to_z-of_z w64 d.result (record { sfits = d.type_inv }) ∙ d.ensures),
@@ -21,32 +20,34 @@ loop-left-init c =
 
 pub search_block-best-requires : goal.search_block-best-requires
 search_block-best-requires c =
-    let at-loop = c.loop-left in
-    let args = c.args in
-    let some : 0 < c.least-count.result = c.least-count.ensures.2 (omega arith) (omega arith) in
     record {
       within = record { some = omega arith; few = omega arith; last = omega arith };
-      best_value = found-itself args.values.now args.width _ at-loop.invariant.2;
+      best_value = found-itself c.args.values.now c.args.width _ c.loop-from.invariant.1;
     }
 
-pub loop-left-smaller : goal.loop-left-smaller
-loop-left-smaller c =
-    let some : 0 < c.least-count.result = c.least-count.ensures.2 (omega arith) (omega arith) in
-    omega arith
-
-pub loop-left-preserved : goal.loop-left-preserved
-loop-left-preserved c =
-    let at-loop = c.loop-left in
+pub loop-from-preserved : goal.loop-from-preserved
+loop-from-preserved c =
+    let at-loop = c.loop-from in
     let args = c.args in
-    let more = c.least-count.result in (
+    let whole : c.min-count.result ≡ args.width = omega arith in (
       omega arith,
-      omega arith,
-      next-group args.values.now args.width at-loop.from more at-loop.invariant.0 at-loop.invariant.2 c.search_block-best.ensures,
+      next-group args.values.now args.width at-loop.from c.min-count.result at-loop.auto.from at-loop.invariant.1 c.search_block-best.ensures
+          ∙ ap (λ (n : ℕ). found args.values.now args.width (quieter args.values.now args.width 0 1 (at-loop.from + n - 1))) whole,
     )
 
+-- after the last group
+pub returns-2 : goal.returns-2
+returns-2 c =
+    let at-loop = c.loop-from in
+    let args = c.args in
+    let all : at-loop.from + c.min-count.result - 1 ≡ length args.values.now - args.width = omega arith in
+    next-group args.values.now args.width at-loop.from c.min-count.result at-loop.auto.from at-loop.invariant.1 c.search_block-best.ensures
+    ∙ ap (λ (n : ℕ). found args.values.now args.width (quieter args.values.now args.width 0 1 n)) all
+
+-- where there is one run alone
 pub returns : goal.returns
 returns c =
-    let at-loop = c.loop-left in
+    let at-loop = c.loop-from in
     let args = c.args in
     let all : at-loop.from - 1 ≡ length args.values.now - args.width = omega arith in
-    at-loop.invariant.2 ∙ ap (λ (n : ℕ). found args.values.now args.width (quieter args.values.now args.width 0 1 n)) all
+    at-loop.invariant.1 ∙ ap (λ (n : ℕ). found args.values.now args.width (quieter args.values.now args.width 0 1 n)) all

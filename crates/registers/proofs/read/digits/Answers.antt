@@ -1,7 +1,6 @@
 -- `registers::read::digits` meets its contract.
 use native.Mathlib.Omega.{arith}
 use Rattle.calendar.specs.Words.{bcd}
-use borrow.Author.Rules.{rules}
 use Rattle.registers.proofs.read.digits.Goals as goal
 
 pub returns : goal.returns

@@ -1,7 +1,6 @@
 -- `registers::read::last_word` meets its contract.
 use mathlib.Core.Path.{refl}
 use borrow.Author.Tests.{eq-eqb, ne_eqb}
-use borrow.Author.Rules.{rules}
 use Rattle.registers.proofs.read.last_word.Goals as goal
 
 pub returns-then-a-eq254 : goal.returns-then-a-eq254

@@ -1,7 +1,6 @@
 -- `registers::read::read_model` meets its contract.
 use borrow.Author.Tests.{le-leb, le-ltb, lt-leb, lt-ltb}
 use Rattle.device.specs.Bus.{read_model}
-use borrow.Author.Rules.{rules}
 use Rattle.registers.proofs.read.read_model.Goals as goal
 
 pub returns-then-a-gt254 : goal.returns-then-a-gt254

@@ -1,11 +1,6 @@
 use Rattle.unit.proofs.Tests.{tests}
 use Rattle.device.specs.Registers.{register_word}
 use borrow.Author.Rules.{rules}
-use Rattle.registers.proofs.read.calendar_word.Reads as calendar-word-reads
-use Rattle.registers.proofs.read.flight_word.Reads as flight-word-reads
-use Rattle.registers.proofs.read.temperature_word.Reads as temperature-word-reads
-use Rattle.status.proofs.status_word.Reads as status-word-reads
-use Rattle.setup.proofs.word.Reads as word-reads
 use Rattle.registers.proofs.read.register_word.Goals as goal
 
 pub returns-then-a-lt180 : goal.returns-then-a-lt180

@@ -1,7 +1,6 @@
 -- `registers::read::temperature_word` meets its contract.
 use borrow.Author.Tests.{eq-eqb, le-ltb, lt-ltb, ne_eqb}
 use Rattle.device.specs.Registers.{temperature_word}
-use borrow.Author.Rules.{rules}
 use Rattle.registers.proofs.read.temperature_word.Goals as goal
 
 pub returns-then-a-lt239 : goal.returns-then-a-lt239

@@ -1,6 +1,5 @@
 -- `registers::read::valid30` meets its contract.
 use Rattle.calendar.specs.Words.{hundredths_of, word30}
-use borrow.Author.Rules.{rules}
 use Rattle.registers.proofs.read.valid30.Goals as goal
 
 pub returns : goal.returns

@@ -1,6 +1,5 @@
 -- `registers::read::valid31` meets its contract.
 use Rattle.calendar.specs.Words.{hour_digits, word31}
-use borrow.Author.Rules.{rules}
 use Rattle.registers.proofs.read.valid31.Goals as goal
 
 pub returns : goal.returns

@@ -1,6 +1,5 @@
 -- `registers::read::valid32` meets its contract.
 use Rattle.calendar.specs.Words.{word32}
-use borrow.Author.Rules.{rules}
 use Rattle.registers.proofs.read.valid32.Goals as goal
 
 pub returns : goal.returns

@@ -1,6 +1,5 @@
 -- `registers::read::valid33` meets its contract.
 use Rattle.calendar.specs.Words.{word33}
-use borrow.Author.Rules.{rules}
 use Rattle.registers.proofs.read.valid33.Goals as goal
 
 pub returns : goal.returns

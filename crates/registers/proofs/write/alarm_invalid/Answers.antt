@@ -1,6 +1,5 @@
 -- `registers::write::alarm_invalid` meets its contract.
 use mathlib.Core.Path.{sym}
-use borrow.Author.Rules.{rules}
 use Rattle.device.proofs.WriteMeaning.{alarm-kept}
 use Rattle.registers.proofs.write.alarm_invalid.Goals as goal
 

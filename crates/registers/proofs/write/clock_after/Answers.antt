@@ -1,6 +1,5 @@
 -- `registers::write::clock_after` meets its contract.
 use Rattle.device.specs.Write.{clock_after}
-use borrow.Author.Rules.{rules}
 use Rattle.registers.proofs.write.clock_after.Goals as goal
 
 pub returns : goal.returns

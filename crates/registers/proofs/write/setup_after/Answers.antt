@@ -4,11 +4,9 @@ use native.Mathlib.Omega.{arith}
 use native.Mathlib.Numerals.{add-one}
 use mathlib.Core.Path.{◌≡◌, refl, ◌∙◌, ap}
 use mathlib.Core.List.{List}
-use mathlib.Core.Logic.{⊎_elim}
 use lib.ListN.{set}
 use borrow.Author.Tests.{lt-ltb, le-ltb}
 use Rattle.frame.specs.Frame.{word_at}
-use borrow.Author.Rules.{rules}
 use Rattle.device.specs.Write.{setup_after, with_word}
 use Rattle.registers.proofs.write.setup_after.Goals as goal
 use Rattle.registers.proofs.write.setup_after.Goals.{then-a-ge52, else-a-ge52}
@@ -36,29 +34,21 @@ extended bytes op i w start s next e r high x = rw (add-one i, le-ltb (op + i) 0
 
 pub loop-i-init : goal.loop-i-init
 unfolding setup_after
-loop-i-init c = (omega arith, refl)
-
-pub offset_bounds-s-a : goal.offset_bounds-s-a
-offset_bounds-s-a c = omega arith
-
-pub bounds-s-a : goal.bounds-s-a
-bounds-s-a c = omega arith
+loop-i-init c = refl
 
 pub loop-i-preserved : goal.loop-i-preserved
 loop-i-preserved c =
     let start = c.args in
-    let head = c.loop-i in (
-      omega arith,
-      elim c.if-a-ge52.branch [
-        | then-a-ge52 w ↦
-            extended start.words.now start.op head.i c.word_at-w.result start.setup head.s c.if-a-ge52.s
-            head.invariant.1 c.word_at-w.ensures.0 w.if-a-ge52.true w.s-is
-        | else-a-ge52 w ↦
-            passed start.words.now start.op head.i start.setup head.s c.if-a-ge52.s head.invariant.1 w.if-a-ge52.false w.s-is
-      ],
-    )
+    let head = c.loop-i in
+    elim c.if-a-ge52.branch [
+      | then-a-ge52 w ↦
+          extended start.words.now start.op head.i w.word_at.result start.setup head.s c.if-a-ge52.s
+          head.invariant w.word_at.ensures.0 w.if-a-ge52.true w.s-is
+      | else-a-ge52 w ↦
+          passed start.words.now start.op head.i start.setup head.s c.if-a-ge52.s head.invariant w.if-a-ge52.false w.s-is
+    ]
 
 pub returns : goal.returns
 returns c =
     let start = c.args in
-    c.loop-i.invariant.1 ∙ ap (setup_after start.words.now start.op start.setup) (omega arith)
+    c.loop-i.invariant ∙ ap (setup_after start.words.now start.op start.setup) (omega arith)

@@ -1,7 +1,6 @@
 -- `registers::write::ticks_after` meets its contract.
 use borrow.Author.Tests.{le-ltb, lt-ltb, le-leb, lt-leb}
 use Rattle.device.specs.Write.{ticks_after, covers}
-use borrow.Author.Rules.{rules}
 use Rattle.registers.proofs.write.ticks_after.Goals as goal
 
 pub returns-then-op-gt48 : goal.returns-then-op-gt48

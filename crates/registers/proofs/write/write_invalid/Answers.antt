@@ -2,7 +2,6 @@
 use mathlib.Core.Path.{sym, ◌∙◌}
 use Rattle.device.specs.Write.{write_invalid}
 use Rattle.device.proofs.WriteTogether.{judged-by-alarm}
-use borrow.Author.Rules.{rules}
 use Rattle.registers.proofs.write.write_invalid.Goals as goal
 
 pub returns-then-op-gt51 : goal.returns-then-op-gt51

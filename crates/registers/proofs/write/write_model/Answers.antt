@@ -1,7 +1,6 @@
 -- `registers::write::write_model` meets its contract.
 use Rattle.device.specs.Write.{write_model}
 use Rattle.device.proofs.WriteTogether.{keeps-clock}
-use borrow.Author.Rules.{rules}
 use Rattle.registers.proofs.write.write_model.Goals as goal
 
 pub returns-then-op-gt51 : goal.returns-then-op-gt51

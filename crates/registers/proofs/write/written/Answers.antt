@@ -1,7 +1,6 @@
 -- `registers::write::written` meets its contract.
 use borrow.Author.Tests.{le-ltb, lt-ltb, le-leb, lt-leb}
 use Rattle.device.specs.Write.{written, covers}
-use borrow.Author.Rules.{rules}
 use Rattle.registers.proofs.write.written.Goals as goal
 
 pub returns-then-a-op : goal.returns-then-a-op

@@ -1,11 +1,11 @@
--- `replay::options::given` meets its contract, and ends: the measure is what is left of the arguments.
+-- `replay::options::given` meets its contract.
 -- Assumes nothing.
 use borrow.Author.Rules.{rules}
 use mathlib.Core.Path.{refl, sym, ◌∙◌}
 use native.Mathlib.Omega.{arith}
 use Rattle.replay.proofs.Handed.{none-handed, one-handed, given-all, given-enough}
 use Rattle.replay.proofs.options.given.Goals as goal
-use Rattle.replay.proofs.options.given.Goals.{then-loop-i-test+else-is_open, else-loop-i-test}
+use Rattle.replay.proofs.options.given.Goals.{else-loop-i-test, then-loop-i-test+then-not-is_open}
 
 pub loop-i-init : goal.loop-i-init
 loop-i-init g c = (refl, none-handed _ c.begin-reading.ensures)
@@ -18,6 +18,6 @@ pub returns : goal.returns
 returns g c =
     let handed = c.loop-i.invariant.1 in
     elim c.loop-i-test.branch [
-      | then-loop-i-test+else-is_open w ↦ given-enough handed (sym w.is_open.ensures ∙ w.if-is_open.false) c.asked.ensures
       | else-loop-i-test w ↦ given-all handed (omega (arith, w.loop-i-test.false)) c.asked.ensures
+      | then-loop-i-test+then-not-is_open w ↦ given-enough handed (sym w.is_open.ensures ∙ w.if-not-is_open.true) c.asked.ensures
     ]

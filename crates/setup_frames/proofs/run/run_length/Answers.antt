@@ -1,34 +1,21 @@
 -- `setup_frames::run::run_length` meets its contract.
-use Prim.Native.Nat.{◌+◌, ◌-◌, ◌≤◌}
-use native.Mathlib.Nat.{add-zero}
+use Prim.Native.Nat.{◌-◌}
 use native.Mathlib.Omega.{arith}
 use mathlib.Core.Path.{◌≡◌, sym, ◌∙◌}
-use borrow.Author.Rules.{rules}
-use Rattle.setup_frames.specs.Frames.{run_length}
 use Rattle.setup_frames.proofs.Loops.{run_on, run-stops, run_ends}
 use Rattle.setup_frames.proofs.run.run_length.Goals as goal
 
-pub loop-n-init : goal.loop-n-init
-loop-n-init c = (omega arith, rw (add-zero c.args.i) (omega arith))
+pub returns-then-not-differs : goal.returns-then-not-differs
+returns-then-not-differs c =
+    let head = c.loop-n in
+    (run-stops c.args.s c.args.i head.n head.invariant (omega arith) (sym c.differs.ensures ∙ c.if-not-differs.true), omega arith)
 
 pub loop-n-preserved : goal.loop-n-preserved
 loop-n-preserved c =
-    let start = c.args in
-    let head = c.loop-n in (
-      omega arith,
-      run_on start.s start.i head.n head.invariant.1 (omega arith) (sym c.differs.ensures ∙ c.if-differs.true),
-    )
-
-pub returns-else-differs : goal.returns-else-differs
-returns-else-differs c =
-    let start = c.args in
-    let head = c.loop-n in (
-      run-stops start.s start.i head.n head.invariant.1 (omega arith) (sym c.differs.ensures ∙ c.if-differs.false),
-      omega arith,
-    )
+    let head = c.loop-n in run_on c.args.s c.args.i head.n head.invariant (omega arith) (sym c.differs.ensures ∙ c.if-not-differs.false)
 
 pub returns : goal.returns
 returns c =
-    let start = c.args in
     let head = c.loop-n in
-    (run_ends start.s start.i head.n head.invariant.1 (omega arith), omega arith)
+    let all : 16 - c.args.i ≡ head.n = omega arith in
+    (all ∙ run_ends c.args.s c.args.i head.n head.invariant (omega arith), omega arith)

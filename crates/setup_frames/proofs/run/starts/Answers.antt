@@ -1,12 +1,11 @@
 -- `setup_frames::run::starts` meets its contract.
-use borrow.Author.Rules.{rules}
 use Rattle.setup_frames.specs.Frames.{starts}
 use Rattle.setup_frames.proofs.run.starts.Goals as goal
 
-pub returns-then-differs_before : goal.returns-then-differs_before
+pub returns-then-not-differs_before : goal.returns-then-not-differs_before
 unfolding starts
-returns-then-differs_before c = simp (← c.differs_before.ensures, c.if-differs_before.true)
+returns-then-not-differs_before c = simp (← c.differs_before.ensures, c.if-not-differs_before.true, ← c.differs.ensures)
 
-pub returns : goal.returns
+pub returns-else-not-differs_before : goal.returns-else-not-differs_before
 unfolding starts
-returns c = simp (← c.differs_before.ensures, c.if-differs_before.false, ← c.differs.ensures)
+returns-else-not-differs_before c = simp (← c.differs_before.ensures, c.if-not-differs_before.false)

@@ -20,7 +20,7 @@ use Rattle.show.proofs.commands.put_answer.Goals as goal
 
 others : (m : Model) (op : ℕ) (a : Answer) (l : List ℕ) (at r : ℕ) (l' : List ℕ) → OneOf (1 ∷ 2 ∷ 3 ∷ 4 ∷ 5 ∷ []) (tag_of the_type a) → Put l at (ascii " ok") r l' → PutEach l at (answer_texts m op (number_in a)) r l'
 unfolding number_in answer_texts
-others m op (Refused n) l at r l' h put = absurd (miss (1 ∷ 2 ∷ 3 ∷ 4 ∷ 5 ∷ []) 0 tt h)
+others m op (Refused why) l at r l' h put = absurd (miss (1 ∷ 2 ∷ 3 ∷ 4 ∷ 5 ∷ []) 0 tt h)
 others m op (Accepted f t) l at r l' h put = put_one put
 others m op (Ticked f t) l at r l' h put = put_one put
 others m op (Stretched f t) l at r l' h put = put_one put

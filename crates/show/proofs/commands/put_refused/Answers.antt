@@ -1,16 +1,24 @@
 -- `show::commands::put_refused` meets its contract.
 -- Assumes nothing.
 use borrow.Author.Rules.{rules}
-use borrow.Author.Tests.{eq-eqb, ne_eqb}
+use mathlib.Core.Bool.{false}
+use mathlib.Core.Path.{◌≡◌}
+use lib.Dec.{eqb}
 use Rattle.wording.proofs.Each.{put-none, put_first, put_then}
 use Rattle.numeral.specs.Ascii.{ascii}
 use Rattle.page.specs.Commands.{refused_texts}
+use Rattle.refusal.specs.declared.Refusal.{Refusal}
+use Rattle.refusal.specs.Number.{number}
 use Rattle.show.proofs.commands.put_refused.Goals as goal
 
-pub returns-then-number-eq-SET_UP : goal.returns-then-number-eq-SET_UP
+pub returns-then-eq : goal.returns-then-eq
 unfolding ascii refused_texts
-returns-then-number-eq-SET_UP c = rw (eq-eqb _ _ c.if-number-eq-SET_UP.true) (put_then c.put_refusal-a.ensures (put_first c.put_text-b.ensures c.put_fields.ensures))
+returns-then-eq c =
+    let e : c.args.refusal ≡ Refusal.SetUp = search rules in
+    rw e (put_then (rw (c.number.ensures.0, e) at c.put_refusal-a.ensures) (put_first c.put_text-b.ensures c.put_fields.ensures))
 
 pub returns : goal.returns
 unfolding refused_texts
-returns c = rw (ne_eqb _ _ c.if-number-eq-SET_UP.false) (put_then c.put_refusal-a.ensures (put-none _ _))
+returns c =
+    let t : eqb (number c.args.refusal) 9 ≡ false = search rules in
+    rw (t, ← c.number.ensures.0) (put_then c.put_refusal-a.ensures (put-none _ _))

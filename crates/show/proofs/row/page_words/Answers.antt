@@ -1,19 +1,14 @@
--- `show::row::page_words` meets its contract : a word more in each turn.
+-- `show::row::page_words` meets its contract: a word more in each turn.
 -- Assumes nothing.
+use Rattle.std.proofs.Common.{arith, ◌∙◌}
+use lib.ListN.{length-set}
 use Rattle.show.proofs.Rows.{words-on, words-end}
-use Rattle.item_state.specs.Told.{read_word}
-use lib.ListN.{length, get_or, length-set}
-use mathlib.Core.Path.{◌≡◌, refl, ◌∙◌}
-use Prim.Native.Nat.{ℕ, ◌+◌, ◌-◌, ◌≤◌, ◌<◌}
-use native.Mathlib.Omega.{arith}
-use borrow.Author.Rules.{rules}
 use Rattle.show.proofs.row.page_words.Goals as goal
 
-pub loop-i-init : goal.loop-i-init
-loop-i-init c = (omega arith, refl, λ k h. absurd (omega arith))
-
 pub loop-i-preserved : goal.loop-i-preserved
-loop-i-preserved c = (omega arith, length-set c.loop-i.words c.loop-i.i c.word.result ∙ c.loop-i.invariant.1, words-on c.args.m c.loop-i.words c.loop-i.i c.word.result (omega arith) c.word.ensures c.loop-i.invariant.2)
+loop-i-preserved c =
+    let k = c.loop-i in
+    (length-set k.words k.i c.word.result ∙ k.invariant.0, words-on c.args.m k.words k.i c.word.result (omega arith) c.word.ensures k.invariant.1)
 
 pub returns : goal.returns
-returns c = words-end c.args.m c.loop-i.words c.loop-i.invariant.1 (λ k h. c.loop-i.invariant.2 k (omega arith))
+returns c = words-end c.args.m c.loop-i.words c.loop-i.invariant.0 (λ k h. c.loop-i.invariant.1 k (omega arith))

@@ -1,15 +1,7 @@
--- `show::row::page_words` meets its contract : a word more in each turn.
-use Rattle.show.proofs.Rows.{words-on, words-end}
+-- `show::row::page_words` meets its contract: a word more in each turn.
+use Rattle.std.proofs.Common.{◌≡◌, ℕ, ◌+◌, ◌<◌, length, get_or}
 use Rattle.item_state.specs.Told.{read_word}
-use lib.ListN.{length, get_or, length-set}
-use mathlib.Core.Path.{◌≡◌, refl, ◌∙◌}
-use Prim.Native.Nat.{ℕ, ◌+◌, ◌-◌, ◌≤◌, ◌<◌}
-use native.Mathlib.Omega.{arith}
-use borrow.Author.Rules.{rules}
 use Rattle.show.proofs.row.page_words.Given as goal
 
 abbrev pub invariant-loop-i : goal.invariant-loop-i
-invariant-loop-i l = (l.i ≤ 80) × (length l.words ≡ 80) × ((k : ℕ) → k < l.i → get_or l.words k 0 ≡ read_word l.m (176 + k))
-
-abbrev pub decreases-loop-i : goal.decreases-loop-i
-decreases-loop-i l = 80 - l.i
+invariant-loop-i l = (length l.words ≡ 80) × ((k : ℕ) → k < l.i → get_or l.words k 0 ≡ read_word l.m (176 + k))

@@ -4,10 +4,10 @@ use borrow.Author.Rules.{rules}
 use Rattle.page.specs.Run.{left_ticks}
 use Rattle.show.proofs.run.ticks_left.Goals as goal
 
-pub returns-in-After : goal.returns-in-After
+pub returns-in-Ok : goal.returns-in-Ok
 unfolding left_ticks
-returns-in-After c = rw c.in-After.is
+returns-in-Ok c = rw c.in-Ok.is
 
-pub returns-in-Refused : goal.returns-in-Refused
+pub returns-in-Err : goal.returns-in-Err
 unfolding left_ticks
-returns-in-Refused c = rw c.in-Refused.is
+returns-in-Err c = rw c.in-Err.is

@@ -1,6 +1,5 @@
 -- `snapshot::fields::clock_of` meets its contract.
 use Rattle.layout.specs.Layout.{clock_of}
-use borrow.Author.Rules.{rules}
 use Rattle.snapshot.proofs.fields.clock_of.Goals as goal
 
 pub returns : goal.returns

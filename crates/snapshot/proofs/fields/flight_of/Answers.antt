@@ -1,7 +1,6 @@
 -- `snapshot::fields::flight_of` meets its contract.
 use Rattle.layout.specs.Layout.{flight_of}
 use mathlib.Core.Path.{refl}
-use borrow.Author.Rules.{rules}
 use Rattle.snapshot.proofs.fields.flight_of.Goals as goal
 
 pub returns : goal.returns

@@ -1,6 +1,5 @@
 -- `snapshot::fields::model_of` meets its contract.
 use Rattle.layout.specs.Layout.{model_of}
-use borrow.Author.Rules.{rules}
 use Rattle.snapshot.proofs.fields.model_of.Goals as goal
 
 pub returns : goal.returns

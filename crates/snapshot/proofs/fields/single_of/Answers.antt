@@ -1,7 +1,6 @@
 -- `snapshot::fields::single_of` meets its contract.
 use mathlib.Core.Path.{refl}
 use Rattle.layout.specs.Layout.{single}
-use borrow.Author.Rules.{rules}
 use Rattle.snapshot.proofs.fields.single_of.Goals as goal
 
 pub returns : goal.returns

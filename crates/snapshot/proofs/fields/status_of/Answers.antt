@@ -1,6 +1,5 @@
 -- `snapshot::fields::status_of` meets its contract.
 use Rattle.layout.specs.Layout.{status_of}
-use borrow.Author.Rules.{rules}
 use Rattle.snapshot.proofs.fields.status_of.Goals as goal
 
 pub returns : goal.returns

@@ -1,13 +1,6 @@
 -- `snapshot::number::doubles` meets its contract.
-use Prim.Native.Nat.{◌-◌}
-use native.Mathlib.Omega.{arith}
-use mathlib.Core.Path.{refl}
-use borrow.Author.Rules.{rules}
-use Rattle.layout.proofs.Loops.{Reading, reading-starts, reading-on, reading-ends}
+use Rattle.layout.proofs.Loops.{Reading}
 use Rattle.snapshot.proofs.number.doubles.Given as goal
 
 abbrev pub invariant-loop-i : goal.invariant-loop-i
 invariant-loop-i l = Reading 2 25 18 l.bytes l.d l.i
-
-abbrev pub decreases-loop-i : goal.decreases-loop-i
-decreases-loop-i l = 18 - l.i

@@ -1,13 +1,6 @@
 -- `snapshot::number::octuples` meets its contract.
-use Prim.Native.Nat.{◌-◌}
-use native.Mathlib.Omega.{arith}
-use mathlib.Core.Path.{refl}
-use borrow.Author.Rules.{rules}
-use Rattle.layout.proofs.Loops.{Reading, reading-starts, reading-on, reading-ends}
+use Rattle.layout.proofs.Loops.{Reading}
 use Rattle.snapshot.proofs.number.octuples.Given as goal
 
 abbrev pub invariant-loop-i : goal.invariant-loop-i
 invariant-loop-i l = Reading 8 193 5 l.bytes l.o l.i
-
-abbrev pub decreases-loop-i : goal.decreases-loop-i
-decreases-loop-i l = 5 - l.i

@@ -1,16 +1,6 @@
 -- `snapshot::number::put_doubles` meets its contract.
-use Prim.Native.Nat.{◌-◌}
-use native.Mathlib.Omega.{arith}
-use mathlib.Core.Path.{refl}
-use mir.Syntax.{w16}
-use borrow.Author.Rules.{rules}
-use Rattle.layout.specs.Number.{bound}
-use Rattle.layout.proofs.Meaning.{below-fit}
-use Rattle.layout.proofs.Loops.{Writing, writing-starts, writing-on, writing-ends}
+use Rattle.layout.proofs.Loops.{Writing}
 use Rattle.snapshot.proofs.number.put_doubles.Given as goal
 
 abbrev pub invariant-loop-i : goal.invariant-loop-i
-invariant-loop-i l = Writing 2 25 18 l.initial.bytes l.d l.bytes l.i
-
-abbrev pub decreases-loop-i : goal.decreases-loop-i
-decreases-loop-i l = 18 - l.i
+invariant-loop-i l = Writing 2 25 18 l.initial.bytes l.fn.d l.bytes l.i

@@ -1,12 +1,14 @@
 -- `snapshot::number::put_quadruples` meets its contract.
-use Prim.Native.Nat.{◌-◌}
+use Prim.Native.Nat.{◌+◌, ◌*◌}
 use native.Mathlib.Omega.{arith}
-use mathlib.Core.Path.{refl}
+use mathlib.Core.Path.{refl, ◌∙◌}
+use lib.ListN.{get_or}
 use mir.Syntax.{w32}
 use borrow.Author.Rules.{rules}
 use Rattle.layout.specs.Number.{bound}
 use Rattle.layout.proofs.Meaning.{below-fit}
-use Rattle.layout.proofs.Loops.{Writing, writing-starts, writing-on, writing-ends}
+use Rattle.layout.proofs.Loops.{writing-starts, writing-on, writing-ends}
+use Rattle.snapshot.proofs.Bytes.{written, copied}
 use Rattle.snapshot.proofs.number.put_quadruples.Goals as goal
 
 pub loop-i-init : goal.loop-i-init
@@ -14,10 +16,11 @@ loop-i-init c = writing-starts _ _ _ _ _
 
 pub loop-i-preserved : goal.loop-i-preserved
 loop-i-preserved c =
-    writing-on _ _ _ _ _ _ _ _ (omega arith) (omega arith) c.put32.ensures c.loop-i.invariant
-
-pub shape_of-bytes : goal.shape_of-bytes
-shape_of-bytes c = c.loop-i.invariant.long
+    let i = c.loop-i.i in
+    let x = get_or c.args.q i 0 in
+    writing-on _ _ _ _ _ _ _ _ (omega arith) (omega arith)
+    (copied 4 (61 + 4 * i) x c.loop-i.bytes (omega arith) (c.copy_from_slice.ensures.after ∙ c.to_le_bytes.ensures ∙ written 4 x))
+    c.loop-i.invariant
 
 pub returns : goal.returns
 unfolding bound

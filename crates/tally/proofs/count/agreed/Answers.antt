@@ -1,6 +1,5 @@
 -- `tally::count::agreed` meets its contract.
 -- Assumes nothing.
-use borrow.Author.Rules.{rules}
 use Rattle.collection.specs.Tally.{agreed}
 use Rattle.tally.proofs.count.agreed.Goals as goal
 

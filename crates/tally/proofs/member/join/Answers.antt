@@ -1,6 +1,5 @@
 -- `tally::member::join` meets its contract.
 -- Assumes nothing.
-use borrow.Author.Rules.{rules}
 use Rattle.collection.specs.Group.{joined}
 use Rattle.tally.proofs.Parts.{joined-unnamed, joined-named}
 use Rattle.tally.proofs.member.join.Goals as goal

@@ -1,6 +1,5 @@
 -- `tally::summary::put_count` meets its contract. Assumes nothing.
 use Rattle.numeral.specs.Place.{put_each}
-use borrow.Author.Rules.{rules}
 use Rattle.tally.proofs.summary.put_count.Goals as goal
 
 pub returns : goal.returns

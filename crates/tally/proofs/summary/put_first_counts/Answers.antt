@@ -1,6 +1,5 @@
 -- `tally::summary::put_first_counts` meets its contract.
 -- Assumes nothing.
-use borrow.Author.Rules.{rules}
 use Rattle.wording.proofs.Each.{put_first, put_then}
 use Rattle.collection.specs.Summary.{first_counts}
 use Rattle.numeral.specs.Ascii.{ascii}

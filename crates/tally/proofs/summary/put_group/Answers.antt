@@ -1,6 +1,5 @@
 -- `tally::summary::put_group` meets its contract.
 -- Assumes nothing.
-use borrow.Author.Rules.{rules}
 use Rattle.numeral.specs.Ascii.{ascii}
 use Rattle.tally.proofs.Parts.{group-some, group-none}
 use Rattle.tally.proofs.summary.put_group.Goals as goal

@@ -1,6 +1,5 @@
 -- `tally::summary::put_groups` meets its contract.
 -- Assumes nothing.
-use borrow.Author.Rules.{rules}
 use Rattle.wording.proofs.Each.{put_then}
 use Rattle.collection.specs.Summary.{groups_texts}
 use Rattle.numeral.specs.Ascii.{ascii}

@@ -1,7 +1,6 @@
 -- `tally::summary::put_head` meets its contract. Assumes nothing.
 use Rattle.numeral.specs.Place.{put_each}
 use Rattle.collection.specs.Summary.{head_texts}
-use borrow.Author.Rules.{rules}
 use Rattle.numeral.specs.Ascii.{ascii}
 use Rattle.tally.proofs.summary.put_head.Goals as goal
 

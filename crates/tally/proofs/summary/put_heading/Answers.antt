@@ -1,6 +1,5 @@
 -- `tally::summary::put_heading` meets its contract.
 -- Assumes nothing.
-use borrow.Author.Rules.{rules}
 use Rattle.wording.proofs.Each.{put_one, put_first}
 use Rattle.collection.specs.Summary.{heading_texts}
 use Rattle.numeral.specs.Ascii.{ascii}

@@ -1,6 +1,5 @@
 -- `tally::summary::put_last_counts` meets its contract.
 -- Assumes nothing.
-use borrow.Author.Rules.{rules}
 use Rattle.wording.proofs.Each.{put_then}
 use Rattle.collection.specs.Summary.{last_counts}
 use Rattle.numeral.specs.Ascii.{ascii}

@@ -1,6 +1,5 @@
 -- `tally::summary::put_more` meets its contract.
 -- Assumes nothing.
-use borrow.Author.Rules.{rules}
 use Rattle.numeral.specs.Ascii.{ascii}
 use Rattle.tally.proofs.Parts.{more-some, more-none}
 use Rattle.tally.proofs.summary.put_more.Goals as goal

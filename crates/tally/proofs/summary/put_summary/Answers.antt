@@ -1,6 +1,5 @@
 -- `tally::summary::put_summary` meets its contract.
 -- Assumes nothing.
-use borrow.Author.Rules.{rules}
 use Rattle.wording.proofs.Each.{put_then}
 use Rattle.collection.specs.Summary.{summary_texts, first_counts, last_counts}
 use Rattle.numeral.specs.Ascii.{ascii}

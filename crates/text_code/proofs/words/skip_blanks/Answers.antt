@@ -1,41 +1,24 @@
--- `text_code::words::skip_blanks` meets its contract. The invariant: the words from i on are those from the start on; the measure is what is left of the bytes.
--- Assumes nothing.
-use Prim.Native.Nat.{◌-◌, ◌≤◌}
-use mathlib.Core.Path.{◌≡◌, refl, sym, ◌∙◌}
+-- `text_code::words::skip_blanks` meets its contract. Assumes nothing.
+use mathlib.Core.Path.{◌≡◌, sym, ap, ◌∙◌}
 use native.Mathlib.Omega.{arith}
 use lib.ListN.{length, drop}
 use Rattle.text.specs.Text.{words}
 use Rattle.text_code.proofs.WordLaws.{words-blank}
 use Rattle.text_code.proofs.words.skip_blanks.Goals as goal
 
-pub loop-i-init : goal.loop-i-init
-loop-i-init c = (omega arith, omega arith, refl)
-
-pub bounds-s-i : goal.bounds-s-i
-bounds-s-i c = omega arith
-
-pub is_blank-requires : goal.is_blank-requires
-is_blank-requires c = tt
-
-pub overflow_add-i : goal.overflow_add-i
-overflow_add-i c = omega arith
-
-pub loop-i-smaller : goal.loop-i-smaller
-loop-i-smaller c = omega arith
+pub returns-then-not-is_blank : goal.returns-then-not-is_blank
+returns-then-not-is_blank c =
+    record { low = c.loop-i.auto.i; high = omega arith; alike = c.loop-i.invariant; stops = λ _. sym c.is_blank.ensures ∙ c.if-not-is_blank.true }
 
 pub loop-i-preserved : goal.loop-i-preserved
-loop-i-preserved c = (
-  omega arith,
-  omega arith,
-  words-blank _ _ c.loop-i-test.true (sym c.is_blank.ensures ∙ c.if-is_blank.true) ∙ c.loop-i.invariant.2,
-)
-
-pub returns-else-is_blank : goal.returns-else-is_blank
-returns-else-is_blank c =
-    let k = c.loop-i in
-    record { low = k.invariant.0; high = k.invariant.1; alike = k.invariant.2; stops = λ _. sym c.is_blank.ensures ∙ c.if-is_blank.false }
+loop-i-preserved c = words-blank _ _ c.loop-i-test.true (sym c.is_blank.ensures ∙ c.if-not-is_blank.false) ∙ c.loop-i.invariant
 
 pub returns : goal.returns
 returns c =
-    let k = c.loop-i in
-    record { low = k.invariant.0; high = k.invariant.1; alike = k.invariant.2; stops = λ h. absurd (omega arith) }
+    let end : c.loop-i.i ≡ length c.args.s.now = omega arith in
+    record {
+      low = c.requires;
+      high = omega arith;
+      alike = sym (ap (λ i. words (drop i c.args.s.now)) end) ∙ c.loop-i.invariant;
+      stops = λ h. absurd (omega arith);
+    }

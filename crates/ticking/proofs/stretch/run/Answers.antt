@@ -18,12 +18,12 @@ loop-p-init c = let (e, z) = loop-starts _ _ c.begin-p.ensures in (e, omega (ari
 
 pub loop-p-smaller : goal.loop-p-smaller
 loop-p-smaller c =
-    let k = loop-keeps _ _ _ _ _ c.loop-p.invariant.0 c.loop-p-test.true c.less.ensures c.moved-next.ensures in
+    let k = loop-keeps _ _ _ _ _ c.loop-p.invariant.0 c.loop-p-test.true c.less.ensures c.moved-p.ensures in
     omega (arith, k.farther, k.within)
 
 pub loop-p-preserved : goal.loop-p-preserved
 loop-p-preserved c =
-    let k = loop-keeps _ _ _ _ _ c.loop-p.invariant.0 c.loop-p-test.true c.less.ensures c.moved-next.ensures in
+    let k = loop-keeps _ _ _ _ _ c.loop-p.invariant.0 c.loop-p-test.true c.less.ensures c.moved-p.ensures in
     (k.progressed, k.within)
 
 pub returns : goal.returns

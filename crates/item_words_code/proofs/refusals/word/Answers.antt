@@ -1,0 +1,101 @@
+-- `item_words_code::refusals::word` meets its contract.
+-- Assumes nothing.
+use Prim.Native.Nat.{ℕ, ◌≤◌}
+use mathlib.Core.List.{[]}
+use mathlib.Core.Path.{◌≡◌}
+use native.Mathlib.Omega.{arith}
+use lib.ListN.{get_or, get_or-eq_default}
+use Rattle.numeral.specs.Ascii.{ascii}
+use Rattle.item_page.specs.Row.{refusal_words}
+use Rattle.item_words_code.proofs.refusals.word.Goals as goal
+
+none : (number : ℕ) → 21 ≤ number → [] ≡ ascii (get_or refusal_words number "")
+unfolding ascii refusal_words
+none number h = rw (get_or-eq_default refusal_words "" h)
+
+pub returns-in-0 : goal.returns-in-0
+unfolding ascii refusal_words
+returns-in-0 c = rw c.in-0.is
+
+pub returns-in-1 : goal.returns-in-1
+unfolding ascii refusal_words
+returns-in-1 c = rw c.in-1.is
+
+pub returns-in-2 : goal.returns-in-2
+unfolding ascii refusal_words
+returns-in-2 c = rw c.in-2.is
+
+pub returns-in-3 : goal.returns-in-3
+unfolding ascii refusal_words
+returns-in-3 c = rw c.in-3.is
+
+pub returns-in-4 : goal.returns-in-4
+unfolding ascii refusal_words
+returns-in-4 c = rw c.in-4.is
+
+pub returns-in-5 : goal.returns-in-5
+unfolding ascii refusal_words
+returns-in-5 c = rw c.in-5.is
+
+pub returns-in-6 : goal.returns-in-6
+unfolding ascii refusal_words
+returns-in-6 c = rw c.in-6.is
+
+pub returns-in-7 : goal.returns-in-7
+unfolding ascii refusal_words
+returns-in-7 c = rw c.in-7.is
+
+pub returns-in-8 : goal.returns-in-8
+unfolding ascii refusal_words
+returns-in-8 c = rw c.in-8.is
+
+pub returns-in-9 : goal.returns-in-9
+unfolding ascii refusal_words
+returns-in-9 c = rw c.in-9.is
+
+pub returns-in-10 : goal.returns-in-10
+unfolding ascii refusal_words
+returns-in-10 c = rw c.in-10.is
+
+pub returns-in-11 : goal.returns-in-11
+unfolding ascii refusal_words
+returns-in-11 c = rw c.in-11.is
+
+pub returns-in-12 : goal.returns-in-12
+unfolding ascii refusal_words
+returns-in-12 c = rw c.in-12.is
+
+pub returns-in-13 : goal.returns-in-13
+unfolding ascii refusal_words
+returns-in-13 c = rw c.in-13.is
+
+pub returns-in-14 : goal.returns-in-14
+unfolding ascii refusal_words
+returns-in-14 c = rw c.in-14.is
+
+pub returns-in-15 : goal.returns-in-15
+unfolding ascii refusal_words
+returns-in-15 c = rw c.in-15.is
+
+pub returns-in-16 : goal.returns-in-16
+unfolding ascii refusal_words
+returns-in-16 c = rw c.in-16.is
+
+pub returns-in-17 : goal.returns-in-17
+unfolding ascii refusal_words
+returns-in-17 c = rw c.in-17.is
+
+pub returns-in-18 : goal.returns-in-18
+unfolding ascii refusal_words
+returns-in-18 c = rw c.in-18.is
+
+pub returns-in-19 : goal.returns-in-19
+unfolding ascii refusal_words
+returns-in-19 c = rw c.in-19.is
+
+pub returns-in-20 : goal.returns-in-20
+unfolding ascii refusal_words
+returns-in-20 c = rw c.in-20.is
+
+pub returns-in_default : goal.returns-in_default
+returns-in_default c = none c.args.number (omega arith)

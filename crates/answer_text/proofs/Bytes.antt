@@ -7,7 +7,6 @@ use native.Mathlib.Nat.{add-zero}
 use native.Mathlib.Omega.{arith}
 use lib.ListN.{length, take, drop, length-append}
 use lib.Seq.{drop-append-add}
-use Rattle.numeral.specs.declared.Number.TheVariants.{Value}
 use Rattle.numeral.specs.Ascii.{ascii}
 use Rattle.numeral.specs.Digit.{digits}
 use Rattle.numeral.specs.Place.{joined}
@@ -18,6 +17,7 @@ use Rattle.device.specs.Registers.{register_word}
 use Rattle.item_questions.specs.Answers.{registers}
 use Rattle.item_questions.proofs.Meaning.{row_of, rows_of, ten-rows, reads-back}
 use Rattle.answer_text.proofs.Page.{joined-append}
+use Rattle.std.specs.Prelude.{Some}
 
 module _ (word : ℕ → ℕ) where
   -- A line has 43 bytes: two digits, five bytes for each word, a line feed.
@@ -84,5 +84,5 @@ regs-word m i j sound few less =
 
 -- These four digits read back as the word.
 pub regs-reads-back : (m : Model) (i j : ℕ) → is_sound m ≡ true → i < 10 → j < 8 → register_word m (0xB0 + 8 * i + j) < 0x10000
-    → read_hex 4 4 (take 4 (drop (43 * i + (3 + 5 * j)) (joined (registers m)))) ≡ Value (register_word m (0xB0 + 8 * i + j))
+    → read_hex 4 4 (take 4 (drop (43 * i + (3 + 5 * j)) (joined (registers m)))) ≡ Some (register_word m (0xB0 + 8 * i + j))
 regs-reads-back m i j sound few less fits = rw (regs-word m i j sound few less) (reads-back (register_word m (0xB0 + 8 * i + j)) fits)

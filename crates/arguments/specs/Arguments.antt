@@ -4,9 +4,7 @@
 --
 -- The words are those behind the program's name, and the first of them stands at place 1. A word that is longer than the caller's buffer is
 -- handed over as one of no bytes. Assumes nothing.
-use Rattle.std.specs.Prelude.{ℕ, ◌+◌, Bool, true, false, cond, List, [], ◌∷◌, eqb, ltb, length, drop}
-use Rattle.numeral.specs.declared.Number.{Number}
-use Rattle.numeral.specs.declared.Number.TheVariants.{Value, Bad}
+use Rattle.std.specs.Prelude.{ℕ, ◌+◌, Bool, true, false, cond, List, [], ◌∷◌, eqb, ltb, length, drop, Option, Some, None}
 use Rattle.numeral.specs.Ascii.{ascii}
 use Rattle.numeral.specs.Read.{read_decimal}
 use Rattle.line.specs.Words.{same_bytes}
@@ -18,9 +16,9 @@ begins text [] = false
 begins text (w ∷ ws) = same_bytes w text
 
 -- What is no number is 0.
-abbrev pub value_of : Number → ℕ
-value_of (Value v) = v
-value_of Bad = 0
+abbrev pub value_of : Option ℕ → ℕ
+value_of (Some v) = v
+value_of None = 0
 
 -- The N of `--of` is a number up to 4,294,967,295, and any other word is 0;
 abbrev pub number_of : List ℕ → ℕ

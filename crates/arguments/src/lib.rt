@@ -13,6 +13,7 @@ pub use places::{asked, is_several};
 pub use words::{begin, is_open, next};
 
 // What the arguments ask for.
+// Numbers with 0 for none: the definitions of specs/Arguments name these fields.
 #[derive(Clone, Copy)]
 pub struct Options {
     pub check: bool,
@@ -45,6 +46,7 @@ pub enum Stage {
 }
 
 // The options that the words so far have.
+// A flag beside its number: the definitions of specs/Reading name these fields.
 #[derive(Clone, Copy)]
 pub struct Found {
     pub check: bool,

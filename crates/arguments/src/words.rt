@@ -1,11 +1,10 @@
 // The words, one by one.
 ghost use Rattle.std.specs.Prelude.{◌≡◌};
 ghost use Rattle.line.specs.Words.{same_bytes};
-ghost use Rattle.arguments.specs.Arguments.{value_of, number_of};
+ghost use Rattle.arguments.specs.Arguments.{number_of};
 ghost use Rattle.arguments.specs.Reading.{begun, is_open, next_read, check_read, of_read, total_read, files_read, name_read, dashes_read};
 
 use crate::{Found, Reading, Stage};
-use numeral::Number;
 
 // Before the first word.
 pub fn begin() -> Reading
@@ -47,6 +46,7 @@ pub fn next(r: Reading, word: &[u8]) -> Reading
     }
 }
 
+// Each word by itself: its text, its field, what may follow and what reads that differ, and no two share all but one.
 #[tactic(auto, unfolding(crate::specs::Reading::check_read, numeral::specs::Ascii::ascii))]
 fn read_check(f: Found, word: &[u8]) -> Reading
     ensures { result ≡ check_read f word.now }
@@ -130,14 +130,5 @@ fn is_word(word: &[u8], text: &[u8]) -> bool
 fn number_of(word: &[u8]) -> u32
     ensures { result ≡ number_of word.now }
 {
-    value_of(numeral::read_decimal(word, 4294967295))
-}
-
-fn value_of(n: Number) -> u32
-    ensures { result ≡ value_of n }
-{
-    match n {
-        Number::Value(v) => v,
-        Number::Bad => 0,
-    }
+    numeral::read_decimal(word, 4294967295).unwrap_or(0)
 }

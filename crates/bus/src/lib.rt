@@ -95,7 +95,7 @@ pub fn sound_transaction(m: Model, frame: &[u8], out: &mut [u8], mem: &mut [u8])
     requires { is_sound m ≡ true }
     ensures { (result ≡ reply m (Call.transaction frame.now out.old mem.old)) × (out.new ≡ output m (Call.transaction frame.now out.old mem.old)) × (mem.new ≡ memory m (Call.transaction frame.now out.old mem.old)) }
 {
-    if frame.len() == 0 {
+    if frame.is_empty() {
         return refuse(m, Refusal::NoFrame);
     }
     let d = frame::decode_frame(frame, out.len());

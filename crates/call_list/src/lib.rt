@@ -5,6 +5,7 @@
 use device::Model;
 
 // One call of a list: its kind, and two sizes.
+// The kind is a number: a list's calls come over the C interface, three words each.
 #[derive(Clone, Copy)]
 pub struct Entry {
     pub kind: u32,

@@ -19,6 +19,7 @@ pub struct Outcome {
 
 // What a file is: an expectation differs, a refusal is not announced, a line is bad, it can't be read,
 // it has no expectation.
+// Five flags: the definitions of specs/Kind name each.
 #[derive(Clone, Copy)]
 pub struct Kinds {
     pub differ: bool,

@@ -28,9 +28,10 @@ pub fn transaction(m: Model, frame: &[u8], out: &mut [u8], mem: &mut [u8]) -> Re
     ensures { Transacted m (Call.transaction frame.now out.old mem.old) result out.new mem.new }
 {
     if is_sound(m) {
-        return sound_transaction(m, frame, out, mem);
+        sound_transaction(m, frame, out, mem)
+    } else {
+        refuse(m, Refusal::NotSound)
     }
-    refuse(m, Refusal::NotSound)
 }
 
 // One period of the 32,768 Hz clock.
@@ -38,9 +39,10 @@ pub fn tick(m: Model) -> Reply
     ensures { Replied m Call.tick result }
 {
     if is_sound(m) {
-        return sound_tick(m);
+        sound_tick(m)
+    } else {
+        refuse(m, Refusal::NotSound)
     }
-    refuse(m, Refusal::NotSound)
 }
 
 // n such periods at once, at most 16,384.
@@ -48,9 +50,10 @@ pub fn stretch(m: Model, n: Ticks) -> Reply
     ensures { Replied m (Call.stretch n.0) result }
 {
     if is_sound(m) {
-        return sound_stretch(m, n);
+        sound_stretch(m, n)
+    } else {
+        refuse(m, Refusal::NotSound)
     }
-    refuse(m, Refusal::NotSound)
 }
 
 // The hit words of an awaited flight measurement: the up list and the down list.
@@ -58,9 +61,10 @@ pub fn flight_delivery(m: Model, up: &[u32], down: &[u32]) -> Reply
     ensures { Replied m (Call.flight up.now down.now) result }
 {
     if is_sound(m) {
-        return sound_flight_delivery(m, up, down);
+        sound_flight_delivery(m, up, down)
+    } else {
+        refuse(m, Refusal::NotSound)
     }
-    refuse(m, Refusal::NotSound)
 }
 
 // The words of an awaited temperature measurement, T1 to T4.
@@ -68,7 +72,8 @@ pub fn temperature_delivery(m: Model, words: &[u32]) -> Reply
     ensures { Replied m (Call.temperature words.now) result }
 {
     if is_sound(m) {
-        return sound_temperature_delivery(m, words);
+        sound_temperature_delivery(m, words)
+    } else {
+        refuse(m, Refusal::NotSound)
     }
-    refuse(m, Refusal::NotSound)
 }

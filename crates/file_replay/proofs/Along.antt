@@ -13,21 +13,21 @@ use Rattle.file_names.specs.Names.{names_of, ended_names, Passed}
 use Rattle.file_names.proofs.Laws.{passed_none, passed_then, passed-ended, passed-whole}
 use Rattle.file_replay.specs.declared.names.Source.{Source}
 use Rattle.arguments.specs.declared.Options.{Options}
-use Rattle.file_replay.specs.Sources.{is_there, NextArgument, Stands, FromList, line, last, ended, broken}
+use Rattle.file_replay.specs.Sources.{number_of, is_there, NextArgument, Stands, FromList, line, last, ended, broken}
 use Rattle.file_replay.specs.Files as files
 use Rattle.file_replay.specs.Files.{Turn, file_of, turn_names, turn_places, all_found, places, ListTurns, Named}
 
 -- ---- whether a name is there
 
-not_there : (s : Source) {state : ℕ} → s.state ≡ state → ¬ (state ≡ 3) → is_there s ≡ false → ⊥
+not_there : (s : Source) {state : ℕ} → number_of s.state ≡ state → ¬ (state ≡ 3) → is_there s ≡ false → ⊥
 not_there s e other t =
-    let u : true ≡ false = rw (ne_eqb s.state 3 (λ q. other (sym e ∙ q))) at t in
+    let u : true ≡ false = rw (ne_eqb (number_of s.state) 3 (λ q. other (sym e ∙ q))) at t in
     let w : ◌≡◌ {A = ℕ} 0 1 = cc in
     omega arith
 
-ended-not-there : (s : Source) → s.state ≡ 3 → is_there s ≡ true → ⊥
+ended-not-there : (s : Source) → number_of s.state ≡ 3 → is_there s ≡ true → ⊥
 ended-not-there s e t =
-    let u : false ≡ true = rw (eq-eqb s.state 3 e) at t in
+    let u : false ≡ true = rw (eq-eqb (number_of s.state) 3 e) at t in
     let w : ◌≡◌ {A = ℕ} 0 1 = cc in
     omega arith
 
@@ -44,10 +44,10 @@ module _ {check : Bool} where
   places_then [] t = refl
   places_then (u ∷ ts) t = ap (λ (ns : List ℕ). u.source.next ∷ ns) (places_then ts t)
 
-  found-then : (ts : List (Turn check)) (t : Turn check) → all_found ts ≡ true → t.source.state ≡ 1 → all_found (ts ++ (t ∷ [])) ≡ true
+  found-then : (ts : List (Turn check)) (t : Turn check) → all_found ts ≡ true → number_of t.source.state ≡ 1 → all_found (ts ++ (t ∷ [])) ≡ true
   unfolding all_found
-  found-then [] t all one = rw (eq-eqb t.source.state 1 one)
-  found-then (u ∷ ts) t all one = go (eqb u.source.state 1) all (λ later. found-then ts t later one)
+  found-then [] t all one = rw (eq-eqb (number_of t.source.state) 1 one)
+  found-then (u ∷ ts) t all one = go (eqb (number_of u.source.state) 1) all (λ later. found-then ts t later one)
     where
       go : (b : Bool) → cond b (all_found ts) false ≡ true → (all_found ts ≡ true → all_found (ts ++ (t ∷ [])) ≡ true)
           → cond b (all_found (ts ++ (t ∷ []))) false ≡ true

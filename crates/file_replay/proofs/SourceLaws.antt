@@ -11,7 +11,16 @@ use Rattle.line_buffer.specs.Lines.{has_line}
 use Rattle.file_names.specs.Names.{Passed, Begun, Sought}
 use Rattle.file_names.proofs.Laws.{passed_none, passed_then, passed-piece, none-held, some-held, begun-none}
 use Rattle.file_replay.specs.declared.names.Source.{Source}
-use Rattle.file_replay.specs.Sources.{unused, NextArgument, Stands, FromList, line, last, ended, broken, Step, over, on, StepFrom, Ended, AfterRead}
+use Rattle.file_replay.specs.declared.names.SourceState.{SourceState}
+use Rattle.file_replay.specs.declared.names.SourceState.TheVariants.{Seeking, Found, Broken, NoMore}
+use Rattle.file_replay.specs.Sources.{number_of, unused, NextArgument, Stands, FromList, line, last, ended, broken, Step, over, on, StepFrom, Ended, AfterRead}
+
+-- The number 2 is that of one state alone.
+pub broken-is : (state : SourceState) → number_of state ≡ 2 → state ≡ Broken
+broken-is Seeking e = cc
+broken-is Found e = cc
+broken-is Broken e = refl
+broken-is NoMore e = cc
 
 -- ---- one behind the other
 
@@ -107,26 +116,26 @@ pub seek-begun : {room next left : ℕ} (path bytes : List ℕ) {it : Source} �
 unfolding has_line
 seek-begun {room} path bytes s none = on s [] [] (passed_none room [] bytes refl) (rw none (begun-none path))
 
-not-seeking : (left : ℕ) {next : ℕ} {r : Source} → NextArgument next left r → r.state ≡ 0 → ⊥
+not-seeking : (left : ℕ) {next : ℕ} {r : Source} → NextArgument next left r → number_of r.state ≡ 0 → ⊥
 not-seeking zero a z = omega (arith, a.none refl, z)
 not-seeking (suc n) a z = omega (arith, (a.found (omega arith)).0, z)
 
 from-over : {room next left : ℕ} {start bytes : List ℕ} {r : Source} {bytes' path' : List ℕ} → FromList room next left start bytes r bytes' path'
-    → r.state ≡ 0 → ⊥
+    → number_of r.state ≡ 0 → ⊥
 from-over (line s pieces q) z = omega (arith, s.is, z)
 from-over (last s pieces rest q e) z = omega (arith, s.is, z)
 from-over {left = left} (ended a pieces rest q e) z = not-seeking left a z
 from-over (broken s pieces rest q) z = omega (arith, s.is, z)
 
 pub seek-step : {room next left : ℕ} {start bytes : List ℕ} {it : Source} {now path : List ℕ} {it' : Source} {now' path' : List ℕ}
-    → Step room next left start bytes it now path → it.state ≡ 0 → length path ≡ room
+    → Step room next left start bytes it now path → number_of it.state ≡ 0 → length path ≡ room
     → ((begun : List ℕ) → Begun path it.length begun → Step (length path) it.next it.left begun now it' now' path')
     → Step room next left start bytes it' now' path'
 seek-step (over f) z same more = absurd (from-over f z)
 seek-step (on s pieces start' p b) z same more = step_then p (rw (same, s.place, s.more) at (more start' b))
 
 pub seek-over : {room next left : ℕ} {start bytes : List ℕ} {it : Source} {now path : List ℕ} → Step room next left start bytes it now path
-    → ¬ (it.state ≡ 0) → FromList room next left start bytes it now path
+    → ¬ (number_of it.state ≡ 0) → FromList room next left start bytes it now path
 seek-over (over f) other = f
 seek-over (on s pieces start' p b) other = absurd (other s.is)
 

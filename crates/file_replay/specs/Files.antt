@@ -8,7 +8,7 @@ use Rattle.collection.specs.declared.Outcome.{Outcome}
 use Rattle.collection.specs.Tally.{none as no_tally, Collection, collection, File, collected}
 use Rattle.collection.specs.Summary.{heading_texts, summary_texts}
 use Rattle.file_replay.specs.declared.names.Source.{Source}
-use Rattle.file_replay.specs.Sources.{is_there, place_behind}
+use Rattle.file_replay.specs.Sources.{number_of, is_there, place_behind}
 use Rattle.arguments.specs.declared.Options.{Options}
 
 -- A file that can't be opened.
@@ -42,7 +42,7 @@ pub record Turn (check : Bool) : Type 0 where
   pub came : Outcome
   pub there : is_there source ≡ true
   pub own : Came (take source.length path) check came
-  pub broken : source.state ≡ 2 → came ≡ not_read
+  pub broken : number_of source.state ≡ 2 → came ≡ not_read
 
 -- The file of a turn, under the name that was found.
 abbrev pub file_of : {check : Bool} → Turn check → File
@@ -69,7 +69,7 @@ turn_places (t ∷ ts) = t.source.next ∷ turn_places ts
 -- None of them is a list under its own name.
 unfoldable pub all_found : {check : Bool} → List (Turn check) → Bool
 all_found [] = true
-all_found (t ∷ ts) = cond (eqb t.source.state 1) (all_found ts) false
+all_found (t ∷ ts) = cond (eqb (number_of t.source.state) 1) (all_found ts) false
 
 -- So many arguments from a place on: for each the place of the next.
 unfoldable pub places : ℕ → ℕ → List ℕ
@@ -85,7 +85,7 @@ pub data ListTurns (o : Options) : List (Turn o.check) → Type 0 where
       → all_found turns ≡ true → ListTurns o turns
   -- of one that can't be opened or read any further, one for each name whose line feed was read, and then one under the list's own name.
   broken : (turns : List (Turn o.check)) → ¬ (o.list ≡ 0) → (pieces : List (List ℕ))
-      → turn_names turns ≡ ended_names 4096 (whole_text pieces) → all_found turns ≡ true → (own : Turn o.check) → own.source.state ≡ 2
+      → turn_names turns ≡ ended_names 4096 (whole_text pieces) → all_found turns ≡ true → (own : Turn o.check) → number_of own.source.state ≡ 2
       → ListTurns o (turns ++ (own ∷ []))
 
 -- The turns of a run: those of the list, and then one for each argument, in their order.

@@ -2,10 +2,19 @@
 use Rattle.std.specs.Prelude.{ℕ, zero, suc, ◌+◌, ◌<◌, min, Bool, true, false, not, List, [], ◌∷◌, ◌≡◌, eqb, Result, Ok, Err, length, take, drop}
 use Rattle.file_names.specs.Names.{named, Passed, Begun}
 use Rattle.file_replay.specs.declared.names.Source.{Source}
+use Rattle.file_replay.specs.declared.names.SourceState.{SourceState}
+use Rattle.file_replay.specs.declared.names.SourceState.TheVariants.{Seeking, Found, Broken, NoMore}
+
+-- The number of each state of the code.
+abbrev pub number_of : SourceState → ℕ
+number_of Seeking = 0
+number_of Found = 1
+number_of Broken = 2
+number_of NoMore = 3
 
 -- A name was found, and the names have not ended.
 abbrev pub is_there : Source → Bool
-is_there s = not (eqb s.state 3)
+is_there s = not (eqb (number_of s.state) 3)
 
 -- The bytes of the list that are read and not used, in the buffer.
 abbrev pub unused : Source → List ℕ → List ℕ
@@ -19,13 +28,13 @@ place_behind n = min (n + 1) 18446744073709551615
 -- argument fewer is left.
 pub record NextArgument (next left : ℕ) (r : Source) : Type 0 where
   pub listless : r.listed ≡ false
-  pub none : left ≡ 0 → r.state ≡ 3
-  pub found : 0 < left → (r.state ≡ 1) × (r.left + 1 ≡ left) × (r.next ≡ place_behind next)
+  pub none : left ≡ 0 → number_of r.state ≡ 3
+  pub found : 0 < left → (number_of r.state ≡ 1) × (r.left + 1 ≡ left) × (r.next ≡ place_behind next)
 
 -- A source with or without a list, in a state, before these arguments.
 pub record Stands (next left : ℕ) (listed : Bool) (state : ℕ) (r : Source) : Type 0 where
   pub list : r.listed ≡ listed
-  pub is : r.state ≡ state
+  pub is : number_of r.state ≡ state
   pub place : r.next ≡ next
   pub more : r.left ≡ left
 

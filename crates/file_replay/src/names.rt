@@ -1,6 +1,6 @@
 // The names of the files, one after the other: those of the list, then those of the arguments.
 ghost use Rattle.std.specs.Prelude.{◌-◌, eqb, length, true, false, [], ◌≡◌};
-ghost use Rattle.file_replay.specs.Sources.{is_there, unused, Stands, NextArgument, FromList, StepFrom, Ended, AfterRead};
+ghost use Rattle.file_replay.specs.Sources.{number_of, is_there, unused, Stands, NextArgument, FromList, StepFrom, Ended, AfterRead};
 
 use crate::opened::{OpenedBy, close, open};
 use crate::system::{System, put_argument};
@@ -24,27 +24,27 @@ pub struct Source {
     // The next argument, and how many are left.
     pub next: usize,
     pub left: usize,
-    // One of the states below, and the length of the name.
-    pub state: u8,
+    pub state: SourceState,
+    // The length of the name.
     pub length: usize,
 }
 
-// A name is sought in the list.
-const SEEKING: u8 = 0;
-
-// A name was found.
-pub const FOUND: u8 = 1;
-
-// The name is the list's own, which can't be read.
-pub const BROKEN: u8 = 2;
-
-// There are no more names.
-const ENDED: u8 = 3;
+#[derive(Clone, Copy, PartialEq, Eq)]
+pub enum SourceState {
+    // A name is sought in the list.
+    Seeking,
+    // A name was found.
+    Found,
+    // The name is the list's own, which can't be read.
+    Broken,
+    // There are no more names.
+    NoMore,
+}
 
 pub fn is_there(s: Source) -> bool
     ensures { result ≡ is_there s }
 {
-    s.state != ENDED
+    s.state != SourceState::NoMore
 }
 
 // The source of the names that are asked for, with the first of them. Their list is opened, where there is one.
@@ -80,7 +80,7 @@ fn source_of(o: Options) -> Source
         end: 0,
         next: o.first,
         left: o.files,
-        state: SEEKING,
+        state: SourceState::Seeking,
         length: 0,
     }
 }
@@ -111,12 +111,12 @@ fn broken<R: System>(rt: &R, s: Source, path: &mut [u8]) -> Source
     ensures { Stands s.next s.left false 2 result }
 {
     let length = put_argument(rt, s.list, path).unwrap_or(0);
-    past_list(s, BROKEN, length)
+    past_list(s, SourceState::Broken, length)
 }
 
 // The source with the list behind it.
-fn past_list(s: Source, state: u8, length: usize) -> Source
-    ensures { Stands s.next s.left false state result × (result.length ≡ length) }
+fn past_list(s: Source, state: SourceState, length: usize) -> Source
+    ensures { Stands s.next s.left false (number_of state) result × (result.length ≡ length) }
 {
     Source {
         listed: false,
@@ -159,7 +159,7 @@ fn seek<R: System>(
 ) -> Source
     ensures { FromList (length path.old) s.next s.left [] (unused s part.old) result (unused result part.new) path.new }
 {
-    let mut it = in_list(s, s.at, s.end, SEEKING, 0);
+    let mut it = in_list(s, s.at, s.end, SourceState::Seeking, 0);
     for reads in (0..=u64::MAX).rev() {
         it = step(rt, it, reads, list, part, path);
         if !is_seeking(it) {
@@ -170,14 +170,14 @@ fn seek<R: System>(
 }
 
 fn is_seeking(s: Source) -> bool
-    ensures { result ≡ eqb s.state 0 }
+    ensures { result ≡ eqb (number_of s.state) 0 }
 {
-    s.state == SEEKING
+    s.state == SourceState::Seeking
 }
 
 // The source with its list at other bytes.
-fn in_list(s: Source, at: usize, end: usize, state: u8, length: usize) -> Source
-    ensures { Stands s.next s.left true state result × (result.at ≡ at) × (result.end ≡ end) × (result.length ≡ length) }
+fn in_list(s: Source, at: usize, end: usize, state: SourceState, length: usize) -> Source
+    ensures { Stands s.next s.left true (number_of state) result × (result.at ≡ at) × (result.end ≡ end) × (result.length ≡ length) }
 {
     Source {
         listed: true,
@@ -200,11 +200,11 @@ fn step<R: System>(
     part: &mut [u8],
     path: &mut [u8],
 ) -> Source
-    ensures { StepFrom path.old s.length s.next s.left (unused s part.old) result (unused result part.new) path.new × (reads ≡ 0 → ¬ (result.state ≡ 0)) }
+    ensures { StepFrom path.old s.length s.next s.left (unused s part.old) result (unused result part.new) path.new × (reads ≡ 0 → ¬ (number_of result.state ≡ 0)) }
 {
     let got = take_name(first_bytes(part, s.end), s.at, path, s.length);
     if got.whole {
-        return in_list(s, got.at, s.end, FOUND, got.length);
+        return in_list(s, got.at, s.end, SourceState::Found, got.length);
     }
     if reads == 0 {
         return broken(rt, s, path);
@@ -251,7 +251,7 @@ fn after_read<R: System>(
                 close(list);
                 return list_ended(rt, s, held, path);
             }
-            in_list(s, 0, n.min(part.len()), SEEKING, held)
+            in_list(s, 0, n.min(part.len()), SourceState::Seeking, held)
         }
     }
 }
@@ -263,7 +263,7 @@ fn list_ended<R: System>(rt: &R, s: Source, length: usize, path: &mut [u8]) -> S
     if length == 0 {
         return argument(rt, s, path);
     }
-    past_list(s, FOUND, length)
+    past_list(s, SourceState::Found, length)
 }
 
 // The next argument. One that is too long fills the buffer with its first bytes, and can't be opened.
@@ -271,7 +271,7 @@ fn argument<R: System>(rt: &R, s: Source, path: &mut [u8]) -> Source
     ensures { NextArgument s.next s.left result }
 {
     if s.left == 0 {
-        return past_list(s, ENDED, 0);
+        return past_list(s, SourceState::NoMore, 0);
     }
     let length = put_argument(rt, s.next, path).unwrap_or(path.len());
     Source {
@@ -281,7 +281,7 @@ fn argument<R: System>(rt: &R, s: Source, path: &mut [u8]) -> Source
         end: 0,
         next: more(s.next, 1),
         left: s.left - 1,
-        state: FOUND,
+        state: SourceState::Found,
         length: length,
     }
 }

@@ -2,8 +2,9 @@
 ghost use Rattle.std.specs.Prelude.{◌≤◌, ◌≡◌, length, take};
 ghost use Rattle.collection.specs.Tally.{none, collection};
 ghost use Rattle.file_replay.specs.Files.{not_read, Came, Gathered, Summed, Ran};
+ghost use Rattle.file_replay.specs.Sources.{number_of};
 
-use crate::names::Source;
+use crate::names::{Source, SourceState};
 use crate::opened::{Opened, OpenedBy, input_beside};
 use crate::single::{not_read, replay_file};
 use crate::system::System;
@@ -105,9 +106,9 @@ fn replay_named<R: System>(
     check: bool,
 ) -> Outcome
     requires { length path.now ≤ 4096 }
-    ensures { Came (take source.length path.now) check result × (source.state ≡ 2 → result ≡ not_read) }
+    ensures { Came (take source.length path.now) check result × (number_of source.state ≡ 2 → result ≡ not_read) }
 {
-    if source.state == names::BROKEN {
+    if source.state == SourceState::Broken {
         return not_read();
     }
     let input = input_beside(rt, list);

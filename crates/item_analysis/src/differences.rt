@@ -46,6 +46,7 @@ fn add_words(words: &[u32], kept: &mut [i32], counts: &mut [usize; 22], answers:
 }
 
 // Adds differences behind the first n, as far as there is room, and answers how many there are then.
+// By itself beside the table's `add`: one function over what is done with a word would need a closure with clauses.
 fn store(words: &[u32], kept: &mut [i32], n: usize) -> usize
     ensures { record { values = kept.new; used = result } ≡ kept_each (map signed_of words.now) record { values = kept.old; used = n } }
 {

@@ -35,7 +35,7 @@ fn tell_listed(
     match listed {
         Ok(n) => count(counts, 0, more(at, n)),
         Err(refusal) => {
-            let used = phrase::heads::put_listing_refused(answers, counts[USED], refusal.number());
+            let used = phrase::heads::put_listing_refused(answers, counts[USED], refusal);
             count(counts, 1, used);
         }
     }
@@ -89,7 +89,7 @@ fn tell_quietest(
             count(counts, 0, used);
         }
         Err(refusal) => {
-            let used = phrase::heads::put_quietest_refused(answers, counts[USED], refusal.number());
+            let used = phrase::heads::put_quietest_refused(answers, counts[USED], refusal);
             count(counts, 1, used);
         }
     }

@@ -66,7 +66,7 @@ fn put_reading(reading: Result<u32, Refusal>, counts: &mut [usize; 22], answers:
             count(counts, 0, used);
         }
         Err(refusal) => {
-            let used = phrase::heads::put_degrees_refused(answers, counts[USED], refusal.number());
+            let used = phrase::heads::put_degrees_refused(answers, counts[USED], refusal);
             count(counts, 1, used);
         }
     }

@@ -60,10 +60,7 @@ fn put_interrupt(buf: &mut [u8], at: usize, m: Model) -> usize
 fn value(told: Result<u32, Refusal>) -> u32
     ensures { result ≡ get_or (value_told told) 0 0 }
 {
-    match told {
-        Ok(v) => v,
-        Err(_) => 0,
-    }
+    told.unwrap_or(0)
 }
 
 fn put_awaited(buf: &mut [u8], at: usize, m: Model) -> usize

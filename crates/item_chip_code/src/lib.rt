@@ -20,6 +20,7 @@ pub use stretches::stretch;
 pub use transactions::{bus, set};
 
 // What such a line leaves: the item, the place after the first line of its answer, and whether that is a refusal.
+// A flag beside the place and no Result: the place is one of a refusal too.
 #[derive(Clone, Copy)]
 pub struct Answered {
     pub carried: Carried,

@@ -69,10 +69,7 @@ fn list(buf: &mut [u8], at: usize, kept: &[i32], width: Width, first: u32) -> Re
 fn written(listed: Result<usize, Refusal>) -> usize
     ensures { result ≡ written_in listed }
 {
-    match listed {
-        Ok(n) => n,
-        Err(_) => 0,
-    }
+    listed.unwrap_or(0)
 }
 
 // The line `quietest`.

@@ -21,6 +21,7 @@ pub struct Added {
 }
 
 // The place after the first line of an answer, and whether it is a refusal.
+// A flag beside the place and no Result: the place is one of a refusal too.
 #[derive(Clone, Copy)]
 pub struct Answered {
     pub end: usize,

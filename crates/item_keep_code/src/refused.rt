@@ -13,6 +13,6 @@ pub fn put_refused(buf: &mut [u8], at: usize, word: &[u8], why: Refusal) -> Answ
     ensures { Puts buf.old at (word.now ++ refusal (number why)) result.end buf.new × (result.refused ≡ true) }
 {
     let a = numeral::put_text(buf, at, word);
-    let end = put_refusal(buf, a, why.number());
+    let end = put_refusal(buf, a, why);
     Answered { end, refused: true }
 }

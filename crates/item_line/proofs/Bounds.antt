@@ -12,8 +12,6 @@ use lib.ListN.{length, get_or, take, drop, length-append, length-take, length-re
 use borrow.Author.Tests.{ltb-false}
 use Rattle.unit.specs.Choice.{pick, both, negate}
 use Rattle.unit.proofs.Cases.{by-test, by-ltb, by-leb}
-use Rattle.numeral.specs.declared.Number.{Number}
-use Rattle.numeral.specs.declared.Number.TheVariants.{Value, Bad}
 use Rattle.numeral.specs.Digit.{are_digits as numeral_are_digits, digit_of, value_of}
 use Rattle.numeral.specs.Read.{read_hex, read_decimal, read_signed, value_in}
 use Rattle.numeral.proofs.DigitLaws.{decimal-at-most}
@@ -24,6 +22,7 @@ use Rattle.text.proofs.Lengths.{spaced-none, spaced-first}
 use Rattle.item_line.specs.Line.{Output, Call, Expected, Wanted, Line}
 use Rattle.item_line.specs.Reading.{Got, got, wrong, number_of, hex, decimal, quanta_of, quanta, within, address, named, size, four_digits, is_wanted, are_digits, wanted, capital, count, before, each, with, counted, alone, one, addressed, item_line, bytes_line, bus_line, set_line, wanted_line, parted, flight_parts, flight_line, temperature_line, probe_line, degrees_line, record_line, listing_line, table, read_by, before_mark, behind_mark, without_comment, worded, words_line, line_of}
 use Rattle.item_line.specs.OwnBounds.{Below, Fours, Quanta, OutputBound, CallBound, KeepBound, ExpectedBound, LineBound}
+use Rattle.std.specs.Prelude.{Option, Some, None}
 
 -- ---- the words of a line
 
@@ -159,9 +158,9 @@ decimal-below : (limit : ℕ) (w : Text) → Holds (λ n. n ≤ limit) (decimal 
 unfolding decimal
 decimal-below limit w = go (read_decimal limit w) (λ n e. decimal-at-most limit w n e)
   where
-    go : (r : Number) → ((n : ℕ) → r ≡ Value n → n ≤ limit) → Holds (λ n. n ≤ limit) (number_of w r)
-    go (Value n) h = h n refl
-    go Bad h = tt
+    go : (r : Option ℕ) → ((n : ℕ) → r ≡ Some n → n ≤ limit) → Holds (λ n. n ≤ limit) (number_of w r)
+    go (Some n) h = h n refl
+    go None h = tt
 
 address-within : (low high : ℕ) (w : Text) → Holds (λ a. (low ≤ a) × (a ≤ high)) (address low high w)
 unfolding address
@@ -188,9 +187,9 @@ quanta-small : (w : Text) → Holds (λ z. nat_abs z ≤ 2147483648) (quanta w)
 unfolding quanta
 quanta-small w = go (read_signed w)
   where
-    go : (r : Number) → Holds (λ z. nat_abs z ≤ 2147483648) (quanta_of w r)
-    go (Value n) = signed-small n
-    go Bad = tt
+    go : (r : Option ℕ) → Holds (λ z. nat_abs z ≤ 2147483648) (quanta_of w r)
+    go (Some n) = signed-small n
+    go None = tt
 
 four-long : (w : Text) → length w ≤ 4 → length (four_digits w) ≡ 4
 unfolding four_digits

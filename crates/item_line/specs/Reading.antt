@@ -1,10 +1,8 @@
 -- What a line says: its numbers, how many words it has, each sort of line, then a whole line. The words of the description of items stand
 -- in quotation marks. Assumes nothing.
-use Rattle.std.specs.Prelude.{ℕ, ◌-◌, Bool, true, List, [], ◌∷◌, ◌++◌, map, ltb, leb, eqb, ℤ, length, get_or, take, drop, replicate}
+use Rattle.std.specs.Prelude.{ℕ, ◌-◌, Bool, true, List, [], ◌∷◌, ◌++◌, map, ltb, leb, eqb, ℤ, length, get_or, take, drop, replicate, Option, Some, None}
 use Prim.Native.String.{String}
 use Rattle.unit.specs.Choice.{pick, either, both, negate}
-use Rattle.numeral.specs.declared.Number.{Number}
-use Rattle.numeral.specs.declared.Number.TheVariants.{Value, Bad}
 use Rattle.numeral.specs.Digit.{digit_of, glyph}
 use Rattle.numeral.specs.Read.{read_hex, read_decimal, read_signed}
 use Rattle.difference.specs.Difference.{signed_of}
@@ -20,9 +18,9 @@ pub data Got (A : Type 0) : Type 0 where
   wrong : Text → Got A
 
 -- A number that was read from a word.
-abbrev pub number_of : Text → Number → Got ℕ
-number_of w (Value n) = got n
-number_of w Bad = wrong w
+abbrev pub number_of : Text → Option ℕ → Got ℕ
+number_of w (Some n) = got n
+number_of w None = wrong w
 
 -- A hexadecimal number of `least` to `most` digits, "of either case".
 unfoldable pub hex : ℕ → ℕ → Text → Got ℕ
@@ -37,9 +35,9 @@ abbrev pub count : Text → Got ℕ
 count = decimal 4294967295
 
 -- "decimal quanta, -2,147,483,648 to 2,147,483,647, up to ten digits with or without a `-` before them"
-abbrev pub quanta_of : Text → Number → Got ℤ
-quanta_of w (Value n) = got (signed_of n)
-quanta_of w Bad = wrong w
+abbrev pub quanta_of : Text → Option ℕ → Got ℤ
+quanta_of w (Some n) = got (signed_of n)
+quanta_of w None = wrong w
 
 unfoldable pub quanta : Text → Got ℤ
 quanta w = quanta_of w (read_signed w)

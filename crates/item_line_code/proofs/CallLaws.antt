@@ -1,5 +1,5 @@
 -- The lines of the table, each by what is read of its words. Assumes nothing.
-use Rattle.std.specs.Prelude.{Result, Ok, Err}
+use Rattle.std.specs.Prelude.{Result, Ok, Err, Some, None}
 use Prim.Native.Nat.{ℕ, zero, suc, ◌-◌, ◌≤◌, ◌<◌}
 use mathlib.Core.Path.{◌≡◌, refl, sym, ◌∙◌}
 use mathlib.Core.Bool.{true, false}
@@ -10,7 +10,6 @@ use lib.IntN.{ℤ}
 use lib.ListN.{length, get_or, set, take, drop, length-take, length-drop, length-set, drop_of_length-le}
 use lib.Seq.{get_or-set_same, get_or-set_other}
 use Rattle.difference.specs.Difference.{signed_of}
-use Rattle.numeral.specs.declared.Number.TheVariants.{Value, Bad}
 use Rattle.numeral.specs.Read.{read_hex, read_decimal, read_signed}
 use Rattle.listing.specs.declared.Width.TheVariants.{Two, Eight}
 use Rattle.text.specs.declared.Span.{Span}
@@ -74,11 +73,11 @@ module _ (x : Expected) {ws : List Text} where
     unfolding bus_line
     bus-plain t = rw (e, t)
 
-    pub bus-wrong : is "out=" (take 4 w) ≡ true → read_decimal 200 (drop 4 w) ≡ Bad → Line.bad (Fault.bad_number w) ≡ bus_line ws x
+    pub bus-wrong : is "out=" (take 4 w) ≡ true → read_decimal 200 (drop 4 w) ≡ None → Line.bad (Fault.bad_number w) ≡ bus_line ws x
     unfolding bus_line size decimal
     bus-wrong t b = rw (e, t, b)
 
-    pub bus-out : is "out=" (take 4 w) ≡ true → {n : ℕ} → read_decimal 200 (drop 4 w) ≡ Value n → bytes_line (Output.out_of n) rest x ≡ bus_line ws x
+    pub bus-out : is "out=" (take 4 w) ≡ true → {n : ℕ} → read_decimal 200 (drop 4 w) ≡ Some n → bytes_line (Output.out_of n) rest x ≡ bus_line ws x
     unfolding bus_line size decimal
     bus-out t b = rw (e, t, b)
 
@@ -192,7 +191,7 @@ record-read x ws few =
 
 -- ---- `degrees` and `listing`
 
-second : (x : Expected) (w : Text) (rest : List Text) {a : ℕ} → read_hex 1 8 w ≡ Value a
+second : (x : Expected) (w : Text) (rest : List Text) {a : ℕ} → read_hex 1 8 w ≡ Some a
     → one (formed word_form) (λ b. Line.call (Call.degrees a b) x) rest ≡ degrees_line (w ∷ rest) x
 unfolding one degrees_line each hex formed number_in read_as
 second x w [] h = rw h (counted-few 2 2 (w ∷ []) _ (omega arith))
@@ -217,16 +216,16 @@ module _ (x : Expected) {ws : List Text} where
   listing_none e = rw e
 
   module _ {w : Text} {rest : List Text} (e : ws ≡ w ∷ rest) where
-    pub degrees-wrong : number_in word_form w ≡ Bad → Line.bad (Fault.bad_number w) ≡ degrees_line ws x
+    pub degrees-wrong : number_in word_form w ≡ None → Line.bad (Fault.bad_number w) ≡ degrees_line ws x
     unfolding degrees_line each hex number_in read_as
     degrees-wrong b = rw (e, b)
 
-    degrees-next : {a : ℕ} → number_in word_form w ≡ Value a → one (formed word_form) (λ b. Line.call (Call.degrees a b) x) rest ≡ degrees_line ws x
+    degrees-next : {a : ℕ} → number_in word_form w ≡ Some a → one (formed word_form) (λ b. Line.call (Call.degrees a b) x) rest ≡ degrees_line ws x
     unfolding degrees_line number_in read_as
     degrees-next b = rw e (second x w rest b)
 
     module _ (text : Text) (r : Result ℕ FaultRead) (one-is : (line : ℕ → Line) → number_line text line r ≡ one (formed word_form) line rest)
-        {a : ℕ} (first : number_in word_form w ≡ Value a) where
+        {a : ℕ} (first : number_in word_form w ≡ Some a) where
       pub degrees-fault : {f : FaultRead} → r ≡ Err f → Line.bad (as_fault text f) ≡ degrees_line ws x
       degrees-fault h = number-fault text r (λ b. Line.call (Call.degrees a b) x) (one-is (λ b. Line.call (Call.degrees a b) x)) h ∙ degrees-next first
 

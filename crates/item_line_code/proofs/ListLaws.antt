@@ -10,8 +10,6 @@ use lib.ListN.{length, take, drop, set, length-set, drop_of_length-le}
 use lib.Seq.{take-suc-set, take-set-le, length-take-le, drop-append-le}
 use Rattle.unit.specs.Choice.{both}
 use Rattle.unit.proofs.Cases.{by-test}
-use Rattle.numeral.specs.declared.Number.{Number}
-use Rattle.numeral.specs.declared.Number.TheVariants.{Value, Bad}
 use Rattle.text.specs.Text.{Text, is}
 use Rattle.item_line.specs.Line.{Fault, Expected, Line}
 use Rattle.item_line.specs.Reading.{Got, got, wrong, onto, before, each, with, parted, flight_parts}
@@ -19,27 +17,28 @@ use Rattle.item_line_code.specs.declared.Form.{Form}
 use Rattle.item_line_code.specs.declared.ListWord.{ListWord}
 use Rattle.item_line_code.specs.OwnNumbers.{number_in, formed, list_word, Tallied, all, Outcome, tallied}
 use Rattle.item_line_code.specs.OwnLists.{prefix, got_of, Counts, flight_of, on_first}
+use Rattle.std.specs.Prelude.{Option, Some, None}
 
 -- what a word is, where it is no slash
-word-is : (f : Form) (w : Text) → both f.slash (is "/" w) ≡ false → {v : ℕ} → number_in f w ≡ Value v → list_word f w ≡ ListWord.Word v
+word-is : (f : Form) (w : Text) → both f.slash (is "/" w) ≡ false → {v : ℕ} → number_in f w ≡ Some v → list_word f w ≡ ListWord.Word v
 unfolding list_word
 word-is f w apart e = rw (apart, e)
 
-wrong-is : (f : Form) (w : Text) → both f.slash (is "/" w) ≡ false → number_in f w ≡ Bad → list_word f w ≡ ListWord.Wrong
+wrong-is : (f : Form) (w : Text) → both f.slash (is "/" w) ≡ false → number_in f w ≡ None → list_word f w ≡ ListWord.Wrong
 unfolding list_word
 wrong-is f w apart e = rw (apart, e)
 
-formed-value : (f : Form) (w : Text) {v : ℕ} → number_in f w ≡ Value v → formed f w ≡ got v
+formed-value : (f : Form) (w : Text) {v : ℕ} → number_in f w ≡ Some v → formed f w ≡ got v
 unfolding formed
 formed-value f w e = rw e
 
-formed-wrong : (f : Form) (w : Text) → number_in f w ≡ Bad → formed f w ≡ wrong w
+formed-wrong : (f : Form) (w : Text) → number_in f w ≡ None → formed f w ≡ wrong w
 unfolding formed
 formed-wrong f w e = rw e
 
-pub by_number : {G : Type 0} (n : Number) → ((v : ℕ) → n ≡ Value v → G) → (n ≡ Bad → G) → G
-by_number (Value v) f g = f v refl
-by_number Bad f g = g refl
+pub by_number : {G : Type 0} (n : Option ℕ) → ((v : ℕ) → n ≡ Some v → G) → (n ≡ None → G) → G
+by_number (Some v) f g = f v refl
+by_number None f g = g refl
 
 prefix-onto : (ns : List ℕ) (v : ℕ) (g : Got (List ℕ)) → prefix (ns ++ (v ∷ [])) g ≡ prefix ns (onto v g)
 prefix-onto ns v (got ms) = ap got (append_assoc ns (v ∷ []) ms)

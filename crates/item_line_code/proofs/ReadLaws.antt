@@ -8,7 +8,6 @@ use lib.Dec.{leb}
 use lib.ListN.{length, take, length-take, length-drop}
 use borrow.Author.Tests.{le-leb, lt-leb}
 use Rattle.unit.specs.Choice.{pick, both}
-use Rattle.numeral.specs.declared.Number.TheVariants.{Value, Bad}
 use Rattle.numeral.specs.Read.{read_hex}
 use Rattle.text.specs.declared.Span.{Span}
 use Rattle.text.specs.Text.{Text, begun_before, words_after, words}
@@ -23,6 +22,9 @@ use Rattle.item_line_code.specs.OwnNumbers.{number_in, formed, as_tally, bad, Ou
 use Rattle.item_line_code.specs.OwnParts.{Within}
 use Rattle.item_line_code.proofs.PartLaws.{inner}
 use Rattle.item_line_code.proofs.ListLaws.{list-got, list_counts}
+use Rattle.std.specs.Prelude.{Option, Some, None, Result, Err}
+use Rattle.std.specs.Option.{ok_or}
+use Rattle.item_line.specs.declared.FaultRead.{FaultRead}
 
 -- A part has at most 500 words.
 pub few_words : (text : Text) (rest : Span) → Within text rest → length (words (part text rest)) ≤ 500
@@ -100,11 +102,11 @@ module _ (f : Form) (plain : f.slash ≡ false) (text : Text) (ws : List Text) (
 -- ---- a number, and an address
 
 module _ (f : Form) (line : ℕ → Line) {w : Text} {ws rest : List Text} where
-  pub one-wrong : ws ≡ w ∷ rest → number_in f w ≡ Bad → Line.bad (Fault.bad_number w) ≡ one (formed f) line ws
+  pub one-wrong : ws ≡ w ∷ rest → number_in f w ≡ None → Line.bad (Fault.bad_number w) ≡ one (formed f) line ws
   unfolding one formed
   one-wrong e b = rw (e, b)
 
-  pub one_value : ws ≡ w ∷ rest → {v : ℕ} → number_in f w ≡ Value v → counted 0 0 rest (line v) ≡ one (formed f) line ws
+  pub one_value : ws ≡ w ∷ rest → {v : ℕ} → number_in f w ≡ Some v → counted 0 0 rest (line v) ≡ one (formed f) line ws
   unfolding one formed
   one_value e b = rw (e, b)
 
@@ -113,11 +115,11 @@ unfolding one
 one_none f line e = rw e
 
 module _ (low high : ℕ) (line : ℕ → List Text → Line) {w : Text} {ws rest : List Text} (e : ws ≡ w ∷ rest) where
-  pub address-wrong : read_hex 2 2 w ≡ Bad → Line.bad (Fault.bad_number w) ≡ addressed low high line ws
+  pub address-wrong : read_hex 2 2 w ≡ None → Line.bad (Fault.bad_number w) ≡ addressed low high line ws
   unfolding addressed address hex
   address-wrong b = rw (e, b)
 
-  module _ {a : ℕ} (b : read_hex 2 2 w ≡ Value a) where
+  module _ {a : ℕ} (b : read_hex 2 2 w ≡ Some a) where
     pub address-low : a < low → Line.bad (Fault.bad_number w) ≡ addressed low high line ws
     unfolding addressed address hex
     address-low h = rw (e, b, lt-leb low a h)
@@ -133,3 +135,8 @@ module _ (low high : ℕ) (line : ℕ → List Text → Line) {w : Text} {ws res
 pub address-none : (low high : ℕ) (line : ℕ → List Text → Line) {ws : List Text} → ws ≡ [] → Line.bad Fault.wrong_count ≡ addressed low high line ws
 unfolding addressed
 address-none low high line e = rw e
+
+-- The fault that stands for a number that is missing.
+pub wrong-of : (o : Option ℕ) (e f : FaultRead) → ◌≡◌ {A = Result ℕ FaultRead} (Err f) (ok_or o e) → f ≡ e
+wrong-of None e f h = cc
+wrong-of (Some v) e f h = cc

@@ -1,8 +1,6 @@
 -- A list of words as the numbers that are stored, word by word. Assumes nothing.
-use Rattle.std.specs.Prelude.{ℕ, ◌+◌, ◌≤◌, true, false, List, [], ◌∷◌, ◌≡◌, eqb, set}
+use Rattle.std.specs.Prelude.{ℕ, ◌+◌, ◌≤◌, true, false, List, [], ◌∷◌, ◌≡◌, eqb, set, Option, Some, None}
 use Rattle.unit.specs.Choice.{pick, both}
-use Rattle.numeral.specs.declared.Number.{Number}
-use Rattle.numeral.specs.declared.Number.TheVariants.{Value, Bad}
 use Rattle.numeral.specs.Read.{read_hex, read_decimal, read_signed}
 use Rattle.text.specs.Text.{Text, is}
 use Rattle.text.specs.OwnPart.{part}
@@ -13,12 +11,12 @@ use Rattle.item_line_code.specs.declared.ListWord.{ListWord}
 use Rattle.item_line_code.specs.declared.Tally.{Tally}
 
 -- The number of a word of a form.
-unfoldable pub read_as : Kind → ℕ → ℕ → Text → Number
+unfoldable pub read_as : Kind → ℕ → ℕ → Text → Option ℕ
 read_as Kind.Hex least most w = read_hex least most w
 read_as Kind.Count least most w = read_decimal 4294967295 w
 read_as Kind.Quanta least most w = read_signed w
 
-unfoldable pub number_in : Form → Text → Number
+unfoldable pub number_in : Form → Text → Option ℕ
 number_in f w = read_as f.kind f.least f.most w
 
 unfoldable pub formed : Form → Text → Got ℕ
@@ -37,9 +35,9 @@ count_form = record { kind = Kind.Count; least = 1; most = 8; slash = false }
 abbrev pub quanta_form : Form
 quanta_form = record { kind = Kind.Quanta; least = 1; most = 8; slash = false }
 
-abbrev pub of_number : Number → ListWord
-of_number (Value v) = ListWord.Word v
-of_number Bad = ListWord.Wrong
+abbrev pub of_number : Option ℕ → ListWord
+of_number (Some v) = ListWord.Word v
+of_number None = ListWord.Wrong
 
 -- What a word is; a `/` parts a list that slashes part.
 unfoldable pub list_word : Form → Text → ListWord

@@ -14,7 +14,6 @@ use crate::reads::{address_in, counted_numbers, numbers_in, one_number};
 use crate::{Counted, Form, Kind, Tally};
 use item_line::{CallRead, FaultRead, KeepRead, LineRead};
 use listing::Width;
-use numeral::Number;
 use text::Span;
 use text_code::{bytes_from, first_bytes, same};
 use unit::Ticks;
@@ -70,10 +69,8 @@ pub(crate) fn bus_line(
             start: end,
             end: rest.end,
         };
-        match size(&text[start..end]) {
-            Number::Bad => Err(FaultRead::BadNumber(word)),
-            Number::Value(n) => bytes_line(text, bytes, Some(n as usize), expected, numbers),
-        }
+        let n = size(&text[start..end]).ok_or(FaultRead::BadNumber(word))?;
+        bytes_line(text, bytes, Some(n as usize), expected, numbers)
     } else {
         bytes_line(text, rest, None, expected, numbers)
     }
@@ -107,7 +104,7 @@ fn is_out(word: &[u8]) -> bool
 }
 
 // The number after `out=`.
-fn size(word: &[u8]) -> Number
+fn size(word: &[u8]) -> Option<u32>
     ensures { result ≡ read_decimal 200 (drop 4 word.now) }
 {
     numeral::read_decimal(bytes_from(word, 4), 200)
@@ -247,19 +244,15 @@ pub(crate) fn degrees_line(
     if end <= start {
         return Err(FaultRead::WrongCount);
     }
-    match number_in(&text[start..end], word_form()) {
-        Number::Bad => Err(FaultRead::BadNumber(word)),
-        Number::Value(a) => {
-            let other = Span {
-                start: end,
-                end: rest.end,
-            };
-            let b = one_number(text, other, word_form())?;
-            store(numbers, 0, a);
-            store(numbers, 1, b);
-            Ok(LineRead::Call(CallRead::Degrees, expected))
-        }
-    }
+    let a = number_in(&text[start..end], word_form()).ok_or(FaultRead::BadNumber(word))?;
+    let other = Span {
+        start: end,
+        end: rest.end,
+    };
+    let b = one_number(text, other, word_form())?;
+    store(numbers, 0, a);
+    store(numbers, 1, b);
+    Ok(LineRead::Call(CallRead::Degrees, expected))
 }
 
 pub(crate) fn listing_line(

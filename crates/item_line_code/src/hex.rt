@@ -36,7 +36,7 @@ fn words_of_digits(s: &[u8], at: usize, form: Form, n: usize, numbers: &mut [u32
 {
     let mut i = at;
     let mut count = n;
-    // A while: it goes from word to word.
+    // Kept as a while: it goes from word to word, each as long as it is, and stops at the end of the lent numbers.
     while i < s.len() && count < numbers.len() {
         let start = skip_blanks(s, i);
         let digits = digits_at(s, start, form.most);
@@ -57,6 +57,7 @@ fn pairs(s: &[u8], at: usize, form: Form, n: usize, numbers: &mut [u32]) -> Reac
 {
     let mut i = at;
     let mut count = n;
+    // Kept as a while: it goes on as long as a pair stands at the place, and stops at the end of the lent numbers.
     while let Some(v) = pair_at(s, i) {
         if numbers.len() <= count {
             return Reached { at: i, count };
@@ -76,9 +77,9 @@ fn pair_at(s: &[u8], i: usize) -> Option<u32>
     if s.len() - i < 3 {
         return None;
     }
-    let high = numeral::hex_digit(s[i + 1]);
-    let low = numeral::hex_digit(s[i + 2]);
-    if s[i] == b' ' && high < 16 && low < 16 && stops_at(s, i + 3) {
+    let high = numeral::hex_digit(s[i + 1])?;
+    let low = numeral::hex_digit(s[i + 2])?;
+    if s[i] == b' ' && stops_at(s, i + 3) {
         Some(high * 16 + low)
     } else {
         None
@@ -107,10 +108,9 @@ fn digits_at(s: &[u8], start: usize, most: usize) -> Digits
     let stop = start + most.min(8).min(s.len() - start);
     let mut value: u32 = 0;
     for i in start..stop {
-        let d = numeral::hex_digit(s[i]);
-        if 16 <= d {
+        let Some(d) = numeral::hex_digit(s[i]) else {
             return Digits { end: i, value };
-        }
+        };
         value = value * 16 + d;
     }
     Digits { end: stop, value }

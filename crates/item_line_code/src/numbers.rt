@@ -6,7 +6,6 @@ ghost use Rattle.item_line_code.specs.OwnNumbers.{number_in, list_word, EndsBy, 
 
 use crate::hex::clean_numbers;
 use crate::{Form, Kind, ListWord, Tally};
-use numeral::Number;
 use text::Span;
 use text_code::{next_word, same};
 
@@ -59,13 +58,13 @@ fn list_word(word: &[u8], form: Form) -> ListWord
         return ListWord::Slash;
     }
     match number_in(word, form) {
-        Number::Value(v) => ListWord::Word(v),
-        Number::Bad => ListWord::Wrong,
+        Some(v) => ListWord::Word(v),
+        None => ListWord::Wrong,
     }
 }
 
 // The number of a word.
-pub(crate) fn number_in(word: &[u8], form: Form) -> Number
+pub(crate) fn number_in(word: &[u8], form: Form) -> Option<u32>
     ensures { result ≡ number_in form word.now }
 {
     match form.kind {

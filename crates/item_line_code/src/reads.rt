@@ -10,7 +10,6 @@ use crate::numbers::{number_in, tally};
 use crate::parts::next_in;
 use crate::{Form, Tally};
 use item_line::{FaultRead, LineRead};
-use numeral::Number;
 use text::Span;
 
 // The numbers of a part.
@@ -63,22 +62,18 @@ pub(crate) fn one_number(text: &[u8], rest: Span, form: Form) -> Result<u32, Fau
     if end <= start {
         return Err(FaultRead::WrongCount);
     }
-    match number_in(&text[start..end], form) {
-        Number::Bad => Err(FaultRead::BadNumber(word)),
-        Number::Value(v) => {
-            let more = next_in(
-                text,
-                Span {
-                    start: end,
-                    end: rest.end,
-                },
-            );
-            if more.end <= more.start {
-                Ok(v)
-            } else {
-                Err(FaultRead::WrongCount)
-            }
-        }
+    let v = number_in(&text[start..end], form).ok_or(FaultRead::BadNumber(word))?;
+    let more = next_in(
+        text,
+        Span {
+            start: end,
+            end: rest.end,
+        },
+    );
+    if more.end <= more.start {
+        Ok(v)
+    } else {
+        Err(FaultRead::WrongCount)
     }
 }
 
@@ -112,20 +107,16 @@ pub(crate) fn address_in(
     if end <= start {
         return Err(FaultRead::WrongCount);
     }
-    match numeral::read_hex(&text[start..end], 2, 2) {
-        Number::Bad => Err(FaultRead::BadNumber(word)),
-        Number::Value(a) => {
-            if a < low {
-                return Err(FaultRead::BadNumber(word));
-            }
-            if high < a {
-                return Err(FaultRead::BadNumber(word));
-            }
-            let words = Span {
-                start: end,
-                end: rest.end,
-            };
-            Ok((a, words))
-        }
+    let a = numeral::read_hex(&text[start..end], 2, 2).ok_or(FaultRead::BadNumber(word))?;
+    if a < low {
+        return Err(FaultRead::BadNumber(word));
     }
+    if high < a {
+        return Err(FaultRead::BadNumber(word));
+    }
+    let words = Span {
+        start: end,
+        end: rest.end,
+    };
+    Ok((a, words))
 }

@@ -95,5 +95,5 @@ fn are_digits(word: &[u8]) -> bool
 fn is_digit(c: u8) -> bool
     ensures { result ≡ is_digit c }
 {
-    c == b'x' || hex_digit(c) < 16
+    c == b'x' || hex_digit(c).is_some()
 }

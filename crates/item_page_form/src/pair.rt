@@ -47,6 +47,7 @@ fn put_time(buf: &mut [u8], at: usize, q: u32) -> usize
     numeral::put_text(buf, a, b" ns")
 }
 
+// By itself beside `put_time`: they share two lines, and a closure that prints would need clauses on the buffer.
 pub fn put_signed_time(buf: &mut [u8], at: usize, q: u32) -> usize
     ensures { Puts buf.old at (signed_time q) result buf.new }
 {

@@ -2,7 +2,6 @@
 use Rattle.std.proofs.Common.{◌≡◌, ℕ, zero, suc, ◌+◌, ◌*◌, ◌<◌, ◌≤◌, Bool, true, false, cond, eqb, ◌⊎◌, ◌↔◌, List, [], ◌∷◌, ◌++◌, length, get_or, sym, refl, ap, ◌∙◌, inl, inr, ⊎_elim, append_assoc, add-zero, arith, le-ltb, ne_eqb}
 use borrow.Author.Tests.{eqb-false}
 use Rattle.unit.proofs.Cases.{by-test, by_eqb}
-use Rattle.numeral.specs.declared.Number.TheVariants.{Value}
 use Rattle.numeral.specs.Digit.{digits}
 use Rattle.numeral.specs.Place.{joined}
 use Rattle.numeral.specs.Read.{read_hex}
@@ -16,6 +15,7 @@ use Rattle.wording.specs.Wording.{Texts, line_feed, blank_word, word_texts, row_
 use Rattle.item_state.specs.Told.{told_value, read_word}
 use Rattle.item_questions.specs.Answers.{next, row_words, row, rows, registers}
 use Rattle.item_questions.specs.Answers.{differing, pairs, expectation}
+use Rattle.std.specs.Prelude.{Some}
 
 -- What is read at B0h to FFh is the register's word.
 pub read_word_lem : (m : Model) (a : ℕ) → is_sound m ≡ true → 0xB0 ≤ a → a ≤ 0xFF → read_word m a ≡ register_word m a
@@ -23,7 +23,7 @@ unfolding read_word told_value peek
 read_word_lem m a sound low high = rw (sound, le-ltb a 0xB0 low, le-ltb 0xFF a high)
 
 -- A word's four digits read back as it.
-pub reads-back : (w : ℕ) → w < 0x10000 → read_hex 4 4 (digits 16 4 w) ≡ Value w
+pub reads-back : (w : ℕ) → w < 0x10000 → read_hex 4 4 (digits 16 4 w) ≡ Some w
 reads-back w h = hex-reads-back 4 4 4 w (omega arith) (omega arith) (omega arith) (omega arith) h
 
 -- ---- `regs`

@@ -21,7 +21,7 @@ pub fn frames(m: Model, counts: &mut [usize; 22], answers: &mut [u8])
             tell(&bytes, first_words(&lengths, n), n, counts, answers)
         }
         Err(refusal) => {
-            let used = phrase::frames::put_frames_refused(answers, counts[USED], refusal.number());
+            let used = phrase::frames::put_frames_refused(answers, counts[USED], refusal);
             count(counts, 1, used);
         }
     }

@@ -8,8 +8,5 @@ use refusal::Refusal;
 pub fn value(told: Result<u32, Refusal>) -> u32
     ensures { result ≡ told_value told }
 {
-    match told {
-        Ok(v) => v,
-        Err(_) => 0,
-    }
+    told.unwrap_or(0)
 }

@@ -1,5 +1,5 @@
 -- The reports of ticks, as code finds them. Assumes nothing.
-use Rattle.std.specs.Prelude.{ℕ, zero, suc, ◌+◌, [], ◌++◌, ltb, leb, eqb}
+use Rattle.std.specs.Prelude.{ℕ, zero, suc, ◌+◌, [], ◌++◌, leb, eqb, min, Option, None, Some}
 use Rattle.unit.specs.Choice.{pick}
 use Rattle.device.specs.declared.Report.{Report}
 use Rattle.device.specs.declared.StretchReport.{StretchReport}
@@ -18,12 +18,13 @@ reports_after done (suc n) flight temperature =
     ++ reports (eqb flight.failed.0 (suc n)) (eqb flight.started.0 (suc n)) (eqb temperature.failed.0 (suc n))
     (eqb temperature.started.0 (suc n)) (done + suc n)
 
--- The tick `named` where it lies after `passed` and before `best`, else `best`.
-unfoldable pub sooner : ℕ → ℕ → ℕ → ℕ
-sooner named passed best = pick (leb named passed) best (pick (ltb named best) named best)
+-- The sooner of `best` and the tick `named`, where that lies after `passed`.
+unfoldable pub sooner : ℕ → ℕ → Option ℕ → Option ℕ
+sooner named passed None = pick (leb named passed) None (Some named)
+sooner named passed (Some other) = pick (leb named passed) (Some other) (Some (min named other))
 
--- The first tick after `passed` that a stretch names; where there is none, one beyond every tick of a stretch.
-unfoldable pub next_named : StretchReport → StretchReport → ℕ → ℕ
+-- The first tick after `passed` that a stretch names.
+unfoldable pub next_named : StretchReport → StretchReport → ℕ → Option ℕ
 next_named flight temperature passed =
     sooner temperature.started.0 passed
-    (sooner temperature.failed.0 passed (sooner flight.started.0 passed (sooner flight.failed.0 passed 4294967296)))
+    (sooner temperature.failed.0 passed (sooner flight.started.0 passed (sooner flight.failed.0 passed None)))

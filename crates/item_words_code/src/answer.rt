@@ -12,7 +12,7 @@ pub fn put_answer(buf: &mut [u8], at: usize, answer: Answer) -> usize
     ensures { Puts buf.old at (answer_text answer) result buf.new }
 {
     match answer {
-        Answer::Refused(refusal) => put_refusal(buf, at, refusal.number()),
+        Answer::Refused(refusal) => put_refusal(buf, at, refusal),
         Answer::Accepted(flight, temperature) => put_accepted(buf, at, flight, temperature),
         Answer::Good => numeral::put_text(buf, at, b"good"),
         Answer::Failed => numeral::put_text(buf, at, b"failed"),

@@ -36,7 +36,8 @@ fn capital(c: u8) -> u8
     if c == 0x78 {
         return c;
     }
-    let d = numeral::hex_digit(c);
+    // Any other byte is as 16, a G.
+    let d = numeral::hex_digit(c).unwrap_or(16);
     if d < 10 {
         (48 + d) as u8
     } else {

@@ -53,37 +53,41 @@ pub fn put_reports_after(
     let last = unit::wide(n.0);
     let mut place = at;
     let mut passed = 0;
-    let mut next = next_named(flight, temperature, passed);
     // A while: it goes from one named tick to the next, and no index counts them.
-    while next <= last {
+    while let Some(next) = next_named(flight, temperature, passed) {
+        if next > last {
+            return place;
+        }
         let f = named_in(flight, next);
         let t = named_in(temperature, next);
         place = put_reports(buf, place, f, t, done + next);
         passed = next;
-        next = next_named(flight, temperature, passed);
     }
     place
 }
 
-// The first tick named after `passed`, or one beyond every tick of a stretch.
-fn next_named(flight: StretchReport, temperature: StretchReport, passed: u64) -> u64
+// The first tick named after `passed`.
+fn next_named(flight: StretchReport, temperature: StretchReport, passed: u64) -> Option<u64>
     ensures { result ≡ next_named flight temperature passed }
 {
-    let a = sooner(flight.failed, passed, 4294967296);
+    let a = sooner(flight.failed, passed, None);
     let b = sooner(flight.started, passed, a);
     let c = sooner(temperature.failed, passed, b);
     sooner(temperature.started, passed, c)
 }
 
-// The tick `named` where it lies after `passed` and before `best`, else `best`.
-fn sooner(named: Ticks, passed: u64, best: u64) -> u64
+// The sooner of `best` and the tick `named`, where that lies after `passed`.
+fn sooner(named: Ticks, passed: u64, best: Option<u64>) -> Option<u64>
     ensures { result ≡ OwnReports·sooner named.0 passed best }
 {
-    let tick = named.0 as u64;
+    let tick = u64::from(named.0);
     if tick <= passed {
         return best;
     }
-    if tick < best { tick } else { best }
+    match best {
+        Some(other) => Some(tick.min(other)),
+        None => Some(tick),
+    }
 }
 
 // What a stretch reports of its tick i.

@@ -7,8 +7,6 @@ use lib.Dec.{ltb, eqb}
 use lib.ListN.{get_or, take, drop}
 use borrow.Author.Tests.{ltb-false}
 use Rattle.numeral.specs.Ascii.{ascii}
-use Rattle.numeral.specs.declared.Number.{Number}
-use Rattle.numeral.specs.declared.Number.TheVariants.{Value, Bad}
 use Rattle.numeral.specs.Read.{read_hex, read_decimal}
 use Rattle.numeral.proofs.DigitLaws.{decimal-at-most}
 use Rattle.line.specs.declared.Content.{Content}
@@ -21,6 +19,7 @@ use Rattle.line.specs.declared.Tally.TheVariants.{Wrong, All}
 use Rattle.line.specs.Words.{words, same_bytes}
 use Rattle.line.specs.Numbers.{tallied}
 use Rattle.line.specs.Line.{Reading, reading, Bounded, bytes_call, bytes_reading, byte_form, is_out, out_reading, bus_reading, item_call, alone, numbered, decimal_with, decimal_call, flight_call, flight_reading, temperature_call, temperature_reading, expect_call, expect_words, expect_from, expect_reading, set_call, set_words, set_from, set_reading, probe_call, probe_reading, degrees_call, degrees_reading, record_call, record_reading, hex_with, hex_call, listing_call, later_reading, keyword_of, keyword_reading, words_reading, content_length, line_reading}
+use Rattle.std.specs.Prelude.{Option, Some, None}
 
 cond_cases : {A : Type 0} (P : A → Type 0) (t : Bool) {x y : A} → (t ≡ true → P x) → (t ≡ false → P y) → P (cond t x y)
 cond_cases P true one other = one refl
@@ -34,10 +33,10 @@ unfolding bytes_call
 bytes-bounded content h Wrong = tt
 bytes-bounded content h (All n k u) = cond_cases Bounded (ltb 200 n) (λ _. tt) (λ e. h n (ltb-false 200 n e))
 
-out-bounded : (r : Number) → ((b : ℕ) → r ≡ Value b → b ≤ 200) → (l : List ℕ) (ws : List (List ℕ)) → Within (out_reading r l ws)
+out-bounded : (r : Option ℕ) → ((b : ℕ) → r ≡ Some b → b ≤ 200) → (l : List ℕ) (ws : List (List ℕ)) → Within (out_reading r l ws)
 unfolding out_reading bytes_reading
-out-bounded Bad h l ws = tt
-out-bounded (Value b) h l ws = bytes-bounded (BusOut b) (λ n most. (h b refl, most)) (tallied byte_form 0 0 0 l ws).tally
+out-bounded None h l ws = tt
+out-bounded (Some b) h l ws = bytes-bounded (BusOut b) (λ n most. (h b refl, most)) (tallied byte_form 0 0 0 l ws).tally
 
 bus-bounded : (l : List ℕ) (ws : List (List ℕ)) → Within (bus_reading l ws)
 unfolding bus_reading bytes_reading
@@ -66,10 +65,10 @@ expect-bounded a low high (All n k u) =
     cond_cases Bounded (ltb n 1) (λ _. tt)
     (λ e. cond_cases Bounded (ltb (256 - a) n) (λ _. tt) (λ e'. (low, high, ltb-false n 1 e, ltb-false (256 - a) n e')))
 
-expect-from-bounded : (r : Number) (l : List ℕ) (ws : List (List ℕ)) → Within (expect_from r l ws)
+expect-from-bounded : (r : Option ℕ) (l : List ℕ) (ws : List (List ℕ)) → Within (expect_from r l ws)
 unfolding expect_from expect_words
-expect-from-bounded Bad l ws = tt
-expect-from-bounded (Value a) l ws =
+expect-from-bounded None l ws = tt
+expect-from-bounded (Some a) l ws =
     cond_cases Within (ltb a 176) (λ _. tt)
     (λ e. cond_cases Within (ltb 255 a) (λ _. tt) (λ e'. expect-bounded a (ltb-false a 176 e) (ltb-false 255 a e') _))
 
@@ -95,10 +94,10 @@ numbered-bounded Counted.At n = tt
 numbered-bounded Counted.Stretch n = tt
 numbered-bounded Counted.Quietest n = tt
 
-decimal-with-bounded : (k : Counted) (r : Number) (ws : List (List ℕ)) → Bounded (decimal_with k r ws)
+decimal-with-bounded : (k : Counted) (r : Option ℕ) (ws : List (List ℕ)) → Bounded (decimal_with k r ws)
 unfolding decimal_with
-decimal-with-bounded k Bad ws = tt
-decimal-with-bounded k (Value n) ws = alone-bounded (numbered k n) (numbered-bounded k n) ws
+decimal-with-bounded k None ws = tt
+decimal-with-bounded k (Some n) ws = alone-bounded (numbered k n) (numbered-bounded k n) ws
 
 decimal-bounded : (k : Counted) (ws : List (List ℕ)) → Bounded (decimal_call k ws)
 unfolding decimal_call
@@ -112,10 +111,10 @@ set-bounded a low high (All n k u) =
     cond_cases Bounded (ltb n 1) (λ _. tt)
     (λ e. cond_cases Bounded (ltb 99 n) (λ _. tt) (λ e'. (low, high, ltb-false n 1 e, ltb-false 99 n e')))
 
-set-from-bounded : (r : Number) (l : List ℕ) (ws : List (List ℕ)) → Within (set_from r l ws)
+set-from-bounded : (r : Option ℕ) (l : List ℕ) (ws : List (List ℕ)) → Within (set_from r l ws)
 unfolding set_from set_words
-set-from-bounded Bad l ws = tt
-set-from-bounded (Value a) l ws =
+set-from-bounded None l ws = tt
+set-from-bounded (Some a) l ws =
     cond_cases Within (ltb a 48) (λ _. tt)
     (λ e. cond_cases Within (ltb 67 a) (λ _. tt) (λ e'. set-bounded a (ltb-false a 48 e) (ltb-false 67 a e') _))
 
@@ -139,10 +138,10 @@ unfolding record_call
 record-bounded Wrong = tt
 record-bounded (All n k u) = tt
 
-hex-with-bounded : (old : Bool) (r : Number) (ws : List (List ℕ)) → Bounded (hex_with old r ws)
+hex-with-bounded : (old : Bool) (r : Option ℕ) (ws : List (List ℕ)) → Bounded (hex_with old r ws)
 unfolding hex_with
-hex-with-bounded old Bad ws = tt
-hex-with-bounded old (Value n) ws = alone-bounded (Content.Listing old n) tt ws
+hex-with-bounded old None ws = tt
+hex-with-bounded old (Some n) ws = alone-bounded (Content.Listing old n) tt ws
 
 hex-bounded : (old : Bool) (ws : List (List ℕ)) → Bounded (hex_call old ws)
 unfolding hex_call

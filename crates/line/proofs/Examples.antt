@@ -5,7 +5,6 @@ use mathlib.Core.Bool.{true, false}
 use mathlib.Core.List.{List, [], ◌∷◌, ◌++◌, map}
 use Rattle.numeral.specs.Ascii.{ascii}
 use Rattle.numeral.specs.Place.{joined}
-use Rattle.numeral.specs.declared.Number.TheVariants.{Value}
 use Rattle.numeral.specs.Digit.{digit_of, are_digits, value_of}
 use Rattle.numeral.specs.Read.{value_in, read_hex, read_decimal, read_signed, negated}
 use Rattle.line.specs.declared.Content.{Content}
@@ -18,6 +17,7 @@ use Rattle.line.specs.Decimals.{decimal_of, listed}
 use Rattle.line.specs.Mark.{takes_mark, is_mark, before_mark, behind_mark, behind_place}
 use Rattle.line.specs.Spaced.{spaced, blanked}
 use Rattle.line.specs.Line.{Bounded, word_form, pair_form, line_reading, line_expected, words_expected, content_length, words_reading, keyword_of, keyword_reading, item_call, bus_reading, is_out, out_reading, bytes_reading, bytes_call, numbered, decimal_with, decimal_call, alone, flight_reading, flight_call, temperature_reading, temperature_call, expect_reading, expect_from, expect_words, expect_call, set_reading, set_from, set_words, set_call, probe_reading, probe_call, degrees_reading, degrees_call, record_reading, record_call, hex_with, hex_call, listing_call, later_reading}
+use Rattle.std.specs.Prelude.{Some}
 
 -- What is said by a line whose numbers find no place.
 said : List ℕ → Content
@@ -543,7 +543,7 @@ unfolding said times ascii
 most-expected = (refl, refl)
 
 -- 100h is no address of a register.
-no_register : (expect_from (Value 256) [] (ascii "1" ∷ [])).content ≡ BadNumber
+no_register : (expect_from (Some 256) [] (ascii "1" ∷ [])).content ≡ BadNumber
 unfolding expect_from ascii
 no_register = refl
 

@@ -8,13 +8,12 @@ use native.Mathlib.Omega.{arith}
 use lib.ListN.{length, get_or, set, length-set}
 use lib.Seq.{get_or-set_same, get_or-set_other}
 use borrow.Author.Tests.{lt-leb}
-use Rattle.numeral.specs.declared.Number.{Number}
-use Rattle.numeral.specs.declared.Number.TheVariants.{Value, Bad}
 use Rattle.numeral.specs.Read.{read_hex}
 use Rattle.line.specs.declared.Form.{Form}
 use Rattle.line.specs.declared.Tally.TheVariants.{All}
 use Rattle.line.specs.Numbers.{is_slash, list_word, of_number, tallied, Outcome, Stored}
 use Rattle.line.proofs.NumberLaws.{tally-end, tally-word, tally-wrong}
+use Rattle.std.specs.Prelude.{Option, Some, None}
 
 number_read : (f : Form) (n : ℕ) (w : List ℕ) → f.slash ≡ false → n < f.looked → list_word f n w ≡ of_number (read_hex f.least f.most w)
 unfolding list_word is_slash
@@ -30,16 +29,16 @@ stored f plain [] n k u l seen room o e c k' u' all =
 stored f plain (w ∷ ws) n k u l seen room o e c k' u' all =
     go (read_hex f.least f.most w) refl (stored f plain ws (n + 1) k u)
   where
-    go : (r : Number) → read_hex f.least f.most w ≡ r
+    go : (r : Option ℕ) → read_hex f.least f.most w ≡ r
         → ((l'' : List ℕ) → n + 1 + length ws ≤ f.looked → n + 1 + length ws ≤ length l'' → (o' : Outcome) → tallied f (n + 1) k u l'' ws ≡ o'
         → (c' a b : ℕ) → o'.tally ≡ All c' a b → Stored f (n + 1) l'' ws c' o'.numbers)
         → Stored f n l (w ∷ ws) c o.numbers
-    go Bad p rest =
+    go None p rest =
         let word = number_read f n w plain (omega arith) ∙ ap of_number p in
         let wrong = ap (λ (x : Outcome). x.tally) (tally-wrong f n k u l refl word ∙ e) in
         let z : ◌≡◌ {A = ℕ} 0 1 = cc in
         absurd (omega arith)
-    go (Value v) p rest =
+    go (Some v) p rest =
         let word = number_read f n w plain (omega arith) ∙ ap of_number p in
         let s = rest (set l n v) (omega arith) (rw length-set (omega arith)) o (tally-word f n k u l refl word ∙ e) c k' u' all in
         let here : get_or o.numbers n 0 ≡ v = s.before n (omega arith) ∙ get_or-set_same l n v 0 (omega arith) in

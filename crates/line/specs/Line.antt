@@ -1,8 +1,6 @@
 -- What a line holds, in the order of the format's tables. Assumes nothing.
-use Rattle.std.specs.Prelude.{ℕ, ◌-◌, ◌≤◌, Bool, true, false, cond, List, [], ◌∷◌, ltb, eqb, length, get_or, take, drop}
+use Rattle.std.specs.Prelude.{ℕ, ◌-◌, ◌≤◌, Bool, true, false, cond, List, [], ◌∷◌, ltb, eqb, length, get_or, take, drop, Option, Some, None}
 use Rattle.numeral.specs.Ascii.{ascii}
-use Rattle.numeral.specs.declared.Number.{Number}
-use Rattle.numeral.specs.declared.Number.TheVariants.{Value, Bad}
 use Rattle.numeral.specs.Read.{read_hex, read_decimal}
 use Rattle.line.specs.declared.Content.{Content}
 use Rattle.line.specs.declared.Content.TheVariants.{Nothing, TooLong, UnknownWord, BadNumber, WrongCount, Bus, BusOut}
@@ -52,9 +50,9 @@ bytes_reading content l ws = read_by (bytes_call content) (tallied byte_form 0 0
 unfoldable pub is_out : List ℕ → Bool
 is_out w = cond (ltb (length w) 4) false (same_bytes (take 4 w) (ascii "out="))
 
-unfoldable pub out_reading : Number → List ℕ → List (List ℕ) → Reading
-out_reading Bad l ws = reading BadNumber l
-out_reading (Value b) l ws = bytes_reading (BusOut b) l ws
+unfoldable pub out_reading : Option ℕ → List ℕ → List (List ℕ) → Reading
+out_reading None l ws = reading BadNumber l
+out_reading (Some b) l ws = bytes_reading (BusOut b) l ws
 
 unfoldable pub bus_reading : List ℕ → List (List ℕ) → Reading
 bus_reading l [] = bytes_reading Bus l []
@@ -73,9 +71,9 @@ numbered Counted.At n = Content.At n
 numbered Counted.Stretch n = Content.Stretch n
 numbered Counted.Quietest n = Content.Quietest n
 
-unfoldable pub decimal_with : Counted → Number → List (List ℕ) → Content
-decimal_with k Bad ws = BadNumber
-decimal_with k (Value n) ws = alone (numbered k n) ws
+unfoldable pub decimal_with : Counted → Option ℕ → List (List ℕ) → Content
+decimal_with k None ws = BadNumber
+decimal_with k (Some n) ws = alone (numbered k n) ws
 
 unfoldable pub decimal_call : Counted → List (List ℕ) → Content
 decimal_call k [] = WrongCount
@@ -114,9 +112,9 @@ expect_call a (All n k u) = cond (ltb n 1) WrongCount (cond (ltb (256 - a) n) Wr
 unfoldable pub expect_words : ℕ → List ℕ → List (List ℕ) → Reading
 expect_words a l ws = read_by (expect_call a) (tallied (expect_form a) 0 0 0 l ws)
 
-unfoldable pub expect_from : Number → List ℕ → List (List ℕ) → Reading
-expect_from Bad l ws = reading BadNumber l
-expect_from (Value a) l ws = cond (ltb a 176) (reading BadNumber l) (cond (ltb 255 a) (reading BadNumber l) (expect_words a l ws))
+unfoldable pub expect_from : Option ℕ → List ℕ → List (List ℕ) → Reading
+expect_from None l ws = reading BadNumber l
+expect_from (Some a) l ws = cond (ltb a 176) (reading BadNumber l) (cond (ltb 255 a) (reading BadNumber l) (expect_words a l ws))
 
 unfoldable pub expect_reading : List ℕ → List (List ℕ) → Reading
 expect_reading l [] = reading WrongCount l
@@ -134,9 +132,9 @@ set_call a (All n k u) = cond (ltb n 1) WrongCount (cond (ltb 99 n) WrongCount (
 unfoldable pub set_words : ℕ → List ℕ → List (List ℕ) → Reading
 set_words a l ws = read_by (set_call a) (tallied set_form 0 0 0 l ws)
 
-unfoldable pub set_from : Number → List ℕ → List (List ℕ) → Reading
-set_from Bad l ws = reading BadNumber l
-set_from (Value a) l ws = cond (ltb a 48) (reading BadNumber l) (cond (ltb 67 a) (reading BadNumber l) (set_words a l ws))
+unfoldable pub set_from : Option ℕ → List ℕ → List (List ℕ) → Reading
+set_from None l ws = reading BadNumber l
+set_from (Some a) l ws = cond (ltb a 48) (reading BadNumber l) (cond (ltb 67 a) (reading BadNumber l) (set_words a l ws))
 
 unfoldable pub set_reading : List ℕ → List (List ℕ) → Reading
 set_reading l [] = reading WrongCount l
@@ -170,9 +168,9 @@ unfoldable pub record_reading : List ℕ → List (List ℕ) → Reading
 record_reading l ws = read_by record_call (listed true 0 l ws)
 
 -- `listing C`, `listing old C`: 1 to 8 hexadecimal digits.
-unfoldable pub hex_with : Bool → Number → List (List ℕ) → Content
-hex_with old Bad ws = BadNumber
-hex_with old (Value n) ws = alone (Content.Listing old n) ws
+unfoldable pub hex_with : Bool → Option ℕ → List (List ℕ) → Content
+hex_with old None ws = BadNumber
+hex_with old (Some n) ws = alone (Content.Listing old n) ws
 
 unfoldable pub hex_call : Bool → List (List ℕ) → Content
 hex_call old [] = WrongCount

@@ -1,7 +1,5 @@
 -- The numbers of a line. Assumes nothing.
-use Rattle.std.specs.Prelude.{ℕ, ◌+◌, ◌<◌, ◌≡◌, Bool, false, cond, List, [], ◌∷◌, leb, eqb, length, get_or, set}
-use Rattle.numeral.specs.declared.Number.{Number}
-use Rattle.numeral.specs.declared.Number.TheVariants.{Value, Bad}
+use Rattle.std.specs.Prelude.{ℕ, ◌+◌, ◌<◌, ◌≡◌, Bool, false, cond, List, [], ◌∷◌, leb, eqb, length, get_or, set, Option, Some, None}
 use Rattle.numeral.specs.Read.{read_hex}
 use Rattle.line.specs.declared.Form.{Form}
 use Rattle.line.specs.declared.ListWord.{ListWord}
@@ -14,9 +12,9 @@ use Rattle.line.specs.Words.{same_bytes}
 unfoldable pub is_slash : Bool → List ℕ → Bool
 is_slash slash w = cond slash (same_bytes w (47 ∷ [])) false
 
-abbrev pub of_number : Number → ListWord
-of_number (Value v) = Word v
-of_number Bad = Wrong
+abbrev pub of_number : Option ℕ → ListWord
+of_number (Some v) = Word v
+of_number None = Wrong
 
 -- What a word is after n numbers.
 unfoldable pub list_word : Form → ℕ → List ℕ → ListWord
@@ -44,5 +42,5 @@ tallied f n k u l (w ∷ ws) =
 -- From the number n on, c numbers are counted and stored.
 pub record Stored (f : Form) (n : ℕ) (l : List ℕ) (ws : List (List ℕ)) (c : ℕ) (l' : List ℕ) : Type 0 where
   pub count : c ≡ n + length ws
-  pub value : (i : ℕ) → i < length ws → read_hex f.least f.most (get_or ws i []) ≡ Value (get_or l' (n + i) 0)
+  pub value : (i : ℕ) → i < length ws → read_hex f.least f.most (get_or ws i []) ≡ Some (get_or l' (n + i) 0)
   pub before : (i : ℕ) → i < n → get_or l' i 0 ≡ get_or l i 0

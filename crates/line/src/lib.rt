@@ -93,6 +93,7 @@ pub struct Form {
 }
 
 // One word of such a list.
+// Four cases, of which two are no word: neither an Option nor a Result.
 #[derive(Clone, Copy)]
 pub enum ListWord {
     Slash,
@@ -102,6 +103,7 @@ pub enum ListWord {
 }
 
 // A whole list: how many numbers and slashes it has, and how many numbers before the first slash.
+// An enum of its own: `tallied` and `listed` of specs/Numbers name its cases.
 #[derive(Clone, Copy)]
 pub enum Tally {
     Wrong,

@@ -13,7 +13,6 @@ use crate::mark::{behind_mark, call_part, takes_mark};
 use crate::numbers::tally;
 use crate::words::{next_word, same};
 use line::{Content, Counted, Form, Keyword, Said, Tally};
-use numeral::Number;
 
 // The count of numbers that no list reaches.
 pub(crate) const EVERY: usize = usize::MAX;
@@ -164,7 +163,7 @@ fn is_out(word: &[u8]) -> bool
 }
 
 // The number after `out=`.
-fn out_number(word: &[u8]) -> Number
+fn out_number(word: &[u8]) -> Option<u32>
     requires { is_out word.now ≡ true }
     ensures { result ≡ read_decimal 200 (drop 4 word.now) }
 {
@@ -191,13 +190,13 @@ fn bytes_call(s: &[u8], at: usize, numbers: &mut [u32]) -> Content
     }
 }
 
-fn out_call(out: Number, s: &[u8], at: usize, numbers: &mut [u32]) -> Content
+fn out_call(out: Option<u32>, s: &[u8], at: usize, numbers: &mut [u32]) -> Content
     requires { at ≤ length s.now }
     ensures { reading result numbers.new ≡ out_reading out numbers.old (words (drop at s.now)) }
 {
     match out {
-        Number::Bad => Content::BadNumber,
-        Number::Value(n) => match tally(s, at, byte_form(), numbers) {
+        None => Content::BadNumber,
+        Some(n) => match tally(s, at, byte_form(), numbers) {
             Tally::Wrong => Content::BadNumber,
             Tally::All {
                 count,
@@ -301,13 +300,13 @@ fn expect_call(s: &[u8], at: usize, numbers: &mut [u32]) -> Content
 }
 
 // With the word of the address read.
-fn expect_from(address: Number, s: &[u8], at: usize, numbers: &mut [u32]) -> Content
+fn expect_from(address: Option<u32>, s: &[u8], at: usize, numbers: &mut [u32]) -> Content
     requires { at ≤ length s.now }
     ensures { reading result numbers.new ≡ expect_from address numbers.old (words (drop at s.now)) }
 {
     match address {
-        Number::Bad => Content::BadNumber,
-        Number::Value(a) => {
+        None => Content::BadNumber,
+        Some(a) => {
             if a < 176 {
                 return Content::BadNumber;
             }

@@ -6,7 +6,6 @@ ghost use Rattle.line.specs.Decimals.{decimal_of, listed};
 use crate::numbers::store;
 use crate::words::next_word;
 use line::Tally;
-use numeral::Number;
 
 // Reads the words from the place `at` on, and stores their numbers.
 pub(crate) fn decimals(s: &[u8], at: usize, signed: bool, numbers: &mut [u32]) -> Tally
@@ -28,8 +27,8 @@ pub(crate) fn decimals(s: &[u8], at: usize, signed: bool, numbers: &mut [u32]) -
             };
         }
         match decimal_of(signed, &s[start..end]) {
-            Number::Bad => return Tally::Wrong,
-            Number::Value(v) => {
+            None => return Tally::Wrong,
+            Some(v) => {
                 store(numbers, count, v);
                 count += 1;
             }
@@ -44,7 +43,7 @@ pub(crate) fn decimals(s: &[u8], at: usize, signed: bool, numbers: &mut [u32]) -
 }
 
 // One decimal: with a sign its two's complement word.
-fn decimal_of(signed: bool, word: &[u8]) -> Number
+fn decimal_of(signed: bool, word: &[u8]) -> Option<u32>
     ensures { result ≡ decimal_of signed word.now }
 {
     if signed {

@@ -9,7 +9,6 @@ use crate::decimals::decimals;
 use crate::numbers::tally;
 use crate::words::{next_word, same};
 use line::{Content, Counted, Form, Tally};
-use numeral::Number;
 
 // `tick N`, `at T`, `stretch N` and `quietest W`.
 pub(crate) fn decimal_call(k: Counted, s: &[u8], at: usize) -> Content
@@ -23,8 +22,8 @@ pub(crate) fn decimal_call(k: Counted, s: &[u8], at: usize) -> Content
         return Content::WrongCount;
     }
     match numeral::read_decimal(&s[start..end], 4294967295) {
-        Number::Value(n) => alone(numbered(k, n), s, end),
-        Number::Bad => Content::BadNumber,
+        Some(n) => alone(numbered(k, n), s, end),
+        None => Content::BadNumber,
     }
 }
 
@@ -53,13 +52,13 @@ pub(crate) fn set_call(s: &[u8], at: usize, numbers: &mut [u32]) -> Content
 }
 
 // With the word of the address read.
-fn set_from(address: Number, s: &[u8], at: usize, numbers: &mut [u32]) -> Content
+fn set_from(address: Option<u32>, s: &[u8], at: usize, numbers: &mut [u32]) -> Content
     requires { at ≤ length s.now }
     ensures { reading result numbers.new ≡ set_from address numbers.old (words (drop at s.now)) }
 {
     match address {
-        Number::Bad => Content::BadNumber,
-        Number::Value(a) => {
+        None => Content::BadNumber,
+        Some(a) => {
             if a < 48 {
                 return Content::BadNumber;
             }
@@ -191,7 +190,7 @@ fn hex_call(old: bool, s: &[u8], at: usize) -> Content
         return Content::WrongCount;
     }
     match numeral::read_hex(&s[start..end], 1, 8) {
-        Number::Value(n) => alone(Content::Listing { old, first: n }, s, end),
-        Number::Bad => Content::BadNumber,
+        Some(n) => alone(Content::Listing { old, first: n }, s, end),
+        None => Content::BadNumber,
     }
 }

@@ -6,7 +6,6 @@ ghost use Rattle.line.specs.Clean.{DigitsAt, WholeAt, PairAt, Passed};
 
 use crate::words::{is_blank, next_word, same, skip_blanks};
 use line::{Digits, Form, ListWord, Reached, Tally};
-use numeral::Number;
 
 // Reads the words from the place `at` on, and stores their numbers.
 pub(crate) fn tally(s: &[u8], at: usize, form: Form, numbers: &mut [u32]) -> Tally
@@ -108,9 +107,9 @@ fn pair_at(s: &[u8], i: usize) -> Option<u32>
     requires { i + 3 ≤ length s.now }
     ensures { IfSome result (λ v. PairAt s.now i v) }
 {
-    let high = numeral::hex_digit(s[i + 1]);
-    let low = numeral::hex_digit(s[i + 2]);
-    if s[i] == b' ' && high < 16 && low < 16 && stops_at(s, i + 3) {
+    let high = numeral::hex_digit(s[i + 1])?;
+    let low = numeral::hex_digit(s[i + 2])?;
+    if s[i] == b' ' && stops_at(s, i + 3) {
         Some(high * 16 + low)
     } else {
         None
@@ -139,10 +138,9 @@ fn digits_at(s: &[u8], start: usize, most: usize) -> Digits
     let stop = start + most.min(8).min(s.len() - start);
     let mut value: u32 = 0;
     for i in start..stop {
-        let d = numeral::hex_digit(s[i]);
-        if 16 <= d {
+        let Some(d) = numeral::hex_digit(s[i]) else {
             return Digits { end: i, value };
-        }
+        };
         value = value * 16 + d;
     }
     Digits { end: stop, value }
@@ -159,8 +157,8 @@ fn list_word(word: &[u8], form: Form, n: usize) -> ListWord
         return ListWord::Past;
     }
     match numeral::read_hex(word, form.least, form.most) {
-        Number::Value(v) => ListWord::Word(v),
-        Number::Bad => ListWord::Wrong,
+        Some(v) => ListWord::Word(v),
+        None => ListWord::Wrong,
     }
 }
 
@@ -178,6 +176,7 @@ fn first_slash(slashes: usize, count: usize, up: usize) -> usize
 }
 
 // A number in its place, where there is one.
+// An `if` and no `get_mut`: with that its proof does not close.
 pub(crate) fn store(numbers: &mut [u32], i: usize, v: u32)
     ensures { numbers.new ≡ set numbers.old i v }
 {

@@ -9,8 +9,6 @@ use lib.ListN.{length, get_or, set, take, drop, length-set}
 use lib.Seq.{get_or-set_same, get_or-set_other}
 use borrow.Author.Tests.{leb-true}
 use Rattle.unit.proofs.Cases.{by_eqb}
-use Rattle.numeral.specs.declared.Number.{Number}
-use Rattle.numeral.specs.declared.Number.TheVariants.{Value, Bad}
 use Rattle.numeral.specs.Digit.{are_digits, value_of}
 use Rattle.numeral.specs.Read.{value_in, read_hex, read_decimal, negated, read_signed}
 use Rattle.line.specs.declared.Form.{Form}
@@ -25,6 +23,7 @@ use Rattle.line.specs.Numbers.{is_slash, of_number, list_word, Outcome, on_list_
 use Rattle.line.specs.Decimals.{decimal_of, on_number, listed}
 use Rattle.line.specs.Line.{Reading, bytes_reading, byte_form, is_out, out_reading, bus_reading, word_form, flight_reading, temperature_reading, expect_form, expect_words, expect_from, expect_reading, set_form, set_words, set_from, set_reading, probe_reading, pair_form, degrees_reading, record_reading, later_reading, keyword_of, keyword_reading, words_reading, content_length, line_reading}
 use Rattle.line_room.specs.Form.{NumbersFit}
+use Rattle.std.specs.Prelude.{Option, Some, None}
 
 cond-is : {A : Type 0} (P : A → Type 0) (t : Bool) {x y : A} → P x → P y → P (cond t x y)
 cond-is P true one other = one
@@ -32,15 +31,15 @@ cond-is P false one other = other
 
 -- ---- one number
 
-abbrev Below : Number → Type 0
-Below (Value v) = v < 4294967296
-Below Bad = Unit
+abbrev Below : Option ℕ → Type 0
+Below (Some v) = v < 4294967296
+Below None = Unit
 
 value-below : (b limit : ℕ) (cs : List ℕ) → limit < 4294967296 → Below (value_in b limit cs)
 unfolding value_in
 value-below b limit cs small = go (are_digits b cs) (leb (value_of b 0 cs) limit) refl
   where
-    go : (s t : Bool) → leb (value_of b 0 cs) limit ≡ t → Below (cond s (cond t (Value (value_of b 0 cs)) Bad) Bad)
+    go : (s t : Bool) → leb (value_of b 0 cs) limit ≡ t → Below (cond s (cond t (Some (value_of b 0 cs)) None) None)
     go true true e = omega (arith, leb-true (value_of b 0 cs) limit e)
     go true false e = tt
     go false t e = tt
@@ -56,10 +55,10 @@ decimal-below : (limit : ℕ) (cs : List ℕ) → limit < 4294967296 → Below (
 unfolding read_decimal
 decimal-below limit cs small = cond-is Below (ltb (length cs) 1) tt (cond-is Below (ltb 10 (length cs)) tt (value-below 10 limit cs small))
 
-negated-below : (r : Number) → Below (negated r)
+negated-below : (r : Option ℕ) → Below (negated r)
 unfolding negated
-negated-below (Value n) = omega arith
-negated-below Bad = tt
+negated-below (Some n) = omega arith
+negated-below None = tt
 
 signed_below : (cs : List ℕ) → Below (read_signed cs)
 unfolding read_signed
@@ -87,9 +86,9 @@ WordBelow Past = Unit
 WordBelow (Word v) = v < 4294967296
 WordBelow Wrong = Unit
 
-of-below : (r : Number) → Below r → WordBelow (of_number r)
-of-below (Value v) h = h
-of-below Bad h = tt
+of-below : (r : Option ℕ) → Below r → WordBelow (of_number r)
+of-below (Some v) h = h
+of-below None h = tt
 
 word_below : (f : Form) (n : ℕ) (w : List ℕ) → WordBelow (list_word f n w)
 unfolding list_word
@@ -113,9 +112,9 @@ tallied-fit f n k u l (w ∷ ws) h =
     (tallied-fit f (n + 1) k u l ws h) (λ v small. tallied-fit f (n + 1) k u (set l n v) ws (set-fit l n v h small))
     h
 
-on-decimal : (r : Number) (g : ℕ → Outcome) (z : Outcome) → Below r → ((v : ℕ) → v < 4294967296 → Stored (g v)) → Stored z → Stored (on_number r g z)
-on-decimal (Value v) g z h one other = one v h
-on-decimal Bad g z h one other = other
+on-decimal : (r : Option ℕ) (g : ℕ → Outcome) (z : Outcome) → Below r → ((v : ℕ) → v < 4294967296 → Stored (g v)) → Stored z → Stored (on_number r g z)
+on-decimal (Some v) g z h one other = one v h
+on-decimal None g z h one other = other
 
 decimal-of-below : (signed : Bool) (w : List ℕ) → Below (decimal_of signed w)
 unfolding decimal_of
@@ -139,30 +138,30 @@ module _ (l : List ℕ) (h : NumbersFit l) where
   unfolding bytes_reading
   bytes_fit content ws = tallied-fit byte_form 0 0 0 l ws h
 
-  out-fit : (r : Number) (ws : List (List ℕ)) → Kept (out_reading r l ws)
+  out-fit : (r : Option ℕ) (ws : List (List ℕ)) → Kept (out_reading r l ws)
   unfolding out_reading
-  out-fit Bad ws = h
-  out-fit (Value b) ws = bytes_fit (BusOut b) ws
+  out-fit None ws = h
+  out-fit (Some b) ws = bytes_fit (BusOut b) ws
 
   bus-fit : (ws : List (List ℕ)) → Kept (bus_reading l ws)
   unfolding bus_reading
   bus-fit [] = bytes_fit Bus []
   bus-fit (w ∷ ws) = cond-is Kept (is_out w) (out-fit (read_decimal 200 (drop 4 w)) ws) (bytes_fit Bus (w ∷ ws))
 
-  expect-from : (r : Number) (ws : List (List ℕ)) → Kept (expect_from r l ws)
+  expect-from : (r : Option ℕ) (ws : List (List ℕ)) → Kept (expect_from r l ws)
   unfolding expect_from expect_words
-  expect-from Bad ws = h
-  expect-from (Value a) ws = cond-is Kept (ltb a 176) h (cond-is Kept (ltb 255 a) h (tallied-fit (expect_form a) 0 0 0 l ws h))
+  expect-from None ws = h
+  expect-from (Some a) ws = cond-is Kept (ltb a 176) h (cond-is Kept (ltb 255 a) h (tallied-fit (expect_form a) 0 0 0 l ws h))
 
   expect-fit : (ws : List (List ℕ)) → Kept (expect_reading l ws)
   unfolding expect_reading
   expect-fit [] = h
   expect-fit (w ∷ ws) = expect-from (read_hex 2 2 w) ws
 
-  set-from : (r : Number) (ws : List (List ℕ)) → Kept (set_from r l ws)
+  set-from : (r : Option ℕ) (ws : List (List ℕ)) → Kept (set_from r l ws)
   unfolding set_from set_words
-  set-from Bad ws = h
-  set-from (Value a) ws = cond-is Kept (ltb a 48) h (cond-is Kept (ltb 67 a) h (tallied-fit set_form 0 0 0 l ws h))
+  set-from None ws = h
+  set-from (Some a) ws = cond-is Kept (ltb a 48) h (cond-is Kept (ltb 67 a) h (tallied-fit set_form 0 0 0 l ws h))
 
   set_line : (ws : List (List ℕ)) → Kept (set_reading l ws)
   unfolding set_reading

@@ -220,6 +220,7 @@ fn unsound_call(p: Progress, e: Entry, answers: &mut [u32]) -> Progress
 }
 
 // q, or the room where that is less.
+// No `min`: the two numbers have two types.
 fn fewer(room: usize, q: u32) -> u32
     requires { (1 ≤ room) × (1 ≤ q) }
     ensures { (1 ≤ result) × (result ≤ room) × (result ≤ q) }

@@ -38,6 +38,7 @@ pub fn write_listing_as(
     write_digits(capture_digits(width), differences, first, out)
 }
 
+// A match by hand: `capture_digits` of specs/Listing names the numbers.
 fn capture_digits(width: Width) -> usize
     ensures { (result ≡ capture_digits width) × (result ≤ 8) }
 {

@@ -85,6 +85,7 @@ pub extern "C" fn max35101_write_listing(
     told(l, answer)
 }
 
+// The count of digits and number 22 are numbers: the C interface.
 // The same with two digits or eight; number 22 for another count.
 #[unsafe(no_mangle)]
 pub extern "C" fn max35101_write_listing_as(

@@ -10,10 +10,9 @@ use native.Mathlib.Omega.{arith}
 use lib.Dec.{ltb, leb}
 use lib.ListN.{length, length-append}
 use borrow.Author.Tests.{lt-ltb, le-ltb, le-leb, leb-true}
-use Rattle.numeral.specs.declared.Number.{Number}
-use Rattle.numeral.specs.declared.Number.TheVariants.{Value, Bad}
 use Rattle.numeral.specs.Digit.{digit_of, glyph, are_digits, value_of, digits}
 use Rattle.numeral.specs.Read.{value_in, read_hex, read_decimal}
+use Rattle.std.specs.Prelude.{Option, Some, None}
 
 below : (c b : ℕ) {x y : ℕ} → (c < b → x ≤ 16) → (b ≤ c → y ≤ 16) → cond (ltb c b) x y ≤ 16
 below c b {x} {y} less more = go (dec_lt c b)
@@ -87,7 +86,7 @@ module _ (b : ℕ) (some : 0 < b) (most : b ≤ 16) where
       value-append b n (digits b k (v / b)) (glyph (v % b) ∷ [])
       ∙ rw (value-digits k n (v / b) less, last-digit v, pow-suc, add-mul, mul_assoc, add_assoc, div-add-mod' v b)
 
-  pub value-in-digits : (limit k v : ℕ) → v < b ^ k → v ≤ limit → value_in b limit (digits b k v) ≡ Value v
+  pub value-in-digits : (limit k v : ℕ) → v < b ^ k → v ≤ limit → value_in b limit (digits b k v) ≡ Some v
   unfolding value_in
   value-in-digits limit k v h l =
       let e : value_of b 0 (digits b k v) ≡ v = value-digits k 0 v h ∙ rw (zero-mul, zero-add) in
@@ -95,13 +94,13 @@ module _ (b : ℕ) (some : 0 < b) (most : b ≤ 16) where
 
 -- Digits read as their value, which eight of them keep within 32 bits.
 pub hex-reads : (least most : ℕ) (cs : List ℕ) → 0 < length cs → least ≤ length cs → length cs ≤ most → length cs ≤ 8
-    → are_digits 16 cs ≡ true → value_of 16 0 cs ≤ 4294967295 → read_hex least most cs ≡ Value (value_of 16 0 cs)
+    → are_digits 16 cs ≡ true → value_of 16 0 cs ≤ 4294967295 → read_hex least most cs ≡ Some (value_of 16 0 cs)
 unfolding read_hex value_in
 hex-reads least most cs some low high eight all small =
     rw (le-ltb (length cs) 1 some, le-ltb (length cs) least low, le-ltb most (length cs) high, le-ltb 8 (length cs) eight, all, le-leb (value_of 16 0 cs) 4294967295 small)
 
 -- A number that is printed in k hexadecimal digits reads back as itself.
-pub hex-reads-back : (least most k v : ℕ) → 0 < k → least ≤ k → k ≤ most → k ≤ 8 → v < 16 ^ k → read_hex least most (digits 16 k v) ≡ Value v
+pub hex-reads-back : (least most k v : ℕ) → 0 < k → least ≤ k → k ≤ most → k ≤ 8 → v < 16 ^ k → read_hex least most (digits 16 k v) ≡ Some v
 unfolding read_hex
 hex-reads-back least most k v some low high eight h =
     let top : 16 ^ k ≤ 16 ^ 8 = pow-le-pow_right (omega arith) eight in
@@ -109,22 +108,22 @@ hex-reads-back least most k v some low high eight h =
     (value-in-digits 16 (omega arith) (omega arith) 4294967295 k v h (omega arith))
 
 -- A decimal that is read is within its limit.
-pub decimal-at-most : (limit : ℕ) (cs : List ℕ) (v : ℕ) → read_decimal limit cs ≡ Value v → v ≤ limit
+pub decimal-at-most : (limit : ℕ) (cs : List ℕ) (v : ℕ) → read_decimal limit cs ≡ Some v → v ≤ limit
 unfolding read_decimal value_in
 decimal-at-most limit cs v =
     unless (ltb (length cs) 1) (unless (ltb 10 (length cs)) (go (are_digits 10 cs) (leb (value_of 10 0 cs) limit) refl))
   where
-    Within : Number → Type 0
-    Within r = r ≡ Value v → v ≤ limit
+    Within : Option ℕ → Type 0
+    Within r = r ≡ Some v → v ≤ limit
 
-    bad : Within Bad
+    bad : Within None
     bad e = let z : ◌≡◌ {A = ℕ} 0 1 = cc in absurd (omega arith)
 
-    unless : (t : Bool) {r : Number} → Within r → Within (cond t Bad r)
+    unless : (t : Bool) {r : Option ℕ} → Within r → Within (cond t None r)
     unless true h = bad
     unless false h = h
 
-    go : (s t : Bool) → leb (value_of 10 0 cs) limit ≡ t → Within (cond s (cond t (Value (value_of 10 0 cs)) Bad) Bad)
+    go : (s t : Bool) → leb (value_of 10 0 cs) limit ≡ t → Within (cond s (cond t (Some (value_of 10 0 cs)) None) None)
     go false t p = bad
     go true false p = bad
     go true true p = λ e. let same : value_of 10 0 cs ≡ v = cc in rw (← same) (leb-true (value_of 10 0 cs) limit p)

@@ -8,11 +8,11 @@ use native.Mathlib.Decide.{dec_lt}
 use native.Mathlib.Omega.{arith}
 use lib.ListN.{length, get_or}
 use borrow.Author.Tests.{lt-ltb, le-ltb}
-use Rattle.numeral.specs.declared.Number.TheVariants.{Value}
 use Rattle.numeral.specs.Digit.{glyph, value_of, digits}
 use Rattle.numeral.specs.Read.{read_decimal}
 use Rattle.numeral.specs.Print.{low_bytes, hex_bytes, width_from, decimal_width, decimal, ten_thousandths, nanoseconds, signed_nanoseconds, Nearest}
 use Rattle.numeral.proofs.DigitLaws.{length_digits, value-append, value-digits, value-in-digits}
+use Rattle.std.specs.Prelude.{Some}
 
 pub length-low-bytes : (ws : List ℕ) → length (low_bytes ws) ≡ length ws
 unfolding low_bytes
@@ -115,7 +115,7 @@ unfolding decimal
 length-decimal v = length_digits 10 (decimal_width v) v
 
 -- A decimal that is printed reads back as itself.
-pub decimal-reads-back : (limit v : ℕ) → v ≤ limit → v < 2 ^ 32 → read_decimal limit (decimal v) ≡ Value v
+pub decimal-reads-back : (limit v : ℕ) → v ≤ limit → v < 2 ^ 32 → read_decimal limit (decimal v) ≡ Some v
 unfolding read_decimal decimal decimal_width
 decimal-reads-back limit v low h =
     let ten : width_from 19 v ≤ 10 = width-most 19 9 v (omega arith) in

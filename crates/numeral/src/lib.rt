@@ -14,10 +14,3 @@ pub use print::{
     put_signed_nanoseconds, put_text, put_thousandths,
 };
 pub use read::{hex_digit, read_decimal, read_hex, read_signed};
-
-// What is read from a word.
-#[derive(Clone, Copy)]
-pub enum Number {
-    Value(u32),
-    Bad,
-}

@@ -70,6 +70,7 @@ fn put_accepted(f: bool, t: bool, words: &mut [u32])
 }
 
 // The words of an answer, and its number.
+// Codes are numbers: the C interface.
 pub fn put_answer(a: Answer, words: &mut [u32]) -> u32
     ensures { (result ≡ code_of a) × (words.new ≡ filled words.old (words_of a)) }
 {

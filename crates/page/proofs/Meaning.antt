@@ -14,7 +14,6 @@ use Rattle.calendar.specs.Calendar.{clock_valid}
 use Rattle.calendar.specs.Words.{word30, word31, word32, word33, twelve_in}
 use Rattle.calendar.proofs.Laws.{bounds, month-length}
 use Rattle.calendar.proofs.Places.{seconds-shown, full-time-shown, half-time-shown, date-shown, year-shown}
-use Rattle.numeral.specs.declared.Number.TheVariants.{Value}
 use Rattle.numeral.specs.Digit.{digits, glyph, value_of}
 use Rattle.numeral.specs.Place.{joined, overwrite, put_each}
 use Rattle.numeral.specs.Read.{read_hex, read_decimal}
@@ -35,6 +34,7 @@ use Rattle.page.specs.Clock.{seconds, hours, time_of_day, half_day, seconds_row,
 use Rattle.page.specs.Setup.{tof1_row, tof2_row, timing1_row, timing2_row, control_row, oscillator_row, setup_rows, more_setup_rows}
 use Rattle.page.specs.Results.{pair_word, result_row, port_row, difference_row, mean_row, count_row, up_rows, down_rows, difference_rows, port_rows, takes_two, status_rows, last_rows}
 use Rattle.page.specs.Page.{page, page_texts}
+use Rattle.std.specs.Prelude.{Some}
 
 -- Where the buffer has room for the page, its bytes stand there as one, from the place on, and nothing else is touched.
 pub page-whole : (m : Model) (l : List ℕ) (at : ℕ) → at + length (joined (page_texts m)) ≤ length l
@@ -42,13 +42,13 @@ pub page-whole : (m : Model) (l : List ℕ) (at : ℕ) → at + length (joined (
 page-whole m l at room = put-each (page_texts m) l at room
 
 -- What a row has for a word are four digits that read back as the word.
-pub word_back : (label : List ℕ) (w : ℕ) (meaning : Texts) → w < 65536 → read_hex 4 4 (get_or (register_row label w meaning) 1 []) ≡ Value w
+pub word_back : (label : List ℕ) (w : ℕ) (meaning : Texts) → w < 65536 → read_hex 4 4 (get_or (register_row label w meaning) 1 []) ≡ Some w
 unfolding register_row
 word_back label w meaning h = hex-reads-back 4 4 4 w (omega arith) (omega arith) (omega arith) (omega arith) h
 
 -- What a row has for a pair are two words that read back as Int and Frac: "word ÷ 65,536" and "the remainder".
 pub pair-back : (label : List ℕ) (w : ℕ) (meaning : Texts) → w < 4294967296
-    → (read_hex 4 4 (get_or (pair_row label w meaning) 1 []) ≡ Value (w / 65536)) × (read_hex 4 4 (get_or (pair_row label w meaning) 3 []) ≡ Value (w % 65536))
+    → (read_hex 4 4 (get_or (pair_row label w meaning) 1 []) ≡ Some (w / 65536)) × (read_hex 4 4 (get_or (pair_row label w meaning) 3 []) ≡ Some (w % 65536))
 unfolding pair_row
 pair-back label w meaning h = (
   hex-reads-back 4 4 4 (w / 65536) (omega arith) (omega arith) (omega arith) (omega arith) (omega arith),
@@ -91,11 +91,11 @@ unfolding page clock_rows setup_rows more_setup_rows up_rows down_rows differenc
 status-shown m = by-test (takes_two (read_word m 0xFE)) (λ e. rw e (refl, refl)) (λ e. rw e (refl, refl))
 
 -- A count, and a number before what it counts, read back too.
-pub count-back : (label : List ℕ) (w : ℕ) → w < 2 ^ 32 → read_decimal 4294967295 (get_or (count_row label w) 4 []) ≡ Value w
+pub count-back : (label : List ℕ) (w : ℕ) → w < 2 ^ 32 → read_decimal 4294967295 (get_or (count_row label w) 4 []) ≡ Some w
 unfolding count_row register_row
 count-back label w h = decimal-reads-back 4294967295 w (omega arith) h
 
-pub plural-back : (n : ℕ) (what : List ℕ) → n < 2 ^ 32 → read_decimal 4294967295 (get_or (plural n what) 0 []) ≡ Value n
+pub plural-back : (n : ℕ) (what : List ℕ) → n < 2 ^ 32 → read_decimal 4294967295 (get_or (plural n what) 0 []) ≡ Some n
 unfolding plural
 plural-back n what h = decimal-reads-back 4294967295 n (omega arith) h
 

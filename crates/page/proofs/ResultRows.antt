@@ -13,7 +13,6 @@ use Rattle.unit.proofs.Cases.{by_eqb}
 use Rattle.unit.proofs.Joined.{both_true}
 use Rattle.hit.specs.Words.{no_quanta}
 use Rattle.hit.specs.Difference.{difference_mean, port_mean}
-use Rattle.numeral.specs.declared.Number.TheVariants.{Value}
 use Rattle.numeral.specs.Read.{read_hex, read_decimal}
 use Rattle.numeral.specs.Digit.{digits, glyph, are_digits, value_of}
 use Rattle.numeral.specs.Print.{decimal_width, decimal, ten_thousandths, four_decimals, nanoseconds, signed_nanoseconds, Nearest}
@@ -38,6 +37,7 @@ use Rattle.page.specs.Page.{page}
 use Rattle.page.proofs.Meaning.{word_read, time-back, rows_of_one, addresses_of_one, rows_of_two, addresses_of_two, words-shown}
 use Rattle.page.proofs.Values.{pair-shown}
 use Rattle.page.proofs.Rows.{row, hex, one}
+use Rattle.std.specs.Prelude.{Some}
 
 -- the row of the pair at addresses a and a + 1, Int and Frac
 abbrev pair : Model → String → ℕ → Texts → Texts
@@ -155,7 +155,7 @@ inside a l h =
     let (low, high) = both_true (leb 0xB0 a) (leb a 0xFE) here in
     ((leb-true 0xB0 a low, omega (arith, leb-true a 0xFE high)), rest)
 
-four-read : (w : ℕ) → w < 65536 → read_hex 4 4 (hex w) ≡ Value w
+four-read : (w : ℕ) → w < 65536 → read_hex 4 4 (hex w) ≡ Some w
 four-read w h = hex-reads-back 4 4 4 w (omega arith) (omega arith) (omega arith) (omega arith) h
 
 not-both : (a b : ℕ) → ¬ ((a ≡ 0xFFFFFFFF) × (b ≡ 0xFFFFFFFF)) → both (eqb a 0xFFFFFFFF) (eqb b 0xFFFFFFFF) ≡ false
@@ -202,8 +202,8 @@ module _ (m : Model) (s : is_sound m ≡ true) where
 
   -- the counts of good measurements
   pub counts-read :
-      (read_decimal 32 (get_or (row m 41) 4 []) ≡ Value m.flight.schedule.good) ×
-      (read_decimal 32 (get_or (row m 47) 4 []) ≡ Value m.temperature.schedule.good)
+      (read_decimal 32 (get_or (row m 41) 4 []) ≡ Some m.flight.schedule.good) ×
+      (read_decimal 32 (get_or (row m 47) 4 []) ≡ Some m.temperature.schedule.good)
   counts-read =
       let f = (bounds_of m s).flight.schedule in
       let t = (bounds_of m s).temperature.schedule in (
@@ -234,28 +234,28 @@ module _ (m : Model) (s : is_sound m ≡ true) where
     port-at label a w low high h = rw (pair-shown m s a w low high h (few a w low high h), h.high, h.low)
 
     -- Every row of one register, and every row of a pair, has digits that read back as what its registers hold.
-    singles : (l : List ℕ) → within l ≡ true → map (read_hex 4 4) (map (λ (a : ℕ). hex (read_word m a)) l) ≡ map (λ (a : ℕ). Value (register_word m a)) l
+    singles : (l : List ℕ) → within l ≡ true → map (read_hex 4 4) (map (λ (a : ℕ). hex (read_word m a)) l) ≡ map (λ (a : ℕ). Some (register_word m a)) l
     singles [] h = refl
     singles (a ∷ l) h =
         let (k, rest) = inside a l h in
         rw (word_read m a s k.0 (omega (arith, k.1)), four-read (register_word m a) (small a k.0 (omega (arith, k.1))), singles l rest)
 
-    ints : (l : List ℕ) → within l ≡ true → map (read_hex 4 4) (map (λ (a : ℕ). hex (pair_word m a / 65536)) l) ≡ map (λ (a : ℕ). Value (register_word m a)) l
+    ints : (l : List ℕ) → within l ≡ true → map (read_hex 4 4) (map (λ (a : ℕ). hex (pair_word m a / 65536)) l) ≡ map (λ (a : ℕ). Some (register_word m a)) l
     ints [] h = refl
     ints (a ∷ l) h =
         let (k, rest) = inside a l h in
         rw ((pair_parts a k.0 k.1).0, four-read (register_word m a) (small a k.0 (omega (arith, k.1))), ints l rest)
 
-    fracs : (l : List ℕ) → within l ≡ true → map (read_hex 4 4) (map (λ (a : ℕ). hex (pair_word m a % 65536)) l) ≡ map (λ (a : ℕ). Value (register_word m (a + 1))) l
+    fracs : (l : List ℕ) → within l ≡ true → map (read_hex 4 4) (map (λ (a : ℕ). hex (pair_word m a % 65536)) l) ≡ map (λ (a : ℕ). Some (register_word m (a + 1))) l
     fracs [] h = refl
     fracs (a ∷ l) h =
         let (k, rest) = inside a l h in
         rw ((pair_parts a k.0 k.1).1, four-read (register_word m (a + 1)) (small (a + 1) (omega (arith, k.0)) (omega (arith, k.1))), fracs l rest)
 
     pub words_back :
-        (map (λ (i : ℕ). read_hex 4 4 (get_or (row m i) 1 [])) rows_of_one ≡ map (λ (a : ℕ). Value (register_word m a)) addresses_of_one) ×
-        (map (λ (i : ℕ). read_hex 4 4 (get_or (row m i) 1 [])) rows_of_two ≡ map (λ (a : ℕ). Value (register_word m a)) addresses_of_two) ×
-        (map (λ (i : ℕ). read_hex 4 4 (get_or (row m i) 3 [])) rows_of_two ≡ map (λ (a : ℕ). Value (register_word m (a + 1))) addresses_of_two)
+        (map (λ (i : ℕ). read_hex 4 4 (get_or (row m i) 1 [])) rows_of_one ≡ map (λ (a : ℕ). Some (register_word m a)) addresses_of_one) ×
+        (map (λ (i : ℕ). read_hex 4 4 (get_or (row m i) 1 [])) rows_of_two ≡ map (λ (a : ℕ). Some (register_word m a)) addresses_of_two) ×
+        (map (λ (i : ℕ). read_hex 4 4 (get_or (row m i) 3 [])) rows_of_two ≡ map (λ (a : ℕ). Some (register_word m (a + 1))) addresses_of_two)
     words_back =
         let e = words-shown m in (
           ap (map (read_hex 4 4)) e.0 ∙ singles addresses_of_one refl,

@@ -23,7 +23,6 @@ use Rattle.setup.specs.Table11.{timeout_row}
 use Rattle.setup.proofs.Laws.{hits-bounds, difference-count-bounds, temperature-count-bounds, timeout-below, cycle-below, temperature-period-bounds}
 use Rattle.setup.proofs.Rows.{hits-row, timeout-periods}
 use Rattle.hit.specs.Limit.{late_from, open_from}
-use Rattle.numeral.specs.declared.Number.TheVariants.{Value}
 use Rattle.numeral.specs.Read.{read_decimal}
 use Rattle.numeral.specs.Digit.{digits, glyph, value_of}
 use Rattle.numeral.specs.Print.{width_from, decimal_width, decimal, ten_thousandths, four_decimals, nanoseconds}
@@ -44,6 +43,7 @@ use Rattle.page.specs.Results.{up_rows, down_rows, difference_rows, port_rows, l
 use Rattle.page.specs.Page.{page}
 use Rattle.page.proofs.Meaning.{word_read, clock-shown, half-clock-shown, two-of, two-above, high_part, seconds-text, full-time-text, half-time-text}
 use Rattle.page.proofs.Values.{setup-read}
+use Rattle.std.specs.Prelude.{Some}
 
 -- Row i of the page, from 0 on.
 abbrev pub row : Model → ℕ → Texts
@@ -404,7 +404,7 @@ abbrev from_last : ℕ → Texts → List ℕ
 from_last k r = get_or r (length r - 1 - k) []
 
 -- two digits read back
-two-reads : (n : ℕ) → n ≤ 99 → read_decimal 99 (two n) ≡ Value n
+two-reads : (n : ℕ) → n ≤ 99 → read_decimal 99 (two n) ≡ Some n
 unfolding read_decimal
 two-reads n h = rw (length_digits 10 2 n) (value-in-digits 10 (omega arith) (omega arith) 99 2 n (omega arith) h)
 
@@ -420,8 +420,8 @@ module _ (m : Model) (s : is_sound m ≡ true) where
   pub clock-reads :
       m.clock.twelve ≡ false →
       map (λ (k : ℕ). read_decimal 99 (get_or (row m 5) k [])) (2 ∷ 4 ∷ 6 ∷ 8 ∷ 10 ∷ 12 ∷ 14 ∷ [])
-      ≡ Value m.clock.year ∷ Value m.clock.month ∷ Value m.clock.date
-      ∷ Value m.clock.hour ∷ Value m.clock.minute ∷ Value m.clock.second ∷ Value (m.clock.ticks.0 * 100 / 32768)
+      ≡ Some m.clock.year ∷ Some m.clock.month ∷ Some m.clock.date
+      ∷ Some m.clock.hour ∷ Some m.clock.minute ∷ Some m.clock.second ∷ Some (m.clock.ticks.0 * 100 / 32768)
       ∷ []
   clock-reads form =
       let b = bounds m.clock (bounds_of m s).clock in
@@ -440,8 +440,8 @@ module _ (m : Model) (s : is_sound m ≡ true) where
   pub half-clock-reads :
       m.clock.twelve ≡ true →
       map (λ (k : ℕ). read_decimal 99 (get_or (row m 5) k [])) (2 ∷ 4 ∷ 6 ∷ 8 ∷ 10 ∷ 12 ∷ 14 ∷ [])
-      ≡ Value m.clock.year ∷ Value m.clock.month ∷ Value m.clock.date
-      ∷ Value ((m.clock.hour + 11) % 12 + 1) ∷ Value m.clock.minute ∷ Value m.clock.second ∷ Value (m.clock.ticks.0 * 100 / 32768)
+      ≡ Some m.clock.year ∷ Some m.clock.month ∷ Some m.clock.date
+      ∷ Some ((m.clock.hour + 11) % 12 + 1) ∷ Some m.clock.minute ∷ Some m.clock.second ∷ Some (m.clock.ticks.0 * 100 / 32768)
       ∷ []
   half-clock-reads form =
       let b = bounds m.clock (bounds_of m s).clock in
@@ -458,14 +458,14 @@ module _ (m : Model) (s : is_sound m ≡ true) where
       )
 
   -- the weekday, and the alarm's hour and minute
-  pub weekday-reads : read_decimal 7 (get_or (row m 3) 4 []) ≡ Value m.clock.weekday
+  pub weekday-reads : read_decimal 7 (get_or (row m 3) 4 []) ≡ Some m.clock.weekday
   weekday-reads =
       let b = bounds m.clock (bounds_of m s).clock in
       rw (day-row m s) (decimal-reads-back 7 m.clock.weekday (omega arith) (omega arith))
 
   pub alarm-reads :
       map (λ (k : ℕ). read_decimal 99 (get_or (row m 7) k [])) (4 ∷ 6 ∷ [])
-      ≡ Value (hour_named (alarm_word m.setup)) ∷ Value (minute_in (alarm_word m.setup)) ∷ []
+      ≡ Some (hour_named (alarm_word m.setup)) ∷ Some (minute_in (alarm_word m.setup)) ∷ []
   unfolding minute_in hour_named twelve_in
   alarm-reads =
       let w : ℕ = alarm_word m.setup in
@@ -475,12 +475,12 @@ module _ (m : Model) (s : is_sound m ≡ true) where
       (λ e. rw (alarm-row m s e, two-reads (minute_in w) (omega (arith, a.minute)), e, two-reads (bits 5 4 w * 10 + bits 3 0 w) (omega (arith, a.hours))))
 
   -- the pulses
-  pub pulses-read : ¬ (pulses_of m ≡ 0) → read_decimal 127 (get_or (row m 11) 4 []) ≡ Value (min (pulses_of m) 127)
+  pub pulses-read : ¬ (pulses_of m ≡ 0) → read_decimal 127 (get_or (row m 11) 4 []) ≡ Some (min (pulses_of m) 127)
   pulses-read n =
       rw (tof1-row m s, ne_eqb (pulses_of m) 0 n) (decimal-reads-back 127 (min (pulses_of m) 127) (omega arith) (omega arith))
 
   -- the hits; TDF's digits before and behind the point are tenths of a second, of 3,276.8 ticks each
-  pub hits-read : read_decimal 6 (get_or (row m 12) 4 []) ≡ Value (hit_count m.setup)
+  pub hits-read : read_decimal 6 (get_or (row m 12) 4 []) ≡ Some (hit_count m.setup)
   hits-read =
       let b = hits-bounds m.setup in
       rw (tof2-row m s) (decimal-reads-back 6 (hit_count m.setup) b.1 (omega arith))
@@ -492,26 +492,26 @@ module _ (m : Model) (s : is_sound m ≡ true) where
       rw (timing1-row m s, digit-behind (p / 32768) (p % 32768 * 10 / 32768) (omega arith) (omega arith)) (omega arith)
 
   -- DPL's divider is the row's last text; TIMOUT, TMF and PORTCYC are the ones before it
-  pub divider-reads : ¬ (divider_of m ≡ 0) → read_decimal 16 (from_last 0 (row m 11)) ≡ Value (divider_of m + 1)
+  pub divider-reads : ¬ (divider_of m ≡ 0) → read_decimal 16 (from_last 0 (row m 11)) ≡ Some (divider_of m + 1)
   divider-reads n =
       let back = decimal-reads-back 16 (divider_of m + 1) (omega arith) (omega arith) in
       rw (tof1-row m s, ne_eqb (divider_of m) 0 n)
       (by_eqb (pulses_of m) 0 (λ z e. rw e back) (λ z e. by-ltb (min (pulses_of m) 127) 2 (λ l f. rw (e, f) back) (λ l f. rw (e, f) back)))
 
-  pub timeout-reads : read_decimal 16384 (from_last 1 (row m 12)) ≡ Value (128 * 2 ^ timeout m.setup)
+  pub timeout-reads : read_decimal 16384 (from_last 1 (row m 12)) ≡ Some (128 * 2 ^ timeout m.setup)
   timeout-reads =
       let seven : timeout m.setup ≤ 7 = omega (arith, timeout-below m.setup) in
       let few : 2 ^ timeout m.setup ≤ 2 ^ 7 = pow-le-pow_right (omega arith) seven in
       let back = decimal-reads-back 16384 (128 * 2 ^ timeout m.setup) (omega arith) (omega arith) in
       rw (tof2-row m s) (by-ltb (hit_count m.setup) 2 (λ l e. rw e back) (λ l e. rw e back))
 
-  pub temperature-period-reads : read_decimal 64 (from_last 1 (row m 18)) ≡ Value ((temperature_period m.setup).0 / 32768)
+  pub temperature-period-reads : read_decimal 64 (from_last 1 (row m 18)) ≡ Some ((temperature_period m.setup).0 / 32768)
   temperature-period-reads =
       let b = temperature-period-bounds m.setup in
       let back = decimal-reads-back 64 ((temperature_period m.setup).0 / 32768) (omega arith) (omega arith) in
       rw (timing1-row m s) (by-ltb (difference_count m.setup) 2 (λ l e. rw e back) (λ l e. rw e back))
 
-  pub port-cycle-reads : read_decimal 512 (from_last 1 (row m 19)) ≡ Value (128 * (port_cycle m.setup + 1))
+  pub port-cycle-reads : read_decimal 512 (from_last 1 (row m 19)) ≡ Some (128 * (port_cycle m.setup + 1))
   port-cycle-reads =
       let b = cycle-below m.setup in
       let back = decimal-reads-back 512 (128 * (port_cycle m.setup + 1)) (omega arith) (omega arith) in
@@ -519,8 +519,8 @@ module _ (m : Model) (s : is_sound m ≡ true) where
 
   -- the numbers of differences and of temperatures
   pub cycles-read :
-      (read_decimal 32 (get_or (row m 18) 8 []) ≡ Value (difference_count m.setup)) ×
-      (read_decimal 32 (get_or (row m 19) 4 []) ≡ Value (temperature_count m.setup))
+      (read_decimal 32 (get_or (row m 18) 8 []) ≡ Some (difference_count m.setup)) ×
+      (read_decimal 32 (get_or (row m 19) 4 []) ≡ Some (temperature_count m.setup))
   cycles-read =
       let b = difference-count-bounds m.setup in
       let c = temperature-count-bounds m.setup in (

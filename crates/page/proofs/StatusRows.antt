@@ -13,7 +13,6 @@ use borrow.Author.Tests.{lt-ltb, le-ltb, lt-leb, le-leb, ne_eqb}
 use Rattle.unit.specs.Bits.{is_set}
 use Rattle.unit.specs.Choice.{either, both}
 use Rattle.unit.proofs.Cases.{by-test, by_eqb}
-use Rattle.numeral.specs.declared.Number.TheVariants.{Value}
 use Rattle.numeral.specs.Read.{read_decimal}
 use Rattle.numeral.specs.Digit.{digits, glyph}
 use Rattle.numeral.specs.Print.{decimal}
@@ -42,6 +41,7 @@ use Rattle.page.specs.Page.{page}
 use Rattle.page.proofs.Meaning.{word_read}
 use Rattle.page.proofs.Values.{bit-shown}
 use Rattle.page.proofs.Rows.{row, one, several, named}
+use Rattle.std.specs.Prelude.{Some}
 
 -- ---- the status
 
@@ -329,13 +329,13 @@ module _ (m : Model) (s : is_sound m ≡ true) where
 
 -- The numbers of these rows read back: the ticks left, the started, planned, settled and good ones, and the ticks to the next start.
 module _ (label : List ℕ) (k : Schedule) (b : ScheduleBounds k) where
-  pub left-reads : 0 < k.left.0 → read_decimal 8192 (get_or (label ∷ awaited_place k) 2 []) ≡ Value k.left.0
+  pub left-reads : 0 < k.left.0 → read_decimal 8192 (get_or (label ∷ awaited_place k) 2 []) ≡ Some k.left.0
   left-reads h = rw (lt-ltb 0 k.left.0 h) (decimal-reads-back 8192 k.left.0 b.left (omega (arith, b.left)))
 
   pub place-reads :
       in_event k ≡ true →
       map (λ (i : ℕ). read_decimal 32 (get_or (label ∷ event_place k) i [])) (1 ∷ 3 ∷ 5 ∷ 7 ∷ [])
-      ≡ Value k.started ∷ Value k.planned ∷ Value k.settled ∷ Value k.good ∷ []
+      ≡ Some k.started ∷ Some k.planned ∷ Some k.settled ∷ Some k.good ∷ []
   place-reads e =
       rw (
         e,
@@ -346,5 +346,5 @@ module _ (label : List ℕ) (k : Schedule) (b : ScheduleBounds k) where
       )
 
   pub wait-reads : in_event k ≡ true → starts_left k ≡ true → k.wait.0 < 2 ^ 32
-      → read_decimal 4294967295 (get_or (label ∷ next_place k) 2 []) ≡ Value k.wait.0
+      → read_decimal 4294967295 (get_or (label ∷ next_place k) 2 []) ≡ Some k.wait.0
   wait-reads e l h = rw (e, l) (decimal-reads-back 4294967295 k.wait.0 (omega arith) h)

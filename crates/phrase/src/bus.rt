@@ -28,7 +28,7 @@ fn put_answer(out: &mut [u8], at: usize, answer: Answer) -> usize
     ensures { PutEach out.old at (bus_answer answer) result out.new }
 {
     match answer {
-        Answer::Refused(refusal) => put_refusal(out, at, refusal.number()),
+        Answer::Refused(refusal) => put_refusal(out, at, refusal),
         Answer::Accepted(flight, temperature) => put_started(out, at, flight, temperature),
         _ => at,
     }

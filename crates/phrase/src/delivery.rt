@@ -18,7 +18,7 @@ fn put_answer(out: &mut [u8], at: usize, answer: Answer) -> usize
     ensures { PutEach out.old at (delivery_answer answer) result out.new }
 {
     match answer {
-        Answer::Refused(refusal) => put_refusal(out, at, refusal.number()),
+        Answer::Refused(refusal) => put_refusal(out, at, refusal),
         Answer::Good => numeral::put_text(out, at, b" good"),
         Answer::Failed => numeral::put_text(out, at, b" failed"),
         _ => at,

@@ -1,9 +1,11 @@
 // The set-up as frames.
+ghost use Rattle.refusal.specs.Number.{number};
 ghost use Rattle.wording.specs.Text.{PutEach};
 ghost use Rattle.wording.specs.Wording.{byte_texts, frame_texts, frames_head, frames_refused};
 
 use crate::end::put_count;
 use crate::kept::put_refused;
+use refusal::Refusal;
 
 // `frames K`, before its lines
 pub fn put_frames(out: &mut [u8], at: usize, n: u64) -> usize
@@ -34,8 +36,8 @@ fn put_bytes(out: &mut [u8], at: usize, bytes: &[u8]) -> usize
     place
 }
 
-pub fn put_frames_refused(out: &mut [u8], at: usize, number: u32) -> usize
-    ensures { PutEach out.old at (frames_refused number) result out.new }
+pub fn put_frames_refused(out: &mut [u8], at: usize, refusal: Refusal) -> usize
+    ensures { PutEach out.old at (frames_refused (number refusal)) result out.new }
 {
-    put_refused(out, at, b"frames", number)
+    put_refused(out, at, b"frames", refusal)
 }

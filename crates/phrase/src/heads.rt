@@ -1,5 +1,6 @@
 // The words with which answers begin, and answers that are few words.
 ghost use Rattle.std.specs.Prelude.{[], ◌∷◌};
+ghost use Rattle.refusal.specs.Number.{number};
 ghost use Rattle.wording.specs.Text.{PutEach};
 ghost use Rattle.wording.specs.Wording.{line_feed, numbered, tick_head, at_head, stretch, flight_kind, temperature_kind, delivery, place, expected, left_out, item_name};
 ghost use Rattle.wording.specs.Wording.{degrees_refused, listing_head, listing_refused, quietest_refused};
@@ -8,6 +9,7 @@ use crate::delivery::put_delivery;
 use crate::end::put_count;
 use crate::kept::put_refused;
 use device::Answer;
+use refusal::Refusal;
 use unit::Ticks;
 
 // `tick N`
@@ -60,22 +62,22 @@ pub fn put_listing(out: &mut [u8], at: usize, n: u64) -> usize
     put_count(out, a, n, b"\n")
 }
 
-pub fn put_degrees_refused(out: &mut [u8], at: usize, number: u32) -> usize
-    ensures { PutEach out.old at (degrees_refused number) result out.new }
+pub fn put_degrees_refused(out: &mut [u8], at: usize, refusal: Refusal) -> usize
+    ensures { PutEach out.old at (degrees_refused (number refusal)) result out.new }
 {
-    put_refused(out, at, b"degrees", number)
+    put_refused(out, at, b"degrees", refusal)
 }
 
-pub fn put_listing_refused(out: &mut [u8], at: usize, number: u32) -> usize
-    ensures { PutEach out.old at (listing_refused number) result out.new }
+pub fn put_listing_refused(out: &mut [u8], at: usize, refusal: Refusal) -> usize
+    ensures { PutEach out.old at (listing_refused (number refusal)) result out.new }
 {
-    put_refused(out, at, b"listing", number)
+    put_refused(out, at, b"listing", refusal)
 }
 
-pub fn put_quietest_refused(out: &mut [u8], at: usize, number: u32) -> usize
-    ensures { PutEach out.old at (quietest_refused number) result out.new }
+pub fn put_quietest_refused(out: &mut [u8], at: usize, refusal: Refusal) -> usize
+    ensures { PutEach out.old at (quietest_refused (number refusal)) result out.new }
 {
-    put_refused(out, at, b"quietest", number)
+    put_refused(out, at, b"quietest", refusal)
 }
 
 // The end of a line.

@@ -1,8 +1,10 @@
 // What stands beside the model: the probe table and the record.
+ghost use Rattle.refusal.specs.Number.{number};
 ghost use Rattle.wording.specs.Text.{PutEach};
 ghost use Rattle.wording.specs.Wording.{probe, degrees, refused, difference, difference_texts, record_texts, quietest};
 
 use crate::refusals::put_refusal;
+use refusal::Refusal;
 
 // `probe K`
 pub fn put_probe(out: &mut [u8], at: usize, entries: u64) -> usize
@@ -22,11 +24,11 @@ pub fn put_degrees(out: &mut [u8], at: usize, thousandths: u32) -> usize
 }
 
 // The word and a refusal.
-pub fn put_refused(out: &mut [u8], at: usize, word: &[u8], number: u32) -> usize
-    ensures { PutEach out.old at (refused word.now number) result out.new }
+pub fn put_refused(out: &mut [u8], at: usize, word: &[u8], refusal: Refusal) -> usize
+    ensures { PutEach out.old at (refused word.now (number refusal)) result out.new }
 {
     let a = numeral::put_text(out, at, word);
-    let b = put_refusal(out, a, number);
+    let b = put_refusal(out, a, refusal);
     numeral::put_text(out, b, b"\n")
 }
 

@@ -9,6 +9,7 @@ use device::{Answer, Report, StretchReport};
 use unit::Ticks;
 
 // No tick is named: a number beyond every tick of a stretch.
+// A number and no Option: the definition of the text is by this number, and puts what a report has for it.
 const NONE: Ticks = Ticks(4294967295);
 
 // What a single tick reports.
@@ -79,7 +80,7 @@ pub fn put_stretched(out: &mut [u8], at: usize, answer: Answer, n: Ticks) -> usi
     ensures { PutEach out.old at (stretched answer n.0) result out.new }
 {
     match answer {
-        Answer::Refused(refusal) => crate::refusals::put_refusal(out, at, refusal.number()),
+        Answer::Refused(refusal) => crate::refusals::put_refusal(out, at, refusal),
         Answer::Stretched(flight, temperature) => {
             let a = numeral::put_text(out, at, b" ");
             let b = numeral::put_decimal(out, a, n.0 as u64);

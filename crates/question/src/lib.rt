@@ -16,45 +16,34 @@ pub fn interrupt_pending(m: Model) -> Result<u32, Refusal>
     ensures { Says number_told value_told result (interrupt_pending m) }
 {
     if is_sound(m) {
-        let setup = m.setup;
-        let status = m.status;
-        if setup::interrupt_enabled(setup) {
-            if status_word(status) == 0 {
-                return Ok(0);
-            }
-            return Ok(1);
-        }
-        return Ok(0);
+        Ok(u32::from(setup::interrupt_enabled(m.setup) && status_word(m.status) != 0))
+    } else {
+        Err(Refusal::NotSound)
     }
-    Err(Refusal::NotSound)
 }
 
 fn awaited_told(m: Model, k: Schedule) -> Result<u32, Refusal>
     ensures { Says number_told value_told result (awaited_told m k) }
 {
     if is_sound(m) {
-        if is_awaited(k) {
-            return Ok(1);
-        }
-        return Ok(0);
+        Ok(u32::from(is_awaited(k)))
+    } else {
+        Err(Refusal::NotSound)
     }
-    Err(Refusal::NotSound)
 }
 
 // Whether a flight measurement is awaited: 1 or 0.
 pub fn flight_awaited(m: Model) -> Result<u32, Refusal>
     ensures { Says number_told value_told result (awaited_told m m.flight.schedule) }
 {
-    let f = m.flight;
-    awaited_told(m, f.schedule)
+    awaited_told(m, m.flight.schedule)
 }
 
 // Whether a temperature measurement is awaited: 1 or 0.
 pub fn temperature_awaited(m: Model) -> Result<u32, Refusal>
     ensures { Says number_told value_told result (awaited_told m m.temperature.schedule) }
 {
-    let t = m.temperature;
-    awaited_told(m, t.schedule)
+    awaited_told(m, m.temperature.schedule)
 }
 
 // Whether the regulator of the user flash is on: 1 or 0.
@@ -62,26 +51,21 @@ pub fn regulator_on(m: Model) -> Result<u32, Refusal>
     ensures { Says number_told value_told result (regulator_on m) }
 {
     if is_sound(m) {
-        if m.regulator {
-            return Ok(1);
-        }
-        return Ok(0);
+        Ok(u32::from(m.regulator))
+    } else {
+        Err(Refusal::NotSound)
     }
-    Err(Refusal::NotSound)
 }
 
 // The word that a read at address a, B0h to FFh, would give, with nothing cleared.
 pub fn peek(m: Model, a: u32) -> Result<u32, Refusal>
     ensures { Says number_told value_told result (peek m a) }
 {
-    if is_sound(m) {
-        if a < 0xb0 {
-            return Err(Refusal::Address);
-        }
-        if 0xff < a {
-            return Err(Refusal::Address);
-        }
-        return Ok(registers::read::register_word(m, a));
+    if !is_sound(m) {
+        return Err(Refusal::NotSound);
     }
-    Err(Refusal::NotSound)
+    if a < 0xb0 || 0xff < a {
+        return Err(Refusal::Address);
+    }
+    Ok(registers::read::register_word(m, a))
 }

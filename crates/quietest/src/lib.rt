@@ -28,6 +28,7 @@ pub fn quietest_place(values: &[i32], width: usize) -> Result<usize, Refusal>
 
 // That run, as a part of the caller's own list, with 0 in `number`; for a refusal its number there, and the empty part from the
 // list's start.
+// A number beside the part and no Result: a refusal hands a part back too, which `Handed` says.
 pub fn quietest<'a>(values: &'a [i32], width: usize, number: &mut u32) -> &'a [i32]
     ensures { Handed (quietest_place values.now width) width values.entry result × (number.new ≡ number_given (quietest_place values.now width)) }
 {

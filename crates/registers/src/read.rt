@@ -24,49 +24,27 @@ fn half(w: u32, place: u32) -> u32
 pub fn calendar_word(m: Model, a: u32) -> u32
     ensures { result ≡ calendar_word m a }
 {
-    let clock = m.clock;
-    if a == 0xb0 {
-        return clock::words::word30(clock);
+    match a {
+        0xb0 => clock::words::word30(m.clock),
+        0xb1 => clock::words::word31(m.clock),
+        0xb2 => clock::words::word32(m.clock),
+        _ => clock::words::word33(m.clock),
     }
-    if a == 0xb1 {
-        return clock::words::word31(clock);
-    }
-    if a == 0xb2 {
-        return clock::words::word32(clock);
-    }
-    clock::words::word33(clock)
 }
 
 // C4h to E6h.
 fn flight_word(f: Flight, a: u32) -> u32
     ensures { result ≡ flight_word f a }
 {
-    let k = f.schedule;
-    let ups = f.ups;
-    let downs = f.downs;
-    if a < 0xc5 {
-        return 0;
+    let good = u32::from(f.schedule.good);
+    match a {
+        0xc5..=0xd2 => half(f.ups[((a - 0xc5) / 2) as usize], a - 0xc5),
+        0xd4..=0xe1 => half(f.downs[((a - 0xd4) / 2) as usize], a - 0xd4),
+        0xe2..=0xe3 => half(f.difference, a - 0xe2),
+        0xe4 => good,
+        0xe5.. => half(difference_mean(f.sum, good), a - 0xe5),
+        _ => 0,
     }
-    if a < 0xd3 {
-        let place = (a - 0xc5) / 2;
-        let w = ups[place as usize];
-        return half(w, a - 0xc5);
-    }
-    if a < 0xd4 {
-        return 0;
-    }
-    if a < 0xe2 {
-        let place = (a - 0xd4) / 2;
-        let w = downs[place as usize];
-        return half(w, a - 0xd4);
-    }
-    if a < 0xe4 {
-        return half(f.difference, a - 0xe2);
-    }
-    if a == 0xe4 {
-        return k.good as u32;
-    }
-    half(difference_mean(f.sum, k.good as u32), a - 0xe5)
 }
 
 // E7h to F7h.
@@ -74,20 +52,12 @@ fn temperature_word(t: Temperature, a: u32) -> u32
     requires { (231 ≤ a) × (a ≤ 247) }
     ensures { result ≡ temperature_word t a }
 {
-    let k = t.schedule;
-    let ports = t.ports;
-    let sums = t.sums;
-    if a < 0xef {
-        let place = (a - 0xe7) / 2;
-        let w = ports[place as usize];
-        return half(w, a - 0xe7);
+    let good = u32::from(t.schedule.good);
+    match a {
+        ..=0xee => half(t.ports[((a - 0xe7) / 2) as usize], a - 0xe7),
+        0xef => good,
+        _ => half(port_mean(t.sums[((a - 0xf0) / 2) as usize], good), a - 0xf0),
     }
-    if a == 0xef {
-        return k.good as u32;
-    }
-    let place = (a - 0xf0) / 2;
-    let sum = sums[place as usize];
-    half(port_mean(sum, k.good as u32), a - 0xf0)
 }
 
 // The word at read address a, B0h to FFh.
@@ -95,26 +65,14 @@ pub fn register_word(m: Model, a: u32) -> u32
     requires { (176 ≤ a) × (a ≤ 255) }
     ensures { result ≡ register_word m a }
 {
-    let setup = m.setup;
-    let flight = m.flight;
-    let temperature = m.temperature;
-    let status = m.status;
-    if a < 0xb4 {
-        return calendar_word(m, a);
+    match a {
+        0xb0..=0xb3 => calendar_word(m, a),
+        0xb4..=0xc3 => setup::word(m.setup, (a - 0xb4) as usize),
+        0xc4..=0xe6 => flight_word(m.flight, a),
+        0xe7..=0xf7 => temperature_word(m.temperature, a),
+        0xfe => status_word(m.status),
+        _ => 0,
     }
-    if a < 0xc4 {
-        return setup::word(setup, (a - 0xb4) as usize);
-    }
-    if a < 0xe7 {
-        return flight_word(flight, a);
-    }
-    if a < 0xf8 {
-        return temperature_word(temperature, a);
-    }
-    if a == 0xfe {
-        return status_word(status);
-    }
-    0
 }
 
 // The two decimal digits of a number below 100, four bits each.
@@ -130,8 +88,7 @@ fn valid30(c: Clock) -> u32
     requires { (c.ticks.0 < 32768) × (c.second < 100) }
     ensures { result ≡ word30 c }
 {
-    let t = c.ticks;
-    digits(t.0 * 100 / 32768) * 256 + digits(c.second)
+    digits(c.ticks.0 * 100 / 32768) * 256 + digits(c.second)
 }
 
 fn valid31(c: Clock) -> u32
@@ -162,17 +119,12 @@ fn valid_word(m: Model, a: u32) -> u32
     requires { is_sound m ≡ true }
     ensures { result ≡ calendar_word m a }
 {
-    let clock = m.clock;
-    if a == 0xb0 {
-        return valid30(clock);
+    match a {
+        0xb0 => valid30(m.clock),
+        0xb1 => valid31(m.clock),
+        0xb2 => valid32(m.clock),
+        _ => valid33(m.clock),
     }
-    if a == 0xb1 {
-        return valid31(clock);
-    }
-    if a == 0xb2 {
-        return valid32(clock);
-    }
-    valid33(clock)
 }
 
 // B4h to C3h.
@@ -187,10 +139,7 @@ fn setup_word(setup: [u16; 16], a: u32) -> u32
 fn last_word(s: Status, a: u32) -> u32
     ensures { result ≡ pick (eqb a 0xFE) (status_word s) 0 }
 {
-    if a == 0xfe {
-        return status_word(s);
-    }
-    0
+    if a == 0xfe { status_word(s) } else { 0 }
 }
 
 fn put_word(out: &mut [u8], i: usize, w: u32)
@@ -252,14 +201,12 @@ pub fn read_model(m: Model, a: u32, n: usize) -> Model
     requires { a + n ≤ 256 }
     ensures { result ≡ read_model m a n }
 {
-    if 0xfe < a {
-        return m;
+    if a <= 0xfe && 0xfe < a + n as u32 {
+        Model {
+            status: no_bits(),
+            ..m
+        }
+    } else {
+        m
     }
-    if a + n as u32 <= 0xfe {
-        return m;
-    }
-    let mut next = m;
-    let status = no_bits();
-    next.status = status;
-    next
 }

@@ -1,9 +1,10 @@
 // A write of consecutive registers, judged as a whole.
-ghost use Rattle.std.specs.Prelude.{◌≡◌, ◌<◌, ◌≤◌, ◌+◌, ◌*◌, true, length};
+ghost use Rattle.std.specs.Prelude.{◌≡◌, ◌<◌, ◌≤◌, ◌+◌, ◌*◌, true, length, [], ◌∷◌};
 ghost use Rattle.unit.specs.Choice.{negate};
 ghost use Rattle.calendar.specs.Words.{alarm_valid};
 ghost use Rattle.setup.specs.Setup.{alarm_word};
 ghost use Rattle.device.specs.Model.{is_sound};
+ghost use Rattle.device.specs.Registers.{calendar_word};
 ghost use Rattle.device.specs.Write.{written, setup_after, ticks_after, clock_after, write_invalid, write_model};
 
 use crate::read::calendar_word;
@@ -16,13 +17,11 @@ fn written(words: &[u8], op: u32, n: usize, a: u32, current: u32) -> u32
     requires { (48 ≤ op) × (op + n ≤ 68) × (2 * n ≤ length words.now) }
     ensures { result ≡ written words.now op n a current }
 {
-    if a < op {
-        return current;
+    if op <= a && a < op + n as u32 {
+        frame::word_at(words, (a - op) as usize)
+    } else {
+        current
     }
-    if a < op + n as u32 {
-        return frame::word_at(words, (a - op) as usize);
-    }
-    current
 }
 
 // The set-up after the write; the calendar's registers are not in it.
@@ -45,24 +44,31 @@ fn ticks_after(m: Model, words: &[u8], op: u32, n: usize) -> Ticks
     requires { (48 ≤ op) × (op + n ≤ 68) × (2 * n ≤ length words.now) }
     ensures { result ≡ ticks_after words.now op n m }
 {
-    let clock = m.clock;
-    if 0x30 < op {
-        return clock.ticks;
+    if op <= 0x30 && 0x30 < op + n as u32 {
+        clock::words::ticks_in(frame::word_at(words, (0x30 - op) as usize))
+    } else {
+        m.clock.ticks
     }
-    if 0x30 < op + n as u32 {
-        return clock::words::ticks_in(frame::word_at(words, (0x30 - op) as usize));
-    }
-    clock.ticks
+}
+
+// The words of 30h to 33h after the write.
+fn calendar_after(m: Model, words: &[u8], op: u32, n: usize) -> [u32; 4]
+    requires { (48 ≤ op) × (op + n ≤ 68) × (2 * n ≤ length words.now) }
+    ensures { result ≡ written words.now op n 0x30 (calendar_word m 0xB0) ∷ written words.now op n 0x31 (calendar_word m 0xB1) ∷ written words.now op n 0x32 (calendar_word m 0xB2) ∷ written words.now op n 0x33 (calendar_word m 0xB3) ∷ [] }
+{
+    [
+        written(words, op, n, 0x30, calendar_word(m, 0xb0)),
+        written(words, op, n, 0x31, calendar_word(m, 0xb1)),
+        written(words, op, n, 0x32, calendar_word(m, 0xb2)),
+        written(words, op, n, 0x33, calendar_word(m, 0xb3)),
+    ]
 }
 
 fn clock_after(m: Model, words: &[u8], op: u32, n: usize) -> Clock
     requires { (48 ≤ op) × (op + n ≤ 68) × (2 * n ≤ length words.now) }
     ensures { result ≡ clock_after words.now op n m }
 {
-    let w30 = written(words, op, n, 0x30, calendar_word(m, 0xb0));
-    let w31 = written(words, op, n, 0x31, calendar_word(m, 0xb1));
-    let w32 = written(words, op, n, 0x32, calendar_word(m, 0xb2));
-    let w33 = written(words, op, n, 0x33, calendar_word(m, 0xb3));
+    let [w30, w31, w32, w33] = calendar_after(m, words, op, n);
     let ticks = ticks_after(m, words, op, n);
     clock::words::clock_from(w30, w31, w32, w33, ticks)
 }
@@ -76,15 +82,9 @@ pub fn write_invalid(m: Model, words: &[u8], op: u32, n: usize) -> bool
     if 0x33 < op {
         return alarm_invalid(m, words, op, n);
     }
-    let w30 = written(words, op, n, 0x30, calendar_word(m, 0xb0));
-    let w31 = written(words, op, n, 0x31, calendar_word(m, 0xb1));
-    let w32 = written(words, op, n, 0x32, calendar_word(m, 0xb2));
-    let w33 = written(words, op, n, 0x33, calendar_word(m, 0xb3));
+    let [w30, w31, w32, w33] = calendar_after(m, words, op, n);
     let ticks = ticks_after(m, words, op, n);
-    if clock::words::words_valid(w30, w31, w32, w33, ticks) {
-        return alarm_invalid(m, words, op, n);
-    }
-    true
+    !clock::words::words_valid(w30, w31, w32, w33, ticks) || alarm_invalid(m, words, op, n)
 }
 
 fn alarm_invalid(m: Model, words: &[u8], op: u32, n: usize) -> bool
@@ -92,29 +92,20 @@ fn alarm_invalid(m: Model, words: &[u8], op: u32, n: usize) -> bool
     ensures { result ≡ negate (alarm_valid (alarm_word (setup_after words.now op m.setup n))) }
 {
     // a write past 35h leaves the alarm valid
-    if 0x35 < op {
-        return false;
-    }
-    let old = m.setup;
-    let setup = setup_after(old, words, op, n);
-    if clock::words::alarm_valid(setup::alarm_word(setup)) {
-        return false;
-    }
-    true
+    op <= 0x35 && !clock::words::alarm_valid(setup::alarm_word(setup_after(m.setup, words, op, n)))
 }
 
 pub fn write_model(m: Model, words: &[u8], op: u32, n: usize) -> Model
     requires { (is_sound m ≡ true) × (48 ≤ op) × (op + n ≤ 68) × (2 * n ≤ length words.now) }
     ensures { result ≡ write_model words.now op n m }
 {
-    let old = m.setup;
-    let setup = setup_after(old, words, op, n);
-    let mut next = m;
-    next.setup = setup;
-    if 0x33 < op {
-        return next;
+    Model {
+        setup: setup_after(m.setup, words, op, n),
+        clock: if 0x33 < op {
+            m.clock
+        } else {
+            clock_after(m, words, op, n)
+        },
+        ..m
     }
-    let clock = clock_after(m, words, op, n);
-    next.clock = clock;
-    next
 }

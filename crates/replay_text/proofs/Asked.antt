@@ -13,7 +13,6 @@ use Rattle.numeral.specs.Digit.{digits}
 use Rattle.numeral.specs.Place.{joined}
 use Rattle.numeral.specs.Print.{decimal}
 use Rattle.numeral.specs.Read.{read_hex}
-use Rattle.numeral.specs.declared.Number.TheVariants.{Value as Number}
 use Rattle.hit.specs.Mean.{All}
 use Rattle.device.specs.declared.Model.{Model}
 use Rattle.device.specs.declared.Schedule.{Schedule}
@@ -56,7 +55,7 @@ use Rattle.replay_text.proofs.Bad.{line_adds}
 use Rattle.replay_text.proofs.Text.{check-left, good-line-text}
 use Rattle.replay_text.proofs.Carried.{is_carried, line-unmarked}
 use Rattle.replay_text.proofs.Order.{InOrder, order-line, order-first, order-lines}
-use Rattle.std.specs.Prelude.{Ok}
+use Rattle.std.specs.Prelude.{Ok, Some}
 
 -- ---- what each of these lines tells, and that it leaves the model
 
@@ -278,7 +277,7 @@ module _ (path : List ℕ) (before : List (List ℕ)) (line : List ℕ) where
 pub regs-back-asked : (path : List ℕ) (before : List (List ℕ)) (line : List ℕ) → expected_of line ≡ []
     → let here = each_line page_line before (first_page path false) in
     (read_on line here).content ≡ Content.Regs → (i j : ℕ) → i < 10 → j < 8
-    → read_hex 4 4 (take 4 (drop (43 * i + (3 + 5 * j)) (line_adds line here))) ≡ Number (register_word here.replay.state.model (0xB0 + 8 * i + j))
+    → read_hex 4 4 (take 4 (drop (43 * i + (3 + 5 * j)) (line_adds line here))) ≡ Some (register_word here.replay.state.model (0xB0 + 8 * i + j))
 regs-back-asked path before line unmarked is i j few less =
     let here = each_line page_line before (first_page path false) in
     rw (regs-word-asked path before line unmarked is i j few less)

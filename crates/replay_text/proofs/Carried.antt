@@ -8,8 +8,6 @@ use lib.Dec.{ltb, eqb}
 use lib.ListN.{get_or, take, drop}
 use Rattle.unit.proofs.Cases.{by-test}
 use Rattle.numeral.specs.Ascii.{ascii}
-use Rattle.numeral.specs.declared.Number.{Number}
-use Rattle.numeral.specs.declared.Number.TheVariants.{Value, Bad}
 use Rattle.numeral.specs.Read.{read_hex, read_decimal}
 use Rattle.line.specs.declared.Content.{Content}
 use Rattle.line.specs.declared.Content.TheVariants.{Bus, BusOut}
@@ -22,6 +20,7 @@ use Rattle.line.specs.Words.{words, same_bytes}
 use Rattle.line.specs.Numbers.{tallied}
 use Rattle.line.specs.Line.{Reading, byte_form, bytes_call, bytes_reading, is_out, out_reading, bus_reading, alone, numbered, decimal_with, decimal_call, flight_call, flight_reading, temperature_call, temperature_reading, set_call, set_words, set_from, set_reading, probe_call, probe_reading, degrees_call, degrees_reading, record_call, record_reading, hex_with, hex_call, listing_call, later_reading, keyword_of, keyword_reading, words_reading, words_expected, content_length, line_reading, line_expected}
 use Rattle.item_checks.specs.Close.{expected_of}
+use Rattle.std.specs.Prelude.{Option, Some, None}
 
 -- a line of another sort than these: no word, too long, `item`, `expect`, `show`
 unfoldable pub is_carried : Content → Bool
@@ -68,10 +67,10 @@ unfolding bytes_call is_carried
 bytes-carried content h Wrong = refl
 bytes-carried content h (All n k u) = cond-is Carried (ltb 200 n) refl (h n)
 
-out-carried : (r : Number) (l : List ℕ) (ws : List (List ℕ)) → CarriedLine (out_reading r l ws)
+out-carried : (r : Option ℕ) (l : List ℕ) (ws : List (List ℕ)) → CarriedLine (out_reading r l ws)
 unfolding out_reading bytes_reading is_carried
-out-carried Bad l ws = refl
-out-carried (Value b) l ws = bytes-carried (BusOut b) (λ n. refl) (tallied byte_form 0 0 0 l ws).tally
+out-carried None l ws = refl
+out-carried (Some b) l ws = bytes-carried (BusOut b) (λ n. refl) (tallied byte_form 0 0 0 l ws).tally
 
 bus-carried : (l : List ℕ) (ws : List (List ℕ)) → CarriedLine (bus_reading l ws)
 unfolding bus_reading bytes_reading is_carried
@@ -95,10 +94,10 @@ unfolding set_call is_carried
 set-carried a Wrong = refl
 set-carried a (All n k u) = cond-is Carried (ltb n 1) refl (cond-is Carried (ltb 99 n) refl refl)
 
-set-from-carried : (r : Number) (l : List ℕ) (ws : List (List ℕ)) → CarriedLine (set_from r l ws)
+set-from-carried : (r : Option ℕ) (l : List ℕ) (ws : List (List ℕ)) → CarriedLine (set_from r l ws)
 unfolding set_from set_words is_carried
-set-from-carried Bad l ws = refl
-set-from-carried (Value a) l ws = cond-is CarriedLine (ltb a 48) refl (cond-is CarriedLine (ltb 67 a) refl (set-carried a _))
+set-from-carried None l ws = refl
+set-from-carried (Some a) l ws = cond-is CarriedLine (ltb a 48) refl (cond-is CarriedLine (ltb 67 a) refl (set-carried a _))
 
 set-reading-carried : (l : List ℕ) (ws : List (List ℕ)) → CarriedLine (set_reading l ws)
 unfolding set_reading is_carried
@@ -132,20 +131,20 @@ numbered-carried Counted.At n = refl
 numbered-carried Counted.Stretch n = refl
 numbered-carried Counted.Quietest n = refl
 
-decimal-with-carried : (k : Counted) (r : Number) (ws : List (List ℕ)) → Carried (decimal_with k r ws)
+decimal-with-carried : (k : Counted) (r : Option ℕ) (ws : List (List ℕ)) → Carried (decimal_with k r ws)
 unfolding decimal_with is_carried
-decimal-with-carried k Bad ws = refl
-decimal-with-carried k (Value n) ws = alone-carried (numbered k n) (numbered-carried k n) ws
+decimal-with-carried k None ws = refl
+decimal-with-carried k (Some n) ws = alone-carried (numbered k n) (numbered-carried k n) ws
 
 decimal-carried : (k : Counted) (ws : List (List ℕ)) → Carried (decimal_call k ws)
 unfolding decimal_call is_carried
 decimal-carried k [] = refl
 decimal-carried k (w ∷ ws) = decimal-with-carried k (read_decimal 4294967295 w) ws
 
-hex-with-carried : (old : Bool) (r : Number) (ws : List (List ℕ)) → Carried (hex_with old r ws)
+hex-with-carried : (old : Bool) (r : Option ℕ) (ws : List (List ℕ)) → Carried (hex_with old r ws)
 unfolding hex_with is_carried
-hex-with-carried old Bad ws = refl
-hex-with-carried old (Value n) ws = alone-carried (Content.Listing old n) refl ws
+hex-with-carried old None ws = refl
+hex-with-carried old (Some n) ws = alone-carried (Content.Listing old n) refl ws
 
 hex-carried : (old : Bool) (ws : List (List ℕ)) → Carried (hex_call old ws)
 unfolding hex_call is_carried

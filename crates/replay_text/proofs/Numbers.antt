@@ -11,8 +11,6 @@ use lib.Seq.{get_or-set_same, get_or-set_other}
 use borrow.Author.Tests.{ltb-false, leb-true, eqb-true}
 use Rattle.numeral.specs.Ascii.{ascii}
 use Rattle.unit.proofs.Cases.{by_eqb}
-use Rattle.numeral.specs.declared.Number.{Number}
-use Rattle.numeral.specs.declared.Number.TheVariants.{Value, Bad}
 use Rattle.numeral.specs.Read.{read_hex, read_decimal}
 use Rattle.line.specs.declared.Content.{Content}
 use Rattle.line.specs.declared.Content.TheVariants.{Bus, BusOut}
@@ -28,6 +26,7 @@ use Rattle.line.specs.Words.{words, same_bytes}
 use Rattle.line.specs.Numbers.{is_slash, list_word, of_number, on_list_word, Outcome, tallied}
 use Rattle.line.specs.Decimals.{decimal_of, on_number, listed}
 use Rattle.line.specs.Line.{Reading, reading, read_by, every, byte_form, bytes_call, bytes_reading, is_out, out_reading, bus_reading, item_call, alone, numbered, decimal_with, decimal_call, flight_call, flight_reading, temperature_call, temperature_reading, expect_form, expect_call, expect_words, expect_from, expect_reading, set_form, set_call, set_words, set_from, set_reading, probe_call, probe_reading, pair_form, degrees_call, degrees_reading, record_call, record_reading, hex_with, hex_call, listing_call, word_form, later_reading, keyword_of, keyword_reading, words_reading, content_length, line_reading}
+use Rattle.std.specs.Prelude.{Option, Some, None}
 
 -- How many numbers a line's call takes, from the first on.
 unfoldable pub used_of : Content → ℕ
@@ -95,11 +94,11 @@ past-behind : (f : Form) (n : ℕ) (w : List ℕ) → list_word f n w ≡ Past �
 unfolding list_word
 past-behind f n w = go (is_slash f.slash w) (leb f.looked n) refl (read_hex f.least f.most w)
   where
-    go : (t b : Bool) → leb f.looked n ≡ b → (r : Number) → cond t Slash (cond b Past (of_number r)) ≡ Past → f.looked ≤ n
+    go : (t b : Bool) → leb f.looked n ≡ b → (r : Option ℕ) → cond t Slash (cond b Past (of_number r)) ≡ Past → f.looked ≤ n
     go true b h r e = let z : ◌≡◌ {A = ℕ} 0 1 = cc in absurd (omega arith)
     go false true h r e = leb-true f.looked n h
-    go false false h (Value v) e = let z : ◌≡◌ {A = ℕ} 0 1 = cc in absurd (omega arith)
-    go false false h Bad e = let z : ◌≡◌ {A = ℕ} 0 1 = cc in absurd (omega arith)
+    go false false h (Some v) e = let z : ◌≡◌ {A = ℕ} 0 1 = cc in absurd (omega arith)
+    go false false h None e = let z : ◌≡◌ {A = ℕ} 0 1 = cc in absurd (omega arith)
 
 -- A number more in both.
 stored-alike : (l l' : List ℕ) (n v : ℕ) (looked : ℕ → Type 0) → length l ≡ length l' → ((i : ℕ) → i < n → looked i → get_or l i 0 ≡ get_or l' i 0)
@@ -145,13 +144,13 @@ listed-alike size signed [] n l l' kept long each =
 listed-alike size signed (w ∷ ws) n l l' kept long each =
     go (decimal_of signed w) (λ v. listed-alike size signed ws (n + 1) (set l n v) (set l' n v))
   where
-    go : (x : Number)
+    go : (x : Option ℕ)
         → ((v : ℕ) → length (set l n v) ≡ size → length (set l n v) ≡ length (set l' n v) → ((i : ℕ) → i < n + 1 → all i → get_or (set l n v) i 0 ≡ get_or (set l' n v) i 0)
         → SameOutcome size all (listed signed (n + 1) (set l n v) ws) (listed signed (n + 1) (set l' n v) ws))
         → SameOutcome size all (on_number x (λ v. listed signed (n + 1) (set l n v) ws) (record { tally = Wrong; numbers = l }))
         (on_number x (λ v. listed signed (n + 1) (set l' n v) ws) (record { tally = Wrong; numbers = l' }))
-    go (Value v) rest = rest v (length-set l n v ∙ kept) (rw (length-set l n v, length-set l' n v) long) (stored-alike l l' n v all long each)
-    go Bad rest = record { tally = refl; ordered = tt; kept = kept; long = long; each = λ i h. absurd h }
+    go (Some v) rest = rest v (length-set l n v ∙ kept) (rw (length-set l n v, length-set l' n v) long) (stored-alike l l' n v all long each)
+    go None rest = record { tally = refl; ordered = tt; kept = kept; long = long; each = λ i h. absurd h }
 
 -- ---- what a line holds
 
@@ -253,20 +252,20 @@ numbered-none Counted.At n = refl
 numbered-none Counted.Stretch n = refl
 numbered-none Counted.Quietest n = refl
 
-decimal-with-none : (k : Counted) (r : Number) (ws : List (List ℕ)) → used_of (decimal_with k r ws) ≡ 0
+decimal-with-none : (k : Counted) (r : Option ℕ) (ws : List (List ℕ)) → used_of (decimal_with k r ws) ≡ 0
 unfolding decimal_with used_of
-decimal-with-none k Bad ws = refl
-decimal-with-none k (Value n) ws = alone-none (numbered k n) (numbered-none k n) ws
+decimal-with-none k None ws = refl
+decimal-with-none k (Some n) ws = alone-none (numbered k n) (numbered-none k n) ws
 
 decimal-none : (k : Counted) (ws : List (List ℕ)) → used_of (decimal_call k ws) ≡ 0
 unfolding decimal_call used_of
 decimal-none k [] = refl
 decimal-none k (w ∷ ws) = decimal-with-none k (read_decimal 4294967295 w) ws
 
-hex-with-none : (old : Bool) (r : Number) (ws : List (List ℕ)) → used_of (hex_with old r ws) ≡ 0
+hex-with-none : (old : Bool) (r : Option ℕ) (ws : List (List ℕ)) → used_of (hex_with old r ws) ≡ 0
 unfolding hex_with used_of
-hex-with-none old Bad ws = refl
-hex-with-none old (Value n) ws = alone-none (Content.Listing old n) refl ws
+hex-with-none old None ws = refl
+hex-with-none old (Some n) ws = alone-none (Content.Listing old n) refl ws
 
 hex-none : (old : Bool) (ws : List (List ℕ)) → used_of (hex_call old ws) ≡ 0
 unfolding hex_call used_of
@@ -309,20 +308,20 @@ module _ (l l' : List ℕ) (long : length l ≡ length l') where
   unfolding bytes_reading
   bytes-alike content used ws = hex-alike byte_form (bytes_call content) ws (bytes-within content used)
 
-  out-alike : (r : Number) (ws : List (List ℕ)) → SameReading (length l) (out_reading r l ws) (out_reading r l' ws)
+  out-alike : (r : Option ℕ) (ws : List (List ℕ)) → SameReading (length l) (out_reading r l ws) (out_reading r l' ws)
   unfolding out_reading used_of
-  out-alike Bad ws = plain Content.BadNumber refl
-  out-alike (Value b) ws = bytes-alike (BusOut b) (λ n. refl) ws
+  out-alike None ws = plain Content.BadNumber refl
+  out-alike (Some b) ws = bytes-alike (BusOut b) (λ n. refl) ws
 
   bus-alike : (ws : List (List ℕ)) → SameReading (length l) (bus_reading l ws) (bus_reading l' ws)
   unfolding bus_reading used_of
   bus-alike [] = bytes-alike Bus (λ n. refl) []
   bus-alike (w ∷ ws) = cond-alike (is_out w) (out-alike (read_decimal 200 (drop 4 w)) ws) (bytes-alike Bus (λ n. refl) (w ∷ ws))
 
-  expect-from-alike : (r : Number) (ws : List (List ℕ)) → SameReading (length l) (expect_from r l ws) (expect_from r l' ws)
+  expect-from-alike : (r : Option ℕ) (ws : List (List ℕ)) → SameReading (length l) (expect_from r l ws) (expect_from r l' ws)
   unfolding expect_from expect_words used_of
-  expect-from-alike Bad ws = plain Content.BadNumber refl
-  expect-from-alike (Value a) ws =
+  expect-from-alike None ws = plain Content.BadNumber refl
+  expect-from-alike (Some a) ws =
       cond-alike (ltb a 176) (plain Content.BadNumber refl)
       (cond-alike (ltb 255 a) (plain Content.BadNumber refl) (hex-alike (expect_form a) (expect_call a) ws (expect-within a)))
 
@@ -331,10 +330,10 @@ module _ (l l' : List ℕ) (long : length l ≡ length l') where
   expect-alike [] = plain Content.WrongCount refl
   expect-alike (w ∷ ws) = expect-from-alike (read_hex 2 2 w) ws
 
-  set-from-alike : (r : Number) (ws : List (List ℕ)) → SameReading (length l) (set_from r l ws) (set_from r l' ws)
+  set-from-alike : (r : Option ℕ) (ws : List (List ℕ)) → SameReading (length l) (set_from r l ws) (set_from r l' ws)
   unfolding set_from set_words used_of
-  set-from-alike Bad ws = plain Content.BadNumber refl
-  set-from-alike (Value a) ws =
+  set-from-alike None ws = plain Content.BadNumber refl
+  set-from-alike (Some a) ws =
       cond-alike (ltb a 48) (plain Content.BadNumber refl)
       (cond-alike (ltb 67 a) (plain Content.BadNumber refl) (hex-alike set_form (set_call a) ws (set-within a)))
 

@@ -6,8 +6,6 @@ use mathlib.Core.List.{List, [], ◌∷◌}
 use lib.Dec.{ltb, eqb}
 use lib.ListN.{get_or, take, drop}
 use Rattle.numeral.specs.Ascii.{ascii}
-use Rattle.numeral.specs.declared.Number.{Number}
-use Rattle.numeral.specs.declared.Number.TheVariants.{Value, Bad}
 use Rattle.numeral.specs.Read.{read_hex, read_decimal}
 use Rattle.numeral.proofs.DigitLaws.{decimal-at-most}
 use Rattle.line.specs.declared.Content.{Content}
@@ -20,6 +18,7 @@ use Rattle.line.specs.Mark.{takes_mark, call_words}
 use Rattle.line.specs.Words.{words, same_bytes}
 use Rattle.line.specs.Numbers.{tallied}
 use Rattle.line.specs.Line.{Reading, reading, byte_form, bytes_call, bytes_reading, is_out, out_reading, bus_reading, item_call, alone, numbered, decimal_with, decimal_call, flight_call, flight_reading, temperature_call, temperature_reading, expect_call, expect_words, expect_from, expect_reading, set_call, set_words, set_from, set_reading, probe_call, probe_reading, degrees_call, degrees_reading, record_call, record_reading, hex_with, hex_call, listing_call, later_reading, keyword_of, keyword_reading, words_reading, content_length, line_reading}
+use Rattle.std.specs.Prelude.{Option, Some, None}
 
 -- `tick N` and `at T`
 unfoldable pub is_ticks : Content → Bool
@@ -66,10 +65,10 @@ unfolding bytes_call is_ticks
 bytes-other content h Wrong = refl
 bytes-other content h (All n k u) = cond_cases Other (ltb 200 n) (λ _. refl) (λ _. h n)
 
-out-other : (r : Number) (l : List ℕ) (ws : List (List ℕ)) → OtherLine (out_reading r l ws)
+out-other : (r : Option ℕ) (l : List ℕ) (ws : List (List ℕ)) → OtherLine (out_reading r l ws)
 unfolding out_reading bytes_reading is_ticks
-out-other Bad l ws = refl
-out-other (Value b) l ws = bytes-other (BusOut b) (λ n. refl) (tallied byte_form 0 0 0 l ws).tally
+out-other None l ws = refl
+out-other (Some b) l ws = bytes-other (BusOut b) (λ n. refl) (tallied byte_form 0 0 0 l ws).tally
 
 bus-other : (l : List ℕ) (ws : List (List ℕ)) → OtherLine (bus_reading l ws)
 unfolding bus_reading bytes_reading is_ticks
@@ -95,10 +94,10 @@ expect-other a Wrong = refl
 expect-other a (All n k u) =
     cond_cases Other (ltb n 1) (λ _. refl) (λ _. cond_cases Other (ltb (256 - a) n) (λ _. refl) (λ _. refl))
 
-expect-from-other : (r : Number) (l : List ℕ) (ws : List (List ℕ)) → OtherLine (expect_from r l ws)
+expect-from-other : (r : Option ℕ) (l : List ℕ) (ws : List (List ℕ)) → OtherLine (expect_from r l ws)
 unfolding expect_from expect_words is_ticks
-expect-from-other Bad l ws = refl
-expect-from-other (Value a) l ws =
+expect-from-other None l ws = refl
+expect-from-other (Some a) l ws =
     cond_cases OtherLine (ltb a 176) (λ _. refl) (λ _. cond_cases OtherLine (ltb 255 a) (λ _. refl) (λ _. expect-other a _))
 
 expect-reading-other : (l : List ℕ) (ws : List (List ℕ)) → OtherLine (expect_reading l ws)
@@ -111,10 +110,10 @@ unfolding set_call is_ticks
 set_other a Wrong = refl
 set_other a (All n k u) = cond_cases Other (ltb n 1) (λ _. refl) (λ _. cond_cases Other (ltb 99 n) (λ _. refl) (λ _. refl))
 
-set-from-other : (r : Number) (l : List ℕ) (ws : List (List ℕ)) → OtherLine (set_from r l ws)
+set-from-other : (r : Option ℕ) (l : List ℕ) (ws : List (List ℕ)) → OtherLine (set_from r l ws)
 unfolding set_from set_words is_ticks
-set-from-other Bad l ws = refl
-set-from-other (Value a) l ws =
+set-from-other None l ws = refl
+set-from-other (Some a) l ws =
     cond_cases OtherLine (ltb a 48) (λ _. refl) (λ _. cond_cases OtherLine (ltb 67 a) (λ _. refl) (λ _. set_other a _))
 
 set-reading-other : (l : List ℕ) (ws : List (List ℕ)) → OtherLine (set_reading l ws)
@@ -289,11 +288,11 @@ numbered-bounded Counted.At n h = h
 numbered-bounded Counted.Stretch n h = tt
 numbered-bounded Counted.Quietest n h = tt
 
-decimal-with-bounded : (k : Counted) (r : Number) → ((n : ℕ) → r ≡ Value n → n ≤ 4294967295) → (ws : List (List ℕ))
+decimal-with-bounded : (k : Counted) (r : Option ℕ) → ((n : ℕ) → r ≡ Some n → n ≤ 4294967295) → (ws : List (List ℕ))
     → TicksBounded (decimal_with k r ws)
 unfolding decimal_with
-decimal-with-bounded k Bad h ws = tt
-decimal-with-bounded k (Value n) h ws = alone-bounded (numbered k n) (numbered-bounded k n (h n refl)) ws
+decimal-with-bounded k None h ws = tt
+decimal-with-bounded k (Some n) h ws = alone-bounded (numbered k n) (numbered-bounded k n (h n refl)) ws
 
 decimal-bounded : (k : Counted) (ws : List (List ℕ)) → TicksBounded (decimal_call k ws)
 unfolding decimal_call
@@ -301,10 +300,10 @@ decimal-bounded k [] = tt
 decimal-bounded k (w ∷ ws) =
     decimal-with-bounded k (read_decimal 4294967295 w) (λ n e. decimal-at-most 4294967295 w n e) ws
 
-hex-with-bounded : (old : Bool) (r : Number) (ws : List (List ℕ)) → TicksBounded (hex_with old r ws)
+hex-with-bounded : (old : Bool) (r : Option ℕ) (ws : List (List ℕ)) → TicksBounded (hex_with old r ws)
 unfolding hex_with
-hex-with-bounded old Bad ws = tt
-hex-with-bounded old (Value n) ws = alone-bounded (Content.Listing old n) tt ws
+hex-with-bounded old None ws = tt
+hex-with-bounded old (Some n) ws = alone-bounded (Content.Listing old n) tt ws
 
 hex-bounded : (old : Bool) (ws : List (List ℕ)) → TicksBounded (hex_call old ws)
 unfolding hex_call

@@ -10,7 +10,6 @@ use lib.ListN.{get_or}
 use Rattle.unit.proofs.Cases.{by-test}
 use Rattle.hit.specs.Words.{no_quanta}
 use Rattle.hit.specs.Difference.{difference_mean, port_mean}
-use Rattle.numeral.specs.declared.Number.TheVariants.{Value}
 use Rattle.numeral.specs.Digit.{digits}
 use Rattle.numeral.specs.Read.{read_hex}
 use Rattle.device.specs.declared.Model.{Model}
@@ -41,6 +40,7 @@ use Rattle.line_text.specs.Text.{head_of}
 use Rattle.line_room.proofs.RegisterWords.{ticked-words, call-words}
 use Rattle.replay_text.specs.Replay.{TickLine, tick_lines, ticks_done, done_by, opening, done_whole, Page, content_page, page_line, first_page, last_page}
 use Rattle.replay_text.proofs.Sound.{sound-first, sound-lines}
+use Rattle.std.specs.Prelude.{Some}
 
 -- ---- one line
 
@@ -100,16 +100,16 @@ module _ (path : List ℕ) (check : Bool) (ls : List (List ℕ)) where
       (λ e. by-test (ltb 0xFF a) (λ f. rw (e, f) (omega arith)) (λ f. rw (e, f) (registers-small a))))
 
   -- A word's four digits, as `regs` prints them, read back as it.
-  pub registers-back : (a : ℕ) → read_hex 4 4 (digits 16 4 (read_word model a)) ≡ Value (read_word model a)
+  pub registers-back : (a : ℕ) → read_hex 4 4 (digits 16 4 (read_word model a)) ≡ Some (read_word model a)
   registers-back a = reads-back (read_word model a) (read_small a)
 
   -- So do the words of the rows of `show`, of one register and of a pair.
-  pub row_back : (label : List ℕ) (a : ℕ) (meaning : Texts) → read_hex 4 4 (get_or (register_row label (read_word model a) meaning) 1 []) ≡ Value (read_word model a)
+  pub row_back : (label : List ℕ) (a : ℕ) (meaning : Texts) → read_hex 4 4 (get_or (register_row label (read_word model a) meaning) 1 []) ≡ Some (read_word model a)
   row_back label a meaning = word_back label (read_word model a) meaning (read_small a)
 
   pub pair-row-back : (label : List ℕ) (a : ℕ) (meaning : Texts)
-      → (read_hex 4 4 (get_or (pair_row label (pair_word model a) meaning) 1 []) ≡ Value (pair_word model a / 65536))
-      × (read_hex 4 4 (get_or (pair_row label (pair_word model a) meaning) 3 []) ≡ Value (pair_word model a % 65536))
+      → (read_hex 4 4 (get_or (pair_row label (pair_word model a) meaning) 1 []) ≡ Some (pair_word model a / 65536))
+      × (read_hex 4 4 (get_or (pair_row label (pair_word model a) meaning) 3 []) ≡ Some (pair_word model a % 65536))
   unfolding pair_word
   pair-row-back label a meaning = pair-back label (pair_word model a) meaning (omega arith)
 

@@ -80,10 +80,9 @@ pub fn good_sums(t: Temperature, w: [u32; 4]) -> [Quanta; 4]
     requires { temperature_sound t ≡ true }
     ensures { result ≡ good_sums t w }
 {
-    let k = t.schedule;
-    let sums = t.sums;
-    if k.settled < k.planned {
-        return plus_each(sums, w);
+    if t.schedule.settled < t.schedule.planned {
+        plus_each(t.sums, w)
+    } else {
+        t.sums
     }
-    sums
 }

@@ -11,7 +11,7 @@ use Rattle.device.specs.Bus.{initialised_model}
 use Rattle.device.proofs.Sound.{fresh-sound}
 use Rattle.run_state.specs.State.{initialised_told, left_told}
 use Rattle.run_state.specs.Event.{place_by, next_start, place_of, place_told}
-use Rattle.std.specs.Prelude.{Option, Some, None, Result, Ok, Err}
+use Rattle.std.specs.Prelude.{Some, None, Ok}
 
 initialised-is : (m : Model) → is_sound m ≡ true → initialised_told m ≡ pick m.initialised (Ok 1) (Ok 0)
 unfolding initialised_told

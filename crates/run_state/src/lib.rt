@@ -16,6 +16,7 @@ use unit::Ticks;
 
 // The place of an event: how many measurements it makes, or a group of a continuous one; how many of them, or of the current group,
 // are started, settled and good; and the ticks until the next start, 0 where all are started.
+// No Option of ticks: `next_start` of specs/Event says 0 ticks.
 #[derive(Clone, Copy)]
 pub struct Place {
     pub planned: u8,
@@ -29,38 +30,32 @@ pub struct Place {
 fn left_told(m: Model, k: Schedule) -> Result<Ticks, Refusal>
     ensures { Says number_told values_left result (left_told m k) }
 {
-    let left = k.left;
     if is_sound(m) {
-        return Ok(left);
+        Ok(k.left)
+    } else {
+        Err(Refusal::NotSound)
     }
-    Err(Refusal::NotSound)
 }
 
 // In how many ticks the awaited flight measurement fails; 0 where none is awaited.
 pub fn flight_left(m: Model) -> Result<Ticks, Refusal>
     ensures { Says number_told values_left result (left_told m m.flight.schedule) }
 {
-    let f = m.flight;
-    left_told(m, f.schedule)
+    left_told(m, m.flight.schedule)
 }
 
 // In how many ticks the awaited temperature measurement fails; 0 where none is awaited.
 pub fn temperature_left(m: Model) -> Result<Ticks, Refusal>
     ensures { Says number_told values_left result (left_told m m.temperature.schedule) }
 {
-    let t = m.temperature;
-    left_told(m, t.schedule)
+    left_told(m, m.temperature.schedule)
 }
 
 fn next_start(k: Schedule) -> Ticks
     ensures { result ≡ next_start k }
 {
-    let wait = k.wait;
-    if k.continuous {
-        return wait;
-    }
-    if k.started < k.planned {
-        wait
+    if k.continuous || k.started < k.planned {
+        k.wait
     } else {
         Ticks(0)
     }
@@ -69,13 +64,12 @@ fn next_start(k: Schedule) -> Ticks
 fn place_of(k: Schedule) -> Place
     ensures { result ≡ place_of k }
 {
-    let next = next_start(k);
     Place {
         planned: k.planned,
         started: k.started,
         settled: k.settled,
         good: k.good,
-        next,
+        next: next_start(k),
         continuous: k.continuous,
     }
 }
@@ -83,29 +77,27 @@ fn place_of(k: Schedule) -> Place
 fn place_told(m: Model, k: Schedule) -> Result<Option<Place>, Refusal>
     ensures { Says number_told values_placed result (place_told m k) }
 {
-    if is_sound(m) {
-        if in_event(k) {
-            return Ok(Some(place_of(k)));
-        }
-        return Ok(None);
+    if !is_sound(m) {
+        Err(Refusal::NotSound)
+    } else if in_event(k) {
+        Ok(Some(place_of(k)))
+    } else {
+        Ok(None)
     }
-    Err(Refusal::NotSound)
 }
 
 // The place of the event of differences, where one runs.
 pub fn flight_place(m: Model) -> Result<Option<Place>, Refusal>
     ensures { Says number_told values_placed result (place_told m m.flight.schedule) }
 {
-    let f = m.flight;
-    place_told(m, f.schedule)
+    place_told(m, m.flight.schedule)
 }
 
 // The place of the event of temperatures, where one runs.
 pub fn temperature_place(m: Model) -> Result<Option<Place>, Refusal>
     ensures { Says number_told values_placed result (place_told m m.temperature.schedule) }
 {
-    let t = m.temperature;
-    place_told(m, t.schedule)
+    place_told(m, m.temperature.schedule)
 }
 
 // Whether the model is initialised: 1 or 0.
@@ -113,10 +105,8 @@ pub fn initialised(m: Model) -> Result<u32, Refusal>
     ensures { Says number_told value_told result (initialised_told m) }
 {
     if is_sound(m) {
-        if m.initialised {
-            return Ok(1);
-        }
-        return Ok(0);
+        Ok(u32::from(m.initialised))
+    } else {
+        Err(Refusal::NotSound)
     }
-    Err(Refusal::NotSound)
 }

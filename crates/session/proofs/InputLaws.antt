@@ -11,7 +11,9 @@ use lib.Seq.{length-take-le, take_all, take-take, take-add, take-suc-set, drop_a
 use Rattle.std.specs.Prelude.{Result, Ok, Err}
 use Rattle.line_buffer.specs.Lines.{has_line}
 use Rattle.session.specs.Flush.{line_ending}
-use Rattle.session.specs.Input.{state_after, bytes_after, over_from, ReadOn, WentOn}
+use Rattle.session.specs.Input.{number_of, state_after, bytes_after, over_from, ReadOn, WentOn}
+use Rattle.session.specs.declared.input.InputState.{InputState}
+use Rattle.session.specs.declared.input.InputState.TheVariants.{More, Ended, Unreadable, Done, BrokenOff}
 
 -- ---- a line feed behind bytes that are held
 
@@ -99,6 +101,14 @@ pub line_known : (part : List ℕ) (from end : ℕ) {first bytes : List ℕ} {an
 line_known part from end a b known is = rw (← a, ← b) (sym known ∙ is)
 
 -- ---- the cases of what is done between two turns
+
+-- The number 0 is that of one case alone.
+pub more-is : (state : InputState) → number_of state ≡ 0 → state ≡ More
+more-is More e = refl
+more-is Ended e = cc
+more-is Unreadable e = cc
+more-is Done e = cc
+more-is BrokenOff e = cc
 
 read-failed : (held : List ℕ) → ReadOn held 2 []
 read-failed held =

@@ -5,10 +5,20 @@
 use Rattle.std.specs.Prelude.{ℕ, zero, suc, ◌+◌, ◌-◌, ◌≤◌, ◌<◌, min, Bool, true, false, cond, List, [], ◌++◌, ◌≡◌, eqb, ltb, Result, Ok, Err, length, take, drop}
 use Rattle.line_buffer.specs.Lines.{has_line}
 use Rattle.session.specs.Flush.{line_ending}
+use Rattle.session.specs.declared.input.InputState.{InputState}
+use Rattle.session.specs.declared.input.InputState.TheVariants.{More, Ended, Unreadable, Done, BrokenOff}
 
 -- The bytes of a buffer that are to be answered: from one place to before another.
 abbrev pub to_answer : ℕ → ℕ → List ℕ → List ℕ
 to_answer from end part = drop from (take end part)
+
+-- The number of each state of the code.
+abbrev pub number_of : InputState → ℕ
+number_of More = 0
+number_of Ended = 1
+number_of Unreadable = 2
+number_of Done = 3
+number_of BrokenOff = 4
 
 -- ---- reading on
 

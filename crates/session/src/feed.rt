@@ -6,7 +6,7 @@ ghost use Rattle.session.specs.Turns.{Replayed};
 
 use crate::ends::{begin, end};
 use crate::flush::flush;
-use crate::input::{Input, MORE, go_on, is_going, is_whole};
+use crate::input::{Input, InputState, go_on, is_going, is_whole};
 use crate::lines::answer_line;
 use crate::unread::Errors;
 use collection::Outcome;
@@ -49,7 +49,7 @@ pub fn replay(
     let mut input = Input {
         from: 0,
         end: 0,
-        state: MORE,
+        state: InputState::More,
     };
     begin(path, check, &mut counts, &mut names);
     for _ in 0..u64::MAX {

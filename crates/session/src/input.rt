@@ -1,7 +1,7 @@
 // What is read, and what of it is to be answered next.
 ghost use Rattle.std.specs.Prelude.{◌≡◌, ◌-◌, ◌≤◌, ◌<◌, length, take, drop};
 ghost use Rattle.session.specs.Flush.{line_ending};
-ghost use Rattle.session.specs.Input.{to_answer, state_after, bytes_after, goes_on, was_whole, over_from, ReadOn, WentOn};
+ghost use Rattle.session.specs.Input.{to_answer, state_after, bytes_after, goes_on, was_whole, over_from, number_of, ReadOn, WentOn};
 
 use crate::unread::{Errors, tell_unread};
 use item_state::output::{bytes_from, first_bytes};
@@ -14,33 +14,34 @@ use std::io::Read;
 pub struct Input {
     pub from: usize,
     pub end: usize,
-    pub state: u8,
+    pub state: InputState,
 }
 
 // The file may have more bytes; it has none; it can't be read; and there is nothing left to answer either, of a file read to its end or
 // not.
-pub const MORE: u8 = 0;
-
-const ENDED: u8 = 1;
-
-const UNREADABLE: u8 = 2;
-
-const DONE: u8 = 3;
-
-const BROKEN_OFF: u8 = 4;
+#[derive(Clone, Copy, PartialEq, Eq)]
+pub enum InputState {
+    More,
+    Ended,
+    Unreadable,
+    Done,
+    BrokenOff,
+}
 
 // Whether there is something to answer or to read.
+#[tactic(auto, unfolding(crate::specs::Input::goes_on))]
 pub fn is_going(input: Input) -> bool
-    ensures { result ≡ goes_on input.state }
+    ensures { result ≡ goes_on (number_of input.state) }
 {
-    input.state < DONE
+    !matches!(input.state, InputState::Done | InputState::BrokenOff)
 }
 
 // Whether the file was read to its end, and all of it is answered.
+#[tactic(auto, unfolding(crate::specs::Input::was_whole))]
 pub fn is_whole(input: Input) -> bool
-    ensures { result ≡ was_whole input.state }
+    ensures { result ≡ was_whole (number_of input.state) }
 {
-    input.state == DONE
+    input.state == InputState::Done
 }
 
 // What is to be answered next: a line that is left in the buffer, or, where none is, what is read on. As many bytes as `left` says are
@@ -54,7 +55,7 @@ pub fn go_on(
     left: usize,
 ) -> Input
     requires { (1002 < length part.old) × (input.end ≤ length part.old) × (left ≤ input.end) }
-    ensures { WentOn (drop (input.end - left) (take input.end part.old)) input.state result.state (to_answer result.from result.end part.new) × (result.end ≤ length part.new) }
+    ensures { WentOn (drop (input.end - left) (take input.end part.old)) (number_of input.state) (number_of result.state) (to_answer result.from result.end part.new) × (result.end ≤ length part.new) }
 {
     let end = input.end;
     let state = input.state;
@@ -62,7 +63,7 @@ pub fn go_on(
     if has_line(bytes_from(first_bytes(part, end), from)) {
         return Input { from, end, state };
     }
-    if state != MORE {
+    if state != InputState::More {
         return Input {
             from: 0,
             end: 0,
@@ -74,13 +75,13 @@ pub fn go_on(
 }
 
 // There is nothing left to answer.
-fn over(state: u8) -> u8
-    ensures { result ≡ over_from state }
+#[tactic(auto, unfolding(crate::specs::Input::over_from))]
+fn over(state: InputState) -> InputState
+    ensures { number_of result ≡ over_from (number_of state) }
 {
-    if state == UNREADABLE {
-        BROKEN_OFF
-    } else {
-        DONE
+    match state {
+        InputState::Unreadable => InputState::BrokenOff,
+        _ => InputState::Done,
     }
 }
 
@@ -93,7 +94,7 @@ fn read_more(
     held: usize,
 ) -> Input
     requires { held < length part.old }
-    ensures { ReadOn (take held part.old) result.state (to_answer result.from result.end part.new) × (result.end ≤ length part.new) }
+    ensures { ReadOn (take held part.old) (number_of result.state) (to_answer result.from result.end part.new) × (result.end ≤ length part.new) }
 {
     let got = file.read(&mut part[held..]);
     after_read(rt, got, path, part, held)
@@ -109,7 +110,7 @@ fn after_read(
     held: usize,
 ) -> Input
     requires { held < length part.old }
-    ensures { (result.state ≡ state_after got) × (to_answer result.from result.end part.new ≡ bytes_after got held part.old) × (result.end ≤ length part.new) }
+    ensures { (number_of result.state ≡ state_after got) × (to_answer result.from result.end part.new ≡ bytes_after got held part.old) × (result.end ≤ length part.new) }
 {
     match got {
         Err(error) => {
@@ -117,7 +118,7 @@ fn after_read(
             Input {
                 from: 0,
                 end: 0,
-                state: UNREADABLE,
+                state: InputState::Unreadable,
             }
         }
         Ok(n) => {
@@ -125,13 +126,13 @@ fn after_read(
                 return Input {
                     from: 0,
                     end: end_line(part, held),
-                    state: ENDED,
+                    state: InputState::Ended,
                 };
             }
             Input {
                 from: 0,
                 end: held + n.min(part.len() - held),
-                state: MORE,
+                state: InputState::More,
             }
         }
     }

@@ -93,7 +93,7 @@ fn put_answer(buf: &mut [u8], at: usize, m: Model, op: u32, answer: Answer) -> u
 fn put_refused(buf: &mut [u8], at: usize, m: Model, op: u32, refusal: Refusal) -> usize
     ensures { PutEach buf.old at (refused_texts m op (number refusal)) result buf.new }
 {
-    let a = phrase::refusals::put_refusal(buf, at, refusal.number());
+    let a = phrase::refusals::put_refusal(buf, at, refusal);
     if refusal == Refusal::SetUp {
         let b = numeral::put_text(buf, a, b":");
         return put_fields(buf, b, m, op);

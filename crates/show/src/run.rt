@@ -50,10 +50,7 @@ fn put_initialised(buf: &mut [u8], at: usize, told: u32) -> usize
 fn ticks_left(left: Result<Ticks, Refusal>) -> Ticks
     ensures { result.0 ≡ left_ticks left }
 {
-    match left {
-        Ok(ticks) => ticks,
-        Err(_) => Ticks(0),
-    }
+    left.unwrap_or(Ticks(0))
 }
 
 fn put_awaited(buf: &mut [u8], at: usize, label: &[u8], left: Ticks) -> usize

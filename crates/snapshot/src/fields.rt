@@ -6,6 +6,7 @@ use calendar::Clock;
 use device::{Flight, Model, Schedule, Status, Temperature};
 use unit::{Quanta, Ticks};
 
+// Fields by their places and names: a loop over them would name none.
 fn clock_of(b: &[u8], q: [u32; 33]) -> Clock
     requires { length b.now ≡ 233 }
     ensures { result ≡ clock_of b.now q }

@@ -4,6 +4,7 @@ ghost use Rattle.std.proofs.lemmas.List.Edits.{sets};
 ghost use Rattle.layout.specs.Number.{all_bytes, bound, numbers};
 ghost use Rattle.layout.specs.Fits.{Below};
 
+// Three readers and three writers, of three lines each: one over the number's type would need a trait with clauses of its own.
 // The numbers of two bytes.
 pub fn doubles(bytes: &[u8]) -> [u16; 18]
     requires { length bytes.now ≡ 233 }

@@ -22,9 +22,10 @@ pub fn sound_tick(m: Model) -> Reply
     ensures { result ≡ reply m Call.tick }
 {
     if next_is_quiet(m) {
-        return quiet_reply(m);
+        quiet_reply(m)
+    } else {
+        tick_reply(m)
     }
-    tick_reply(m)
 }
 
 // Nothing happens in it.
@@ -36,10 +37,9 @@ fn quiet_reply(m: Model) -> Reply
         started: false,
         failed: false,
     };
-    let model = quiet_tick(m);
     Reply {
         answer: Answer::Ticked(none, none),
-        model,
+        model: quiet_tick(m),
     }
 }
 
@@ -48,13 +48,13 @@ pub fn tick_reply(m: Model) -> Reply
     requires { is_sound m ≡ true }
     ensures { result ≡ reply m Call.tick }
 {
-    let flight = m.flight;
-    let temperature = m.temperature;
-    let f = flight.schedule;
-    let t = temperature.schedule;
-    let answer = Answer::Ticked(report_of(f), report_of(t));
-    let model = tick_model(m);
-    Reply { answer, model }
+    Reply {
+        answer: Answer::Ticked(
+            report_of(m.flight.schedule),
+            report_of(m.temperature.schedule),
+        ),
+        model: tick_model(m),
+    }
 }
 
 // n such periods at once, at most 16,384.
@@ -66,12 +66,9 @@ pub fn sound_stretch(m: Model, n: Ticks) -> Reply
         return refuse(m, Refusal::Span);
     }
     let end = ticking::stretch::run(m, n);
-    let flight = end.flight;
-    let temperature = end.temperature;
-    let model = end.model;
     Reply {
-        answer: Answer::Stretched(flight, temperature),
-        model,
+        answer: Answer::Stretched(end.flight, end.temperature),
+        model: end.model,
     }
 }
 
@@ -80,17 +77,13 @@ pub fn sound_flight_delivery(m: Model, up: &[u32], down: &[u32]) -> Reply
     requires { is_sound m ≡ true }
     ensures { result ≡ reply m (Call.flight up.now down.now) }
 {
-    let f = m.flight;
-    let setup = m.setup;
-    let k = f.schedule;
-    if is_awaited(k) {
-        let hits = setup::hit_count(setup);
-        if flight_miscounted(f, hits, up.len(), down.len()) {
-            return refuse(m, Refusal::WordCount);
-        }
-        return flight_reply(m, up, down);
+    if !is_awaited(m.flight.schedule) {
+        refuse(m, Refusal::NotAwaited)
+    } else if flight_miscounted(m.flight, setup::hit_count(m.setup), up.len(), down.len()) {
+        refuse(m, Refusal::WordCount)
+    } else {
+        flight_reply(m, up, down)
     }
-    refuse(m, Refusal::NotAwaited)
 }
 
 // The words of an awaited temperature measurement, T1 to T4.
@@ -98,13 +91,11 @@ pub fn sound_temperature_delivery(m: Model, words: &[u32]) -> Reply
     requires { is_sound m ≡ true }
     ensures { result ≡ reply m (Call.temperature words.now) }
 {
-    let t = m.temperature;
-    let k = t.schedule;
-    if is_awaited(k) {
-        if words.len() == 4 {
-            return temperature_reply(m, words);
-        }
-        return refuse(m, Refusal::WordCount);
+    if !is_awaited(m.temperature.schedule) {
+        refuse(m, Refusal::NotAwaited)
+    } else if words.len() != 4 {
+        refuse(m, Refusal::WordCount)
+    } else {
+        temperature_reply(m, words)
     }
-    refuse(m, Refusal::NotAwaited)
 }

@@ -7,7 +7,7 @@ ghost use Rattle.device.specs.StretchSteps.{least as Stretch·least, quiet_left,
 
 use crate::tick::tick_model;
 use calendar::Clock;
-use device::{Model, Progress, Schedule, StretchReport};
+use device::{Flight, Model, Progress, Schedule, StretchReport, Temperature};
 use schedule::{begins, fails};
 use unit::Ticks;
 
@@ -17,57 +17,46 @@ pub const LONGEST: Ticks = Ticks(16384);
 fn least(a: Ticks, b: Ticks) -> Ticks
     ensures { result.0 ≡ Stretch·least a.0 b.0 }
 {
-    if b.0 < a.0 { b } else { a }
+    Ticks(a.0.min(b.0))
 }
 
 // a - b, or 0.
 fn less(a: Ticks, b: Ticks) -> Ticks
     ensures { result.0 ≡ a.0 - b.0 }
 {
-    if a.0 < b.0 {
-        Ticks(0)
-    } else {
-        Ticks(a.0 - b.0)
-    }
+    Ticks(a.0.saturating_sub(b.0))
 }
 
 fn quiet_left(k: Schedule) -> Ticks
     ensures { result.0 ≡ quiet_left k }
 {
-    let left = k.left;
-    if left.0 == 0 {
+    if k.left.0 == 0 {
         LONGEST
     } else {
-        Ticks(left.0 - 1)
+        Ticks(k.left.0 - 1)
     }
 }
 
 fn quiet_wait(k: Schedule) -> Ticks
     ensures { result.0 ≡ quiet_wait k }
 {
-    let wait = k.wait;
-    let period = k.period;
-    if wait.0 <= 1 {
-        if begins(k) {
-            return Ticks(0);
-        }
-        if wait.0 == period.0 {
-            return LONGEST;
-        }
-        return Ticks(0);
+    if 1 < k.wait.0 {
+        Ticks(k.wait.0 - 1)
+    } else if !begins(k) && k.wait.0 == k.period.0 {
+        LONGEST
+    } else {
+        Ticks(0)
     }
-    Ticks(wait.0 - 1)
 }
 
 fn quiet_clock(m: Model) -> Ticks
     ensures { result.0 ≡ quiet_clock m }
 {
-    let clock = m.clock;
-    let setup = m.setup;
-    if setup::clock_stands(setup) {
-        return LONGEST;
+    if setup::clock_stands(m.setup) {
+        LONGEST
+    } else {
+        less(Ticks(32767), m.clock.ticks)
     }
-    less(Ticks(32767), clock.ticks)
 }
 
 fn quiet_schedule(k: Schedule) -> Ticks
@@ -80,45 +69,42 @@ fn quiet_schedule(k: Schedule) -> Ticks
 pub fn quiet_for(m: Model) -> Ticks
     ensures { result.0 ≡ quiet_for m }
 {
-    let flight = m.flight;
-    let temperature = m.temperature;
-    let f = flight.schedule;
-    let t = temperature.schedule;
-    least(quiet_clock(m), least(quiet_schedule(f), quiet_schedule(t)))
+    let f = quiet_schedule(m.flight.schedule);
+    let t = quiet_schedule(m.temperature.schedule);
+    least(quiet_clock(m), least(f, t))
 }
 
 fn wait_later(k: Schedule, q: Ticks) -> Ticks
     ensures { result.0 ≡ pick (leb k.wait.0 1) k.wait.0 (k.wait.0 - q.0) }
 {
-    let wait = k.wait;
-    if wait.0 <= 1 { wait } else { less(wait, q) }
+    if k.wait.0 <= 1 {
+        k.wait
+    } else {
+        less(k.wait, q)
+    }
 }
 
 fn later_schedule(k: Schedule, q: Ticks) -> Schedule
     ensures { result ≡ later_schedule q.0 k }
 {
-    let left = less(k.left, q);
-    let wait = wait_later(k, q);
-    let mut n = k;
-    n.left = left;
-    n.wait = wait;
-    n
+    Schedule {
+        left: less(k.left, q),
+        wait: wait_later(k, q),
+        ..k
+    }
 }
 
 fn later_clock(m: Model, q: Ticks) -> Clock
     requires { q.0 ≤ quiet_clock m }
     ensures { result ≡ later_clock q.0 m }
 {
-    let clock = m.clock;
-    let setup = m.setup;
-    if setup::clock_stands(setup) {
-        return clock;
+    if setup::clock_stands(m.setup) {
+        return m.clock;
     }
-    let t = clock.ticks;
-    let later = Ticks(t.0 + q.0);
-    let mut c = clock;
-    c.ticks = later;
-    c
+    Clock {
+        ticks: Ticks(m.clock.ticks.0 + q.0),
+        ..m.clock
+    }
 }
 
 // q ticks in which nothing happens.
@@ -126,65 +112,50 @@ fn later_model(m: Model, q: Ticks) -> Model
     requires { q.0 ≤ quiet_clock m }
     ensures { result ≡ later_model q.0 m }
 {
-    let clock = later_clock(m, q);
-    let mut flight = m.flight;
-    let mut temperature = m.temperature;
-    let f = flight.schedule;
-    let t = temperature.schedule;
-    let f_later = later_schedule(f, q);
-    let t_later = later_schedule(t, q);
-    flight.schedule = f_later;
-    temperature.schedule = t_later;
-    let mut n = m;
-    n.clock = clock;
-    n.flight = flight;
-    n.temperature = temperature;
-    n
+    Model {
+        clock: later_clock(m, q),
+        flight: Flight {
+            schedule: later_schedule(m.flight.schedule, q),
+            ..m.flight
+        },
+        temperature: Temperature {
+            schedule: later_schedule(m.temperature.schedule, q),
+            ..m.temperature
+        },
+        ..m
+    }
 }
 
 fn note_tick(k: Schedule, at: Ticks, r: StretchReport) -> StretchReport
     ensures { result ≡ noted k at.0 r }
 {
-    let started = unit::choose(begins(k), at, r.started);
-    let failed = unit::choose(fails(k), at, r.failed);
-    StretchReport { started, failed }
+    StretchReport {
+        started: unit::choose(begins(k), at, r.started),
+        failed: unit::choose(fails(k), at, r.failed),
+    }
 }
 
 fn moved_quietly(p: Progress, q: Ticks) -> Progress
     requires { (q.0 ≤ quiet_clock p.model) × (p.done.0 + q.0 ≤ 16384) }
     ensures { result ≡ moved_quietly q.0 p }
 {
-    let old = p.model;
-    let before = p.done;
-    let model = later_model(old, q);
-    let done = Ticks(before.0 + q.0);
-    let mut n = p;
-    n.model = model;
-    n.done = done;
-    n
+    Progress {
+        model: later_model(p.model, q),
+        done: Ticks(p.done.0 + q.0),
+        ..p
+    }
 }
 
 fn moved_by_one(p: Progress) -> Progress
     requires { p.done.0 ≤ 16384 }
     ensures { result ≡ moved_by_one p }
 {
-    let old = p.model;
-    let old_flight = old.flight;
-    let old_temperature = old.temperature;
-    let f = old_flight.schedule;
-    let t = old_temperature.schedule;
-    let f_report = p.flight;
-    let t_report = p.temperature;
-    let before = p.done;
-    let done = Ticks(before.0 + 1);
-    let flight = note_tick(f, done, f_report);
-    let temperature = note_tick(t, done, t_report);
-    let model = tick_model(old);
+    let done = Ticks(p.done.0 + 1);
     Progress {
-        model,
+        model: tick_model(p.model),
         done,
-        flight,
-        temperature,
+        flight: note_tick(p.model.flight.schedule, done, p.flight),
+        temperature: note_tick(p.model.temperature.schedule, done, p.temperature),
     }
 }
 
@@ -193,12 +164,12 @@ fn moved(p: Progress, most: Ticks) -> Progress
     requires { p.done.0 + most.0 ≤ 16384 }
     ensures { result ≡ Stretch·moved most.0 p }
 {
-    let model = p.model;
-    let quiet = quiet_for(model);
+    let quiet = quiet_for(p.model);
     if 0 < quiet.0 {
-        return moved_quietly(p, least(quiet, most));
+        moved_quietly(p, least(quiet, most))
+    } else {
+        moved_by_one(p)
     }
-    moved_by_one(p)
 }
 
 fn begin(m: Model) -> Progress
@@ -220,8 +191,7 @@ fn begin(m: Model) -> Progress
 pub fn next_is_quiet(m: Model) -> bool
     ensures { result ≡ ltb 0 (quiet_for m) }
 {
-    let quiet = quiet_for(m);
-    0 < quiet.0
+    0 < quiet_for(m).0
 }
 
 // A tick that starts, fails and carries nothing.

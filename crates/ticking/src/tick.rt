@@ -14,100 +14,84 @@ use unit::Quanta;
 fn sum_after(f: Flight) -> Quanta
     ensures { result ≡ sum_after f }
 {
-    let k = f.schedule;
-    if begins_group(k) {
-        return Quanta(0);
+    if begins_group(f.schedule) {
+        Quanta(0)
+    } else {
+        f.sum
     }
-    f.sum
 }
 
 fn sums_after(t: Temperature) -> [Quanta; 4]
     ensures { result ≡ sums_after t }
 {
-    let k = t.schedule;
-    let sums = t.sums;
-    if begins_group(k) {
-        let zero = Quanta(0);
-        return [zero, zero, zero, zero];
+    if begins_group(t.schedule) {
+        [Quanta(0); 4]
+    } else {
+        t.sums
     }
-    sums
 }
 
 fn flight_ticked(f: Flight) -> Flight
     ensures { result ≡ flight_ticked f }
 {
-    let k = f.schedule;
-    let next = tick_schedule(k);
-    let sum = sum_after(f);
-    let mut n = f;
-    n.schedule = next;
-    n.sum = sum;
-    n
+    Flight {
+        schedule: tick_schedule(f.schedule),
+        sum: sum_after(f),
+        ..f
+    }
 }
 
 fn flight_after(f: Flight) -> Flight
     ensures { result ≡ flight_after f }
 {
-    let k = f.schedule;
     let n = flight_ticked(f);
-    if fails(k) {
-        let next = tick_schedule(k);
-        return failed_flight(n, next);
+    if fails(f.schedule) {
+        failed_flight(n, n.schedule)
+    } else {
+        n
     }
-    n
 }
 
 fn temperature_after(t: Temperature) -> Temperature
     ensures { result ≡ temperature_after t }
 {
-    let k = t.schedule;
-    let next = tick_schedule(k);
-    let sums = sums_after(t);
-    let mut n = t;
-    n.schedule = next;
-    n.sums = sums;
-    if fails(k) {
-        let ports = failed_ports();
-        n.ports = ports;
-        return n;
+    Temperature {
+        schedule: tick_schedule(t.schedule),
+        sums: sums_after(t),
+        ports: if fails(t.schedule) {
+            failed_ports()
+        } else {
+            t.ports
+        },
     }
-    n
 }
 
 fn clock_ticked(m: Model) -> Clock
     ensures { result ≡ clock_ticked m }
 {
-    let clock = m.clock;
-    let setup = m.setup;
-    if setup::clock_stands(setup) {
-        return clock;
+    if setup::clock_stands(m.setup) {
+        m.clock
+    } else {
+        clock::step::tick_clock(m.clock)
     }
-    clock::step::tick_clock(clock)
 }
 
 fn tick_rings(m: Model, after: Clock) -> bool
     ensures { result ≡ tick_rings m after }
 {
-    let before = m.clock;
-    let setup = m.setup;
-    let w = setup::alarm_word(setup);
-    let mode = setup::alarm_mode(setup);
-    clock::alarm::alarm_rings(before, after, w, mode)
+    let w = setup::alarm_word(m.setup);
+    clock::alarm::alarm_rings(m.clock, after, w, setup::alarm_mode(m.setup))
 }
 
 fn tick_status(m: Model, after: Clock) -> Status
     ensures { result ≡ tick_status m after }
 {
-    let setup = m.setup;
-    let flight = m.flight;
-    let temperature = m.temperature;
-    let f = flight.schedule;
-    let t = temperature.schedule;
-    let each = setup::each_interrupt(setup);
+    let f = m.flight.schedule;
+    let t = m.temperature.schedule;
+    let each = setup::each_interrupt(m.setup);
     let f_failed = fails(f);
     let t_failed = fails(t);
-    let old = m.status;
-    let with_alarm = joined(old, alarm_bit(tick_rings(m, after)));
+    let with_alarm = joined(m.status, alarm_bit(tick_rings(m, after)));
     let with_flight = joined(with_alarm, flight_bits(f, each, f_failed, f_failed));
     joined(with_flight, temperature_bits(t, each, t_failed, t_failed))
 }
@@ -116,24 +100,21 @@ pub fn tick_model(m: Model) -> Model
     ensures { result ≡ tick_model m }
 {
     let clock = clock_ticked(m);
-    let status = tick_status(m, clock);
-    let old_flight = m.flight;
-    let old_temperature = m.temperature;
-    let flight = flight_after(old_flight);
-    let temperature = temperature_after(old_temperature);
-    let mut next = m;
-    next.clock = clock;
-    next.status = status;
-    next.flight = flight;
-    next.temperature = temperature;
-    next
+    Model {
+        clock,
+        status: tick_status(m, clock),
+        flight: flight_after(m.flight),
+        temperature: temperature_after(m.temperature),
+        ..m
+    }
 }
 
 // What the next tick reports of a kind.
 pub fn report_of(k: Schedule) -> Report
     ensures { result ≡ report_of k }
 {
-    let started = begins(k);
-    let failed = fails(k);
-    Report { started, failed }
+    Report {
+        started: begins(k),
+        failed: fails(k),
+    }
 }

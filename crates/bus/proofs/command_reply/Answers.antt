@@ -1,6 +1,5 @@
 -- `bus::command_reply` meets its contract.
 use Rattle.device.specs.Parts.{command_reply}
-use borrow.Author.Rules.{rules}
 use Rattle.bus.proofs.command_reply.Goals as goal
 
 pub returns-then-command_busy : goal.returns-then-command_busy

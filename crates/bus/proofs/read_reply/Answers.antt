@@ -17,7 +17,6 @@ use mathlib.Core.Bool.{false}
 use mathlib.Core.Path.{◌≡◌, refl, ◌∙◌, ap}
 use Prim.Native.Nat.{ℕ}
 use Rattle.device.specs.Parts.{read_reply, read_output}
-use borrow.Author.Rules.{rules}
 use borrow.Enum.Refused.{opened}
 use Rattle.bus.proofs.read_reply.Goals as goal
 

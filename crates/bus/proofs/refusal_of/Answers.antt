@@ -7,8 +7,6 @@ use types.Run.{OneOf, miss}
 use denote.Enum.Declared.{tag_of}
 use mathlib.Core.List.{[], ◌∷◌}
 use mathlib.Core.Path.{◌≡◌, refl}
-use Prim.Native.Nat.{ℕ}
-use borrow.Author.Rules.{rules}
 use borrow.Enum.Refused.{opened}
 use Rattle.bus.proofs.refusal_of.Goals as goal
 use Rattle.refusal.specs.declared.Refusal.{Refusal}

@@ -1,6 +1,6 @@
 -- `bus::sound_transaction` meets its contract.
 use Rattle.device.specs.Call.{transaction}
-use Rattle.device.specs.Reply.{reply, output, memory, buffer_of, memory_of}
+use Rattle.device.specs.Reply.{reply, output, memory}
 use Rattle.device.specs.Parts.{words_reply, flash_frame_output, flash_frame_memory}
 use Rattle.device.specs.Model.{is_sound}
 use Rattle.device.specs.declared.Model.{Model}
@@ -13,7 +13,7 @@ use types.Run.{OneOf, miss}
 use denote.Enum.Declared.{tag_of}
 use mathlib.Core.List.{List, [], ◌∷◌}
 use lib.ListN.{length, drop, length-drop}
-use mathlib.Core.Bool.{true, false}
+use mathlib.Core.Bool.{true}
 use mathlib.Core.Path.{◌≡◌, sym, ◌∙◌}
 use native.Mathlib.Omega.{arith}
 use Prim.Native.Nat.{ℕ}
@@ -41,11 +41,11 @@ not-a-command (Write op n) h o e = let z : ◌≡◌ {A = ℕ} 0 1 = cc in omega
 not-a-command (Flash op) h o e = let z : ◌≡◌ {A = ℕ} 0 1 = cc in omega arith
 not-a-command (Refused r) h o e = let z : ◌≡◌ {A = ℕ} 0 1 = cc in omega arith
 
-pub returns-then-frame-eq0 : goal.returns-then-frame-eq0
-returns-then-frame-eq0 c =
+pub returns-then-is_empty : goal.returns-then-is_empty
+returns-then-is_empty c =
     let start = c.args in
     let s : is_sound start.m ≡ true = c.requires in
-    let r = reply-empty start.m start.frame.now start.out.now start.mem.now s c.if-frame-eq0.true in
+    let r = reply-empty start.m start.frame.now start.out.now start.mem.now s (search rules) in
     (c.refuse.ensures ∙ r.0, r.1, r.2)
 
 pub words_reply-requires : goal.words_reply-requires

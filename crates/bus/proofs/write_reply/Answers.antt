@@ -1,6 +1,5 @@
 -- `bus::write_reply` meets its contract.
 use Rattle.device.specs.Parts.{write_reply}
-use borrow.Author.Rules.{rules}
 use Rattle.bus.proofs.write_reply.Goals as goal
 
 pub returns-then-is_busy : goal.returns-then-is_busy

@@ -1,6 +1,5 @@
 -- `converter::fresh` meets its contract.
 use Rattle.device.specs.Model.{fresh_model}
-use borrow.Author.Rules.{rules}
 use Rattle.converter.proofs.fresh.Goals as goal
 
 pub returns : goal.returns

@@ -14,8 +14,8 @@ sound_tick-requires c = sym c.is_sound.ensures ∙ c.if-is_sound.true
 pub returns-then-is_sound : goal.returns-then-is_sound
 returns-then-is_sound c = replied _ _ (search rules)
 
-pub returns : goal.returns
-returns c =
+pub returns-else-is_sound : goal.returns-else-is_sound
+returns-else-is_sound c =
     let m = c.args.m in
     let e : is_sound m ≡ false = sym c.is_sound.ensures ∙ c.if-is_sound.false in
     replied _ _ (c.refuse.ensures ∙ (reply-unsound m tick e).0)

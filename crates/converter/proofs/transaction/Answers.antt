@@ -6,7 +6,6 @@ use Rattle.device.specs.Model.{is_sound}
 use Rattle.reply_parts.proofs.Decode.{reply-unsound}
 use mathlib.Core.Bool.{false}
 use mathlib.Core.Path.{◌≡◌, sym, ◌∙◌}
-use borrow.Author.Rules.{rules}
 use Rattle.converter.proofs.transaction.Goals as goal
 
 pub sound_transaction-requires : goal.sound_transaction-requires
@@ -17,9 +16,9 @@ returns-then-is_sound c =
     let (r, o, x) = c.sound_transaction.ensures in
     record { replied = replied _ _ r; output = o; memory = x }
 
-pub returns : goal.returns
+pub returns-else-is_sound : goal.returns-else-is_sound
 unfolding buffer_of memory_of
-returns c =
+returns-else-is_sound c =
     let start = c.args in
     let e : is_sound start.m ≡ false = sym c.is_sound.ensures ∙ c.if-is_sound.false in
     let r = reply-unsound start.m (transaction start.frame.now start.out.now start.mem.now) e in

@@ -1,17 +1,14 @@
 -- `question::awaited_told` meets its contract.
+use borrow.Author.Rules.{rules}
+use Rattle.unit.proofs.Tests.{tests}
 use Rattle.unit.proofs.Says.{says}
 use Rattle.device.specs.Question.{awaited_told}
-use borrow.Author.Rules.{rules}
 use Rattle.question.proofs.awaited_told.Goals as goal
-
-pub returns-then-is_awaited : goal.returns-then-is_awaited
-unfolding awaited_told
-returns-then-is_awaited c = says (simp (c.if-is_awaited.true, ← c.is_awaited.ensures, c.if-is_sound.true, ← c.is_sound.ensures))
 
 pub returns-then-is_sound : goal.returns-then-is_sound
 unfolding awaited_told
-returns-then-is_sound c = says (simp (c.if-is_awaited.false, ← c.is_awaited.ensures, c.if-is_sound.true, ← c.is_sound.ensures))
+returns-then-is_sound c = says (search (rules, tests))
 
-pub returns : goal.returns
+pub returns-else-is_sound : goal.returns-else-is_sound
 unfolding awaited_told
-returns c = says (simp (c.if-is_sound.false, ← c.is_sound.ensures))
+returns-else-is_sound c = says (search (rules, tests))

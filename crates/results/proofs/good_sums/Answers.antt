@@ -11,10 +11,10 @@ plus_each-requires c =
     let b = temperature-of c.args.t c.requires in
     omega arith
 
-pub returns-then-k : goal.returns-then-k
+pub returns-then-t : goal.returns-then-t
 unfolding good_sums
-returns-then-k c = simp (← c.plus_each.ensures, lt-ltb _ _ c.if-k.true)
+returns-then-t c = simp (← c.plus_each.ensures, lt-ltb _ _ c.if-t.true)
 
-pub returns : goal.returns
+pub returns-else-t : goal.returns-else-t
 unfolding good_sums
-returns c = simp (le-ltb _ _ c.if-k.false)
+returns-else-t c = simp (le-ltb _ _ c.if-t.false)

@@ -1,11 +1,9 @@
 -- `sound_calls::sound_stretch` meets its contract.
 use borrow.Author.Tests.{lt-ltb, le-ltb}
 use Rattle.device.proofs.Replies.{reply-stretch}
-use Rattle.device.specs.Call.{stretch}
 use Rattle.device.specs.Model.{is_sound}
-use mathlib.Core.Bool.{true, false}
-use mathlib.Core.Path.{◌≡◌, sym, ◌∙◌}
-use borrow.Author.Rules.{rules}
+use mathlib.Core.Bool.{true}
+use mathlib.Core.Path.{◌≡◌}
 use Rattle.sound_calls.proofs.sound_stretch.Goals as goal
 
 pub returns-then-n : goal.returns-then-n

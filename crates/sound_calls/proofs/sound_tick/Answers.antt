@@ -1,9 +1,5 @@
 -- `sound_calls::sound_tick` meets its contract.
-use Rattle.device.specs.Call.{tick}
-use Rattle.device.specs.Model.{is_sound}
-use mathlib.Core.Bool.{true, false}
-use mathlib.Core.Path.{◌≡◌, sym, ◌∙◌}
-use borrow.Author.Rules.{rules}
+use mathlib.Core.Path.{sym, ◌∙◌}
 use borrow.Author.Tests.{ltb-true}
 use Rattle.sound_calls.proofs.sound_tick.Goals as goal
 

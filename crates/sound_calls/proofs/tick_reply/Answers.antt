@@ -1,9 +1,6 @@
 -- `sound_calls::tick_reply` meets its contract.
 use Rattle.device.proofs.Replies.{reply-tick}
-use borrow.Author.Rules.{rules}
 use Rattle.sound_calls.proofs.tick_reply.Goals as goal
 
 pub returns : goal.returns
-returns c =
-    let start = c in
-    simp (reply-tick c.args.m c.requires, ← c.tick_model-model.ensures, ← c.report_of-2.ensures, ← c.report_of.ensures)
+returns c = simp (reply-tick c.args.m c.requires, ← c.tick_model.ensures, ← c.report_of-2.ensures, ← c.report_of.ensures)

@@ -22,4 +22,4 @@ returns-in-Ok c = let run = handed (quietest_place c.args.values.now c.args.widt
 
 pub returns-in-Err : goal.returns-in-Err
 unfolding quietest_told called
-returns-in-Err c = rw (c.in-Err.is, ← c.number.ensures.0, ← c.put_quietest_refused-used.ensures.next, ← c.put_quietest_refused-used.ensures.bytes, ← c.count-in-Err.ensures)
+returns-in-Err c = rw (c.in-Err.is, ← c.put_quietest_refused-used.ensures.next, ← c.put_quietest_refused-used.ensures.bytes, ← c.count-in-Err.ensures)

@@ -10,4 +10,4 @@ returns-in-Ok c = rw (c.in-Ok.is, ← c.put_degrees-used.ensures.next, ← c.put
 
 pub returns-in-Err : goal.returns-in-Err
 unfolding degrees_told called
-returns-in-Err c = rw (c.in-Err.is, ← c.number.ensures.0, ← c.put_degrees_refused-used.ensures.next, ← c.put_degrees_refused-used.ensures.bytes, ← c.count-in-Err.ensures)
+returns-in-Err c = rw (c.in-Err.is, ← c.put_degrees_refused-used.ensures.next, ← c.put_degrees_refused-used.ensures.bytes, ← c.count-in-Err.ensures)

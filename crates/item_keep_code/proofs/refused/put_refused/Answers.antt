@@ -5,4 +5,4 @@ use Rattle.text.proofs.Putting.{puts_first}
 use Rattle.item_keep_code.proofs.refused.put_refused.Goals as goal
 
 pub returns : goal.returns
-returns c = (puts_first c.put_text-a.ensures (rw (← c.number.ensures.0) c.put_refusal-end.ensures), refl)
+returns c = (puts_first c.put_text-a.ensures c.put_refusal-end.ensures, refl)

@@ -14,5 +14,5 @@ overflow_add-value c = omega (arith, digits-fit c.loop-i.invariant (omega arith)
 
 pub loop-i-preserved : goal.loop-i-preserved
 loop-i-preserved c =
-    let d = c.hex_digit-d.ensures in
-    rw d (digits_more c.loop-i.invariant (omega arith) (omega arith) (omega arith) (rw d at c.if-d-ge16.false))
+    let d = c.in-Some.ensures in
+    rw d.1 (digits_more c.loop-i.invariant (omega arith) (omega arith) (omega arith) d.0)

@@ -5,7 +5,6 @@ use Rattle.item_line_code.proofs.hex.pair_at.Goals as goal
 
 pub returns-then-stops_at : goal.returns-then-stops_at
 returns-then-stops_at c =
-    let high = c.hex_digit-high.ensures in
-    let low = c.hex_digit-low.ensures in
-    rw (high, low)
-    (pair-digits _ _ (omega arith) c.if-s-i-eq32.true (rw high at c.if-high-lt16.true) (rw low at c.if-low-lt16.true) (c.stops_at.ensures c.if-stops_at.true))
+    let high = c.in_ok-high.ensures in
+    let low = c.in_ok-low.ensures in
+    rw (high.1, low.1) (pair-digits _ _ (omega arith) c.if-s-i-eq32.true high.0 low.0 (c.stops_at.ensures c.if-stops_at.true))

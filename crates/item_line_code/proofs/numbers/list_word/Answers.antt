@@ -6,10 +6,10 @@ pub returns-then-is_slash : goal.returns-then-is_slash
 unfolding list_word
 returns-then-is_slash c = rw (← c.is_slash.ensures, c.if-is_slash.true)
 
-pub returns-in-Value : goal.returns-in-Value
+pub returns-in-Some : goal.returns-in-Some
 unfolding list_word
-returns-in-Value c = rw (← c.is_slash.ensures, c.if-is_slash.false, ← c.number_in.ensures, c.in-Value.is)
+returns-in-Some c = rw (← c.is_slash.ensures, c.if-is_slash.false, ← c.number_in.ensures, c.in-Some.is)
 
-pub returns-in-Bad : goal.returns-in-Bad
+pub returns-in-None : goal.returns-in-None
 unfolding list_word
-returns-in-Bad c = rw (← c.is_slash.ensures, c.if-is_slash.false, ← c.number_in.ensures, c.in-Bad.is)
+returns-in-None c = rw (← c.is_slash.ensures, c.if-is_slash.false, ← c.number_in.ensures, c.in-None.is)

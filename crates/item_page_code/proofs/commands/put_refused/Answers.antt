@@ -15,10 +15,10 @@ pub returns-then-eq : goal.returns-then-eq
 unfolding ascii answer_text text_where
 returns-then-eq c =
     let e : c.args.refusal ≡ Refusal.SetUp = search rules in
-    rw e (puts_then (rw (c.number.ensures.0, e) at c.put_refusal-a.ensures) (puts_first c.put_text-b.ensures c.put_fields.ensures))
+    rw e (puts_then (rw e at c.put_refusal-a.ensures) (puts_first c.put_text-b.ensures c.put_fields.ensures))
 
 pub returns : goal.returns
 unfolding answer_text text_where
 returns c =
     let t : eqb (number c.args.refusal) 9 ≡ false = search rules in
-    rw (t, ← c.number.ensures.0) (puts_then c.put_refusal-a.ensures (puts_none _ _))
+    rw t (puts_then c.put_refusal-a.ensures (puts_none _ _))

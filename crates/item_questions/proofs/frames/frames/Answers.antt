@@ -10,4 +10,4 @@ returns-in-Ok c = rw (← frames-told c.args.m refl refl c.setup_frames-framed.e
 
 pub returns-in-Err : goal.returns-in-Err
 unfolding called
-returns-in-Err c = rw (← refusal-told c.args.m refl refl c.setup_frames-framed.ensures.0 c.in-Err.is _, ← c.number.ensures.0, ← c.put_frames_refused-used.ensures.next, ← c.put_frames_refused-used.ensures.bytes, ← c.count.ensures)
+returns-in-Err c = rw (← refusal-told c.args.m refl refl c.setup_frames-framed.ensures.0 c.in-Err.is _, ← c.put_frames_refused-used.ensures.next, ← c.put_frames_refused-used.ensures.bytes, ← c.count.ensures)

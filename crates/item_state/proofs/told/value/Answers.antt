@@ -1,12 +1,17 @@
 -- `item_state::told::value` meets its contract.
 -- Assumes nothing.
+use Prim.Native.Nat.{ℕ}
+use mathlib.Core.Path.{◌≡◌, ◌∙◌, refl}
+use Rattle.std.specs.Prelude.{Result, Ok, Err}
+use Rattle.std.specs.Result.{result_unwrap_or}
+use Rattle.refusal.specs.declared.Refusal.{Refusal}
 use Rattle.item_state.specs.Told.{told_value}
 use Rattle.item_state.proofs.told.value.Goals as goal
 
-pub returns-in-Ok : goal.returns-in-Ok
+same : (r : Result ℕ Refusal) → result_unwrap_or r 0 ≡ told_value r
 unfolding told_value
-returns-in-Ok c = rw c.in-Ok.is
+same (Ok n) = refl
+same (Err e) = refl
 
-pub returns-in-Err : goal.returns-in-Err
-unfolding told_value
-returns-in-Err c = rw c.in-Err.is
+pub returns : goal.returns
+returns c = c.unwrap_or.ensures ∙ same _

@@ -24,7 +24,7 @@ others Failed l at h = absurd (miss (2 ∷ 3 ∷ []) 5 tt h)
 
 pub returns-in-Refused : goal.returns-in-Refused
 unfolding answer_text
-returns-in-Refused c = rw (c.in-Refused.is, ← c.number.ensures.0) c.put_refusal.ensures
+returns-in-Refused c = rw c.in-Refused.is c.put_refusal.ensures
 
 pub returns-in-Accepted : goal.returns-in-Accepted
 unfolding answer_text

@@ -7,4 +7,4 @@ use Rattle.item_words_code.proofs.refusals.put_refusal.Goals as goal
 
 pub returns : goal.returns
 unfolding ascii refusal
-returns c = puts-last (puts-last (puts-last (puts c.put_text-a.ensures) c.put_decimal-b.ensures) c.put_text-c.ensures) (rw c.word.ensures at c.put_text.ensures)
+returns c = puts-last (puts-last (puts-last (puts c.put_text-a.ensures) (rw (c.from.ensures, c.number.ensures.0) at c.put_decimal-b.ensures)) c.put_text-c.ensures) (rw c.word.ensures at c.put_text.ensures)

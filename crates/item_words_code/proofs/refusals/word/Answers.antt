@@ -1,101 +1,93 @@
 -- `item_words_code::refusals::word` meets its contract.
 -- Assumes nothing.
-use Prim.Native.Nat.{ℕ, ◌≤◌}
-use mathlib.Core.List.{[]}
-use mathlib.Core.Path.{◌≡◌}
-use native.Mathlib.Omega.{arith}
-use lib.ListN.{get_or, get_or-eq_default}
 use Rattle.numeral.specs.Ascii.{ascii}
 use Rattle.item_page.specs.Row.{refusal_words}
 use Rattle.item_words_code.proofs.refusals.word.Goals as goal
 
-none : (number : ℕ) → 21 ≤ number → [] ≡ ascii (get_or refusal_words number "")
+pub returns-in-NotSound : goal.returns-in-NotSound
 unfolding ascii refusal_words
-none number h = rw (get_or-eq_default refusal_words "" h)
+returns-in-NotSound c = rw c.in-NotSound.is
 
-pub returns-in-0 : goal.returns-in-0
+pub returns-in-NoFrame : goal.returns-in-NoFrame
 unfolding ascii refusal_words
-returns-in-0 c = rw c.in-0.is
+returns-in-NoFrame c = rw c.in-NoFrame.is
 
-pub returns-in-1 : goal.returns-in-1
+pub returns-in-Opcode : goal.returns-in-Opcode
 unfolding ascii refusal_words
-returns-in-1 c = rw c.in-1.is
+returns-in-Opcode c = rw c.in-Opcode.is
 
-pub returns-in-2 : goal.returns-in-2
+pub returns-in-FrameLength : goal.returns-in-FrameLength
 unfolding ascii refusal_words
-returns-in-2 c = rw c.in-2.is
+returns-in-FrameLength c = rw c.in-FrameLength.is
 
-pub returns-in-3 : goal.returns-in-3
+pub returns-in-Address : goal.returns-in-Address
 unfolding ascii refusal_words
-returns-in-3 c = rw c.in-3.is
+returns-in-Address c = rw c.in-Address.is
 
-pub returns-in-4 : goal.returns-in-4
+pub returns-in-ShortOutput : goal.returns-in-ShortOutput
 unfolding ascii refusal_words
-returns-in-4 c = rw c.in-4.is
+returns-in-ShortOutput c = rw c.in-ShortOutput.is
 
-pub returns-in-5 : goal.returns-in-5
+pub returns-in-Busy : goal.returns-in-Busy
 unfolding ascii refusal_words
-returns-in-5 c = rw c.in-5.is
+returns-in-Busy c = rw c.in-Busy.is
 
-pub returns-in-6 : goal.returns-in-6
+pub returns-in-Calendar : goal.returns-in-Calendar
 unfolding ascii refusal_words
-returns-in-6 c = rw c.in-6.is
+returns-in-Calendar c = rw c.in-Calendar.is
 
-pub returns-in-7 : goal.returns-in-7
+pub returns-in-NotInitialised : goal.returns-in-NotInitialised
 unfolding ascii refusal_words
-returns-in-7 c = rw c.in-7.is
+returns-in-NotInitialised c = rw c.in-NotInitialised.is
 
-pub returns-in-8 : goal.returns-in-8
+pub returns-in-SetUp : goal.returns-in-SetUp
 unfolding ascii refusal_words
-returns-in-8 c = rw c.in-8.is
+returns-in-SetUp c = rw c.in-SetUp.is
 
-pub returns-in-9 : goal.returns-in-9
+pub returns-in-NotAwaited : goal.returns-in-NotAwaited
 unfolding ascii refusal_words
-returns-in-9 c = rw c.in-9.is
+returns-in-NotAwaited c = rw c.in-NotAwaited.is
 
-pub returns-in-10 : goal.returns-in-10
+pub returns-in-WordCount : goal.returns-in-WordCount
 unfolding ascii refusal_words
-returns-in-10 c = rw c.in-10.is
+returns-in-WordCount c = rw c.in-WordCount.is
 
-pub returns-in-11 : goal.returns-in-11
+pub returns-in-Span : goal.returns-in-Span
 unfolding ascii refusal_words
-returns-in-11 c = rw c.in-11.is
+returns-in-Span c = rw c.in-Span.is
 
-pub returns-in-12 : goal.returns-in-12
+pub returns-in-OffTable : goal.returns-in-OffTable
 unfolding ascii refusal_words
-returns-in-12 c = rw c.in-12.is
+returns-in-OffTable c = rw c.in-OffTable.is
 
-pub returns-in-13 : goal.returns-in-13
+pub returns-in-BadTable : goal.returns-in-BadTable
 unfolding ascii refusal_words
-returns-in-13 c = rw c.in-13.is
+returns-in-BadTable c = rw c.in-BadTable.is
 
-pub returns-in-14 : goal.returns-in-14
+pub returns-in-SupplyOff : goal.returns-in-SupplyOff
 unfolding ascii refusal_words
-returns-in-14 c = rw c.in-14.is
+returns-in-SupplyOff c = rw c.in-SupplyOff.is
 
-pub returns-in-15 : goal.returns-in-15
+pub returns-in-FlashAddress : goal.returns-in-FlashAddress
 unfolding ascii refusal_words
-returns-in-15 c = rw c.in-15.is
+returns-in-FlashAddress c = rw c.in-FlashAddress.is
 
-pub returns-in-16 : goal.returns-in-16
+pub returns-in-NotErased : goal.returns-in-NotErased
 unfolding ascii refusal_words
-returns-in-16 c = rw c.in-16.is
+returns-in-NotErased c = rw c.in-NotErased.is
 
-pub returns-in-17 : goal.returns-in-17
+pub returns-in-Width : goal.returns-in-Width
 unfolding ascii refusal_words
-returns-in-17 c = rw c.in-17.is
+returns-in-Width c = rw c.in-Width.is
 
-pub returns-in-18 : goal.returns-in-18
+pub returns-in-ShortBuffer : goal.returns-in-ShortBuffer
 unfolding ascii refusal_words
-returns-in-18 c = rw c.in-18.is
+returns-in-ShortBuffer c = rw c.in-ShortBuffer.is
 
-pub returns-in-19 : goal.returns-in-19
+pub returns-in-LastCapture : goal.returns-in-LastCapture
 unfolding ascii refusal_words
-returns-in-19 c = rw c.in-19.is
+returns-in-LastCapture c = rw c.in-LastCapture.is
 
-pub returns-in-20 : goal.returns-in-20
+pub returns-in-ShortListing : goal.returns-in-ShortListing
 unfolding ascii refusal_words
-returns-in-20 c = rw c.in-20.is
-
-pub returns-in_default : goal.returns-in_default
-returns-in_default c = none c.args.number (omega arith)
+returns-in-ShortListing c = rw c.in-ShortListing.is

@@ -1,18 +1,24 @@
 -- `item_words_code::reports::sooner` meets its contract.
 -- Assumes nothing.
-use borrow.Author.Rules.{rules}
+use Prim.Native.Nat.{ℕ, ◌≤◌}
+use mathlib.Core.Path.{◌≡◌}
+use Rattle.std.specs.Prelude.{Option, None, Some}
+use borrow.Author.Tests.{le-leb, lt-leb}
 use Rattle.item_words_code.specs.OwnReports.{sooner}
-use borrow.Author.Tests.{lt-ltb, le-ltb, le-leb, lt-leb}
 use Rattle.item_words_code.proofs.reports.sooner.Goals as goal
 
+kept : (named passed : ℕ) (best : Option ℕ) → named ≤ passed → best ≡ sooner named passed best
+unfolding sooner
+kept named passed None h = rw (le-leb named passed h)
+kept named passed (Some other) h = rw (le-leb named passed h)
+
 pub returns-then-tick-passed : goal.returns-then-tick-passed
-unfolding sooner
-returns-then-tick-passed c = search (rules, lt-ltb, le-ltb, le-leb, lt-leb)
+returns-then-tick-passed c = kept _ _ _ (rw (← c.from-tick.ensures) c.if-tick-passed.true)
 
-pub returns-then-tick-best : goal.returns-then-tick-best
+pub returns-in-Some : goal.returns-in-Some
 unfolding sooner
-returns-then-tick-best c = search (rules, lt-ltb, lt-leb)
+returns-in-Some c = rw (c.in-Some.is, ← c.from-tick.ensures, lt-leb _ _ c.if-tick-passed.false, c.min.ensures)
 
-pub returns-else-tick-best : goal.returns-else-tick-best
+pub returns-in-None : goal.returns-in-None
 unfolding sooner
-returns-else-tick-best c = search (rules, lt-ltb, le-ltb, le-leb, lt-leb)
+returns-in-None c = rw (c.in-None.is, ← c.from-tick.ensures, lt-leb _ _ c.if-tick-passed.false)

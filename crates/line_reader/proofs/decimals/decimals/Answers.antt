@@ -15,10 +15,10 @@ returns-then-end-start c =
     let inv = c.loop-i.invariant in
     rw (c.next_word-word.ensures.none c.if-end-start.true) at inv.3
 
-pub returns-in-Bad : goal.returns-in-Bad
+pub returns-in-None : goal.returns-in-None
 unfolding listed
-returns-in-Bad c =
-    rw (c.next_word-word.ensures.some c.if-end-start.false, ← c.decimal_of.ensures, c.in-Bad.is) at c.loop-i.invariant.3
+returns-in-None c =
+    rw (c.next_word-word.ensures.some c.if-end-start.false, ← c.decimal_of.ensures, c.in-None.is) at c.loop-i.invariant.3
 
 pub overflow_add-count : goal.overflow_add-count
 overflow_add-count c = omega (arith, c.next_word-word.ensures.low, c.next_word-word.ensures.high, c.if-end-start.false, c.loop-i.invariant.1)
@@ -34,7 +34,7 @@ loop-i-preserved c =
       n.high,
       omega (arith, n.low, c.if-end-start.false, inv.1),
       c.store.auto.numbers ∙ inv.2,
-      rw c.store.ensures (rw (n.some c.if-end-start.false, ← c.decimal_of.ensures, c.in-Value.is) at inv.3),
+      rw c.store.ensures (rw (n.some c.if-end-start.false, ← c.decimal_of.ensures, c.in-Some.is) at inv.3),
     )
 
 pub returns : goal.returns

@@ -7,12 +7,12 @@ pub returns-then-end-start : goal.returns-then-end-start
 unfolding decimal_call decimal_with
 returns-then-end-start c = rw (c.next_word-word.ensures.none c.if-end-start.true)
 
-pub returns-in-Value : goal.returns-in-Value
+pub returns-in-Some : goal.returns-in-Some
 unfolding decimal_call decimal_with
-returns-in-Value c =
-    rw (c.next_word-word.ensures.some c.if-end-start.false, ← c.read_decimal.ensures, c.in-Value.is, ← c.numbered.ensures) c.alone.ensures
+returns-in-Some c =
+    rw (c.next_word-word.ensures.some c.if-end-start.false, ← c.read_decimal.ensures, c.in-Some.is, ← c.numbered.ensures) c.alone.ensures
 
-pub returns-in-Bad : goal.returns-in-Bad
+pub returns-in-None : goal.returns-in-None
 unfolding decimal_call decimal_with
-returns-in-Bad c =
-    rw (c.next_word-word.ensures.some c.if-end-start.false, ← c.read_decimal.ensures, c.in-Bad.is)
+returns-in-None c =
+    rw (c.next_word-word.ensures.some c.if-end-start.false, ← c.read_decimal.ensures, c.in-None.is)

@@ -7,12 +7,12 @@ pub returns-then-end-start : goal.returns-then-end-start
 unfolding hex_call hex_with
 returns-then-end-start c = rw (c.next_word-word.ensures.none c.if-end-start.true)
 
-pub returns-in-Value : goal.returns-in-Value
+pub returns-in-Some : goal.returns-in-Some
 unfolding hex_call hex_with
-returns-in-Value c =
-    rw (c.next_word-word.ensures.some c.if-end-start.false, ← c.read_hex.ensures, c.in-Value.is) c.alone.ensures
+returns-in-Some c =
+    rw (c.next_word-word.ensures.some c.if-end-start.false, ← c.read_hex.ensures, c.in-Some.is) c.alone.ensures
 
-pub returns-in-Bad : goal.returns-in-Bad
+pub returns-in-None : goal.returns-in-None
 unfolding hex_call hex_with
-returns-in-Bad c =
-    rw (c.next_word-word.ensures.some c.if-end-start.false, ← c.read_hex.ensures, c.in-Bad.is)
+returns-in-None c =
+    rw (c.next_word-word.ensures.some c.if-end-start.false, ← c.read_hex.ensures, c.in-None.is)

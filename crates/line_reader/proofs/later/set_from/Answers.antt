@@ -6,17 +6,17 @@ use Rattle.line_reader.proofs.later.set_from.Goals as goal
 
 pub returns-then-a-lt48 : goal.returns-then-a-lt48
 unfolding set_from
-returns-then-a-lt48 c = rw (c.in-Value.is, lt-ltb _ _ c.if-a-lt48.true)
+returns-then-a-lt48 c = rw (c.in-Some.is, lt-ltb _ _ c.if-a-lt48.true)
 
 pub returns-then-a-gt67 : goal.returns-then-a-gt67
 unfolding set_from
-returns-then-a-gt67 c = rw (c.in-Value.is, le-ltb _ _ c.if-a-lt48.false, lt-ltb _ _ c.if-a-gt67.true)
+returns-then-a-gt67 c = rw (c.in-Some.is, le-ltb _ _ c.if-a-lt48.false, lt-ltb _ _ c.if-a-gt67.true)
 
-pub returns-in-Bad : goal.returns-in-Bad
+pub returns-in-None : goal.returns-in-None
 unfolding set_from
-returns-in-Bad c = rw c.in-Bad.is
+returns-in-None c = rw c.in-None.is
 
 pub returns-else-a-gt67 : goal.returns-else-a-gt67
 unfolding set_from
 returns-else-a-gt67 c =
-    rw (c.in-Value.is, le-ltb _ _ c.if-a-lt48.false, le-ltb _ _ c.if-a-gt67.false) c.set_words.ensures
+    rw (c.in-Some.is, le-ltb _ _ c.if-a-lt48.false, le-ltb _ _ c.if-a-gt67.false) c.set_words.ensures

@@ -12,12 +12,12 @@ pub returns-then-form-n : goal.returns-then-form-n
 unfolding list_word
 returns-then-form-n c = rw (← c.is_slash.ensures, c.if-is_slash.false, le-leb _ _ c.if-form-n.true)
 
-pub returns-in-Value : goal.returns-in-Value
+pub returns-in-Some : goal.returns-in-Some
 unfolding list_word
-returns-in-Value c =
-    rw (← c.is_slash.ensures, c.if-is_slash.false, lt-leb _ _ c.if-form-n.false, ← c.read_hex.ensures, c.in-Value.is)
+returns-in-Some c =
+    rw (← c.is_slash.ensures, c.if-is_slash.false, lt-leb _ _ c.if-form-n.false, ← c.read_hex.ensures, c.in-Some.is)
 
-pub returns-in-Bad : goal.returns-in-Bad
+pub returns-in-None : goal.returns-in-None
 unfolding list_word
-returns-in-Bad c =
-    rw (← c.is_slash.ensures, c.if-is_slash.false, lt-leb _ _ c.if-form-n.false, ← c.read_hex.ensures, c.in-Bad.is)
+returns-in-None c =
+    rw (← c.is_slash.ensures, c.if-is_slash.false, lt-leb _ _ c.if-form-n.false, ← c.read_hex.ensures, c.in-None.is)

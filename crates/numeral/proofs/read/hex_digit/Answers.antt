@@ -1,34 +1,23 @@
--- `numeral::read::hex_digit` meets its contract.
+-- `numeral::read::hex_digit` meets its contract: below 16, the library's value of a digit is that of `digit_of`.
 -- Assumes nothing.
-use Rattle.std.proofs.Common.{arith}
+use Rattle.std.proofs.Common.{◌≡◌, ◌<◌, ℕ, SomeIff, arith}
+use Rattle.std.specs.Prelude.{Option, Some, None}
+use Rattle.std.specs.Char.{digit_value}
 use Rattle.std.proofs.lemmas.Bool.Decides.{nat_tests}
 use Rattle.numeral.specs.Digit.{digit_of}
 use Rattle.numeral.proofs.read.hex_digit.Goals as goal
 
-pub returns-in-48-to-57 : goal.returns-in-48-to-57
+same : (c : ℕ) → digit_value c < 16 → digit_of c ≡ digit_value c
 unfolding digit_of
-returns-in-48-to-57 c = grind (arith, nat_tests)
+same c h = grind (arith, nat_tests)
 
-pub returns-in-65-to-70 : goal.returns-in-65-to-70
+below : (c : ℕ) → digit_of c < 16 → digit_value c < 16
 unfolding digit_of
-returns-in-65-to-70 c = grind (arith, nat_tests)
+below c h = grind (arith, nat_tests)
 
-pub returns-in-97-to-102 : goal.returns-in-97-to-102
-unfolding digit_of
-returns-in-97-to-102 c = grind (arith, nat_tests)
+counts : (c : ℕ) (o : Option ℕ) → SomeIff o (digit_value c < 16) (digit_value c) → SomeIff o (digit_of c < 16) (digit_of c)
+counts c None h = λ less. h (below c less)
+counts c (Some d) h = let e = same c h.0 in rw e h
 
-pub returns-in_default : goal.returns-in_default
-unfolding digit_of
-returns-in_default c = grind (arith, nat_tests)
-
-pub returns-in_default-2 : goal.returns-in_default-2
-unfolding digit_of
-returns-in_default-2 c = grind (arith, nat_tests)
-
-pub returns-in_default-3 : goal.returns-in_default-3
-unfolding digit_of
-returns-in_default-3 c = grind (arith, nat_tests)
-
-pub returns-in_default-4 : goal.returns-in_default-4
-unfolding digit_of
-returns-in_default-4 c = grind (arith, nat_tests)
+pub returns : goal.returns
+returns c = counts _ _ (rw c.from.ensures at c.to_digit.ensures.value)

@@ -1,6 +1,7 @@
 -- `numeral::read::read_signed` meets its contract.
 -- Assumes nothing.
-use Rattle.std.proofs.Common.{◌≡◌, ℕ, suc, List, [], ◌∷◌, Bool, true, false, ◌&&◌, eqb, length, take, drop, refl, sym, ap, ◌∙◌, arith}
+use Rattle.std.proofs.Common.{◌≡◌, ℕ, suc, ◌+◌, ◌-◌, ◌%◌, ◌^◌, ◌<◌, List, [], ◌∷◌, Bool, true, false, ◌&&◌, eqb, length, take, drop, refl, sym, ◌∙◌, arith}
+use Rattle.std.specs.Prelude.{Some}
 use Rattle.std.specs.Cmp.Lexicographic.{pointwise}
 use borrow.Author.Tests.{le-ltb}
 use Rattle.numeral.specs.Read.{negated, read_decimal, read_signed}
@@ -24,10 +25,20 @@ plain (c ∷ cs) e = go (eqb c 45) refl e
     go true p h = cc
     go false p h = rw (le-ltb (suc (length cs)) 1 (omega arith), p)
 
-pub returns-in-Some : goal.returns-in-Some
-returns-in-Some c =
+opposite : (r v : ℕ) → v < 2 ^ 32 → r < 2 ^ 32 → (r + v) % 2 ^ 32 ≡ 0 → Some r ≡ Some ((4294967296 - v) % 4294967296)
+opposite r v small fits h = let e : r ≡ (4294967296 - v) % 4294967296 = omega arith in rw e
+
+pub returns-in_err-read_decimal-in-Some : goal.returns-in_err-read_decimal-in-Some
+unfolding negated
+returns-in_err-read_decimal-in-Some c =
     let e = c.in-Some.ensures.cases in
-    c.negated.ensures ∙ ap negated (c.read_decimal.ensures ∙ ap (read_decimal 2147483648) e.1) ∙ sym (minus _ e.0)
+    rw (c.from_residual.ensures, minus _ e.0, ← e.1, ← c.read_decimal.ensures, c.in_err-read_decimal-in-Some.was)
+
+pub returns-in_ok-read_decimal-in-Some : goal.returns-in_ok-read_decimal-in-Some
+unfolding negated
+returns-in_ok-read_decimal-in-Some c =
+    let e = c.in-Some.ensures.cases in
+    rw (minus _ e.0, ← e.1, ← c.read_decimal.ensures, c.in_ok-read_decimal-in-Some.was) (opposite _ _ (omega arith) (omega arith) c.wrapping_neg.ensures)
 
 pub returns-in-None : goal.returns-in-None
 returns-in-None c = c.read_decimal-in-None.ensures ∙ sym (plain _ c.in-None.ensures.cases)

@@ -46,11 +46,17 @@ finished base s n i inv h =
 pub loop-c-init : goal.loop-c-init
 loop-c-init c = (omega arith, refl, refl)
 
+pub returns-in_err-hex_digit : goal.returns-in_err-hex_digit
+unfolding value_in
+returns-in_err-hex_digit c =
+    let stops : c.args.base ≤ digit_of (get_or c.args.s.now c.loop-c.c-index 0) = omega (arith, c.requires.1, c.in_err-hex_digit.ensures) in
+    rw (c.from_residual.ensures, ← c.loop-c.invariant.1, digit-stops _ _ _ c.loop-c-test.true stops)
+
 pub returns-then-base-d : goal.returns-then-base-d
 unfolding value_in
 returns-then-base-d c =
     let k = c.loop-c in
-    rw (← k.invariant.1, digit-stops _ _ _ c.loop-c-test.true (rw (c.from-d.ensures, c.hex_digit.ensures) at c.if-base-d.true))
+    rw (← k.invariant.1, digit-stops _ _ _ c.loop-c-test.true (rw (c.from-d.ensures, c.in_ok-hex_digit.ensures.1) at c.if-base-d.true))
 
 pub overflow_mul-n : goal.overflow_mul-n
 overflow_mul-n c =
@@ -68,7 +74,7 @@ pub loop-c-preserved : goal.loop-c-preserved
 loop-c-preserved c =
     let k = c.loop-c in
     let more = c.loop-c-test.true in
-    let d = c.from-d.ensures ∙ c.hex_digit.ensures in (
+    let d = c.from-d.ensures ∙ c.in_ok-hex_digit.ensures.1 in (
       grow k.n _ _ k.c-index k.invariant.0 c.requires.1 c.if-base-d.false,
       digit-counts _ _ _ more (rw d at c.if-base-d.false) ∙ k.invariant.1,
       rw d (value_grows _ _ _ more k.n) ∙ k.invariant.2,

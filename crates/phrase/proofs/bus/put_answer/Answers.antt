@@ -23,7 +23,7 @@ others Failed l at h = put-none l at
 
 pub returns-in-Refused : goal.returns-in-Refused
 unfolding bus_answer
-returns-in-Refused c = rw (c.in-Refused.is, ← c.number.ensures.0) c.put_refusal.ensures
+returns-in-Refused c = rw c.in-Refused.is c.put_refusal.ensures
 
 pub returns-in-Accepted : goal.returns-in-Accepted
 unfolding bus_answer

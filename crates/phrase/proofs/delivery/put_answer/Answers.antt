@@ -23,7 +23,7 @@ others Failed l at h = absurd (miss (1 ∷ 2 ∷ 3 ∷ []) 5 tt h)
 
 pub returns-in-Refused : goal.returns-in-Refused
 unfolding delivery_answer
-returns-in-Refused c = rw (c.in-Refused.is, ← c.number.ensures.0) c.put_refusal.ensures
+returns-in-Refused c = rw c.in-Refused.is c.put_refusal.ensures
 
 pub returns-in-Good : goal.returns-in-Good
 unfolding delivery_answer ascii

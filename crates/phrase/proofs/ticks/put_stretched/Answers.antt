@@ -24,7 +24,7 @@ others Failed l at k h = put-none l at
 
 pub returns-in-Refused : goal.returns-in-Refused
 unfolding stretched
-returns-in-Refused c = rw (c.in-Refused.is, ← c.number.ensures.0) c.put_refusal.ensures
+returns-in-Refused c = rw c.in-Refused.is c.put_refusal.ensures
 
 pub returns-in-Stretched : goal.returns-in-Stretched
 unfolding ascii stretched

@@ -1,10 +1,10 @@
 -- `registers::read::last_word` meets its contract.
-use mathlib.Core.Path.{refl}
-use borrow.Author.Tests.{eq-eqb, ne_eqb}
+use borrow.Author.Rules.{rules}
+use Rattle.unit.proofs.Tests.{tests}
 use Rattle.registers.proofs.read.last_word.Goals as goal
 
 pub returns-then-a-eq254 : goal.returns-then-a-eq254
-returns-then-a-eq254 c = rw (eq-eqb _ _ c.if-a-eq254.true) c.status_word.ensures
+returns-then-a-eq254 c = search (rules, tests)
 
-pub returns : goal.returns
-returns c = rw (ne_eqb _ _ c.if-a-eq254.false) refl
+pub returns-else-a-eq254 : goal.returns-else-a-eq254
+returns-else-a-eq254 c = search (rules, tests)

@@ -1,16 +1,17 @@
 -- `registers::read::temperature_word` meets its contract.
-use borrow.Author.Tests.{eq-eqb, le-ltb, lt-ltb, ne_eqb}
+use borrow.Author.Rules.{rules}
+use Rattle.unit.proofs.Tests.{tests}
 use Rattle.device.specs.Registers.{temperature_word}
 use Rattle.registers.proofs.read.temperature_word.Goals as goal
 
-pub returns-then-a-lt239 : goal.returns-then-a-lt239
+pub returns-in-0-to-238 : goal.returns-in-0-to-238
 unfolding temperature_word
-returns-then-a-lt239 c = simp (← c.half.ensures, lt-ltb _ _ c.if-a-lt239.true)
+returns-in-0-to-238 c = search (rules, tests)
 
-pub returns-then-a-eq239 : goal.returns-then-a-eq239
+pub returns-in-239 : goal.returns-in-239
 unfolding temperature_word
-returns-then-a-eq239 c = simp (eq-eqb _ _ c.if-a-eq239.true, le-ltb _ _ c.if-a-lt239.false)
+returns-in-239 c = search (rules, tests)
 
-pub returns : goal.returns
+pub returns-in_default : goal.returns-in_default
 unfolding temperature_word
-returns c = simp (← c.half-2.ensures, ← c.port_mean.ensures, ne_eqb _ _ c.if-a-eq239.false, le-ltb _ _ c.if-a-lt239.false)
+returns-in_default c = search (rules, tests)

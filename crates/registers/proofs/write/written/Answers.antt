@@ -1,16 +1,13 @@
 -- `registers::write::written` meets its contract.
-use borrow.Author.Tests.{le-ltb, lt-ltb, le-leb, lt-leb}
+use borrow.Author.Rules.{rules}
+use Rattle.unit.proofs.Tests.{tests}
 use Rattle.device.specs.Write.{written, covers}
 use Rattle.registers.proofs.write.written.Goals as goal
 
 pub returns-then-a-op : goal.returns-then-a-op
 unfolding written covers
-returns-then-a-op c = simp (lt-leb _ _ c.if-a-op.true)
+returns-then-a-op c = search (rules, tests)
 
-pub returns-then-a-op-2 : goal.returns-then-a-op-2
+pub returns-else-op-a : goal.returns-else-op-a
 unfolding written covers
-returns-then-a-op-2 c = simp (← c.word_at.ensures.0, lt-ltb _ _ c.if-a-op-2.true, le-leb _ _ c.if-a-op.false)
-
-pub returns : goal.returns
-unfolding written covers
-returns c = simp (le-ltb _ _ c.if-a-op-2.false, le-leb _ _ c.if-a-op.false)
+returns-else-op-a c = search (rules, tests)

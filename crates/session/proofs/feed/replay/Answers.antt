@@ -5,6 +5,7 @@ use mathlib.Core.Bool.{true≢false}
 use mathlib.Core.Path.{sym, ap, ◌∙◌}
 use native.Mathlib.Omega.{arith}
 use lib.ListN.{drop}
+use Rattle.session.specs.Input.{number_of}
 use Rattle.session.proofs.FeedLaws.{left-short}
 use Rattle.session.proofs.LoopLaws.{loop-begun, loop-turned, loop-over}
 use Rattle.session.proofs.feed.replay.Goals as goal
@@ -21,7 +22,7 @@ loop-preserved g c = let fed = c.feed-progress.auto in let inv = c.loop.invarian
 
 pub returns : goal.returns
 returns g c =
-    loop-over _ _ c.loop.counter c.loop.input.state _ c.loop.invariant.8
+    loop-over _ _ c.loop.counter (number_of c.loop.input.state) _ c.loop.invariant.8
     (elim c.loop-test.branch [
       | else-loop-test w ↦ λ going. omega (arith, w.loop-test.false, c.loop.auto.counter-end)
       | then-loop-test+then-not-is_going w ↦ λ going. absurd (true≢false (sym going ∙ sym w.is_going.ensures ∙ w.if-not-is_going.true))

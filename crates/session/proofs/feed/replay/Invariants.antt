@@ -2,7 +2,7 @@
 use Prim.Native.Nat.{◌≤◌}
 use mathlib.Core.Path.{◌≡◌}
 use lib.ListN.{length}
-use Rattle.session.specs.Input.{to_answer}
+use Rattle.session.specs.Input.{to_answer, number_of}
 use Rattle.session.specs.Turns.{ReachedBy}
 use Rattle.session.proofs.feed.replay.Given as goal
 
@@ -16,5 +16,5 @@ invariant-loop g l =
     × (length l.answers ≡ 163840)
     × (length l.part ≡ 65536)
     × (l.input.end ≤ length l.part)
-    × ReachedBy l.path l.check l.counter l.input.state
+    × ReachedBy l.path l.check l.counter (number_of l.input.state)
     record { replay = record { state = record { model = l.m; flash = l.mem; differences = l.kept; probes = l.probes; log = record { counts = l.counts; answers = l.answers } }; names = l.names }; numbers = l.numbers; left = to_answer l.input.from l.input.end l.part }

@@ -15,10 +15,10 @@ pub returns-then-eq : goal.returns-then-eq
 unfolding ascii refused_texts
 returns-then-eq c =
     let e : c.args.refusal ≡ Refusal.SetUp = search rules in
-    rw e (put_then (rw (c.number.ensures.0, e) at c.put_refusal-a.ensures) (put_first c.put_text-b.ensures c.put_fields.ensures))
+    rw e (put_then (rw e at c.put_refusal-a.ensures) (put_first c.put_text-b.ensures c.put_fields.ensures))
 
 pub returns : goal.returns
 unfolding refused_texts
 returns c =
     let t : eqb (number c.args.refusal) 9 ≡ false = search rules in
-    rw (t, ← c.number.ensures.0) (put_then c.put_refusal-a.ensures (put-none _ _))
+    rw t (put_then c.put_refusal-a.ensures (put-none _ _))

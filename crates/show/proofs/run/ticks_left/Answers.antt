@@ -1,13 +1,17 @@
 -- `show::run::ticks_left` meets its contract.
 -- Assumes nothing.
-use borrow.Author.Rules.{rules}
+use mathlib.Core.Path.{◌≡◌, ◌∙◌, refl, ap}
+use Rattle.std.specs.Prelude.{Result, Ok, Err}
+use Rattle.std.specs.Result.{result_unwrap_or}
+use Rattle.unit.specs.declared.Ticks.{Ticks}
+use Rattle.refusal.specs.declared.Refusal.{Refusal}
 use Rattle.page.specs.Run.{left_ticks}
 use Rattle.show.proofs.run.ticks_left.Goals as goal
 
-pub returns-in-Ok : goal.returns-in-Ok
+same : (r : Result Ticks Refusal) → (result_unwrap_or r (record { 0 = 0 })).0 ≡ left_ticks r
 unfolding left_ticks
-returns-in-Ok c = rw c.in-Ok.is
+same (Ok t) = refl
+same (Err e) = refl
 
-pub returns-in-Err : goal.returns-in-Err
-unfolding left_ticks
-returns-in-Err c = rw c.in-Err.is
+pub returns : goal.returns
+returns c = ap (λ t. t.0) c.unwrap_or.ensures ∙ same _

@@ -3,15 +3,14 @@ use Rattle.device.specs.StretchSteps.{later_clock}
 use native.Mathlib.Omega.{arith}
 use mathlib.Core.Path.{sym, ◌∙◌}
 use Rattle.ticking.proofs.Quiet.{clock-room}
-use borrow.Author.Rules.{rules}
 use Rattle.ticking.proofs.stretch.later_clock.Goals as goal
 
 pub returns-then-clock_stands : goal.returns-then-clock_stands
 unfolding later_clock
 returns-then-clock_stands c = simp (c.if-clock_stands.true, ← c.clock_stands.ensures)
 
-pub overflow_add-later : goal.overflow_add-later
-overflow_add-later c =
+pub overflow_add-result : goal.overflow_add-result
+overflow_add-result c =
     omega (arith, clock-room _ _ (sym c.clock_stands.ensures ∙ c.if-clock_stands.false) c.requires)
 
 pub returns : goal.returns

@@ -1,8 +1,9 @@
 -- `ticking::stretch::later_model` meets its contract.
-use Rattle.device.specs.StretchSteps.{later_model}
 use borrow.Author.Rules.{rules}
+use Rattle.unit.proofs.Tests.{tests}
+use Rattle.device.specs.StretchSteps.{later_model}
 use Rattle.ticking.proofs.stretch.later_model.Goals as goal
 
 pub returns : goal.returns
 unfolding later_model
-returns c = simp (← c.later_schedule-t_later.ensures, ← c.later_schedule-f_later.ensures, ← c.later_clock-clock.ensures)
+returns c = search (rules, tests)

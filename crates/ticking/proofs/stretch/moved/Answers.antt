@@ -4,7 +4,6 @@ use Rattle.device.specs.StretchSteps.{moved}
 use native.Mathlib.Omega.{arith}
 use mathlib.Core.Path.{sym}
 use Rattle.ticking.proofs.Quiet.{step_fits}
-use borrow.Author.Rules.{rules}
 use Rattle.ticking.proofs.stretch.moved.Goals as goal
 
 pub moved_quietly-requires : goal.moved_quietly-requires
@@ -18,6 +17,6 @@ pub returns-then-quiet-gt0 : goal.returns-then-quiet-gt0
 unfolding moved
 returns-then-quiet-gt0 c = simp (← c.moved_quietly.ensures, ← c.least.ensures, lt-ltb _ _ c.if-quiet-gt0.true, ← c.quiet_for-quiet.ensures)
 
-pub returns : goal.returns
+pub returns-else-quiet-gt0 : goal.returns-else-quiet-gt0
 unfolding moved
-returns c = simp (← c.moved_by_one.ensures, le-ltb _ _ c.if-quiet-gt0.false, ← c.quiet_for-quiet.ensures)
+returns-else-quiet-gt0 c = simp (← c.moved_by_one.ensures, le-ltb _ _ c.if-quiet-gt0.false, ← c.quiet_for-quiet.ensures)

@@ -1,12 +1,13 @@
 -- `ticking::stretch::quiet_clock` meets its contract.
-use Rattle.device.specs.StretchSteps.{quiet_clock}
 use borrow.Author.Rules.{rules}
+use Rattle.unit.proofs.Tests.{tests}
+use Rattle.device.specs.StretchSteps.{quiet_clock}
 use Rattle.ticking.proofs.stretch.quiet_clock.Goals as goal
 
 pub returns-then-clock_stands : goal.returns-then-clock_stands
 unfolding quiet_clock
-returns-then-clock_stands c = simp (c.if-clock_stands.true, ← c.clock_stands.ensures)
+returns-then-clock_stands c = search (rules, tests)
 
-pub returns : goal.returns
+pub returns-else-clock_stands : goal.returns-else-clock_stands
 unfolding quiet_clock
-returns c = simp (← c.less.ensures, c.if-clock_stands.false, ← c.clock_stands.ensures)
+returns-else-clock_stands c = search (rules, tests)

@@ -1,13 +1,13 @@
 -- `ticking::stretch::quiet_left` meets its contract.
+use borrow.Author.Rules.{rules}
 use Rattle.unit.proofs.Tests.{tests}
 use Rattle.device.specs.StretchSteps.{quiet_left}
-use borrow.Author.Rules.{rules}
 use Rattle.ticking.proofs.stretch.quiet_left.Goals as goal
 
-pub returns-then-left-eq0 : goal.returns-then-left-eq0
+pub returns-then-k-eq0 : goal.returns-then-k-eq0
 unfolding quiet_left
-returns-then-left-eq0 c = search (rules, tests)
+returns-then-k-eq0 c = search (rules, tests)
 
-pub returns-else-left-eq0 : goal.returns-else-left-eq0
+pub returns-else-k-eq0 : goal.returns-else-k-eq0
 unfolding quiet_left
-returns-else-left-eq0 c = search (rules, tests)
+returns-else-k-eq0 c = search (rules, tests)

@@ -1,6 +1,5 @@
 -- `ticking::stretch::quiet_schedule` meets its contract.
 use Rattle.device.specs.StretchSteps.{quiet_schedule}
-use borrow.Author.Rules.{rules}
 use Rattle.ticking.proofs.stretch.quiet_schedule.Goals as goal
 
 pub returns : goal.returns

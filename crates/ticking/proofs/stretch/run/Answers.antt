@@ -1,10 +1,6 @@
 -- `ticking::stretch::run` meets its contract.
-use Prim.Native.Nat.{◌-◌, ◌≤◌}
 use native.Mathlib.Omega.{arith}
-use mathlib.Core.Path.{◌≡◌}
-use Rattle.device.specs.StretchSteps.{progress}
 use Rattle.ticking.proofs.Quiet.{loop-keeps, loop-starts, loop-ends}
-use borrow.Author.Rules.{rules}
 use Rattle.ticking.proofs.stretch.run.Goals as goal
 
 pub run_quietly-requires : goal.run_quietly-requires

@@ -1,10 +1,7 @@
 -- `ticking::stretch::run` meets its contract.
 use Prim.Native.Nat.{◌-◌, ◌≤◌}
-use native.Mathlib.Omega.{arith}
 use mathlib.Core.Path.{◌≡◌}
 use Rattle.device.specs.StretchSteps.{progress}
-use Rattle.ticking.proofs.Quiet.{loop-keeps, loop-starts, loop-ends}
-use borrow.Author.Rules.{rules}
 use Rattle.ticking.proofs.stretch.run.Given as goal
 
 abbrev pub invariant-loop-p : goal.invariant-loop-p

@@ -5,7 +5,6 @@ use Rattle.device.specs.declared.Progress.{Progress}
 use Rattle.device.specs.StretchSteps.{progress}
 use Rattle.device.specs.Stretch.{model_ticked}
 use Rattle.ticking.proofs.Quiet.{quiet-run, quiet-fits}
-use borrow.Author.Rules.{rules}
 use Rattle.ticking.proofs.stretch.run_quietly.Goals as goal
 
 pub moved_quietly-requires : goal.moved_quietly-requires

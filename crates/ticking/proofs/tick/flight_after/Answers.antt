@@ -1,12 +1,13 @@
 -- `ticking::tick::flight_after` meets its contract.
-use Rattle.device.specs.Tick.{flight_after}
 use borrow.Author.Rules.{rules}
+use Rattle.unit.proofs.Tests.{tests}
+use Rattle.device.specs.Tick.{flight_after, flight_ticked}
 use Rattle.ticking.proofs.tick.flight_after.Goals as goal
 
 pub returns-then-fails : goal.returns-then-fails
-unfolding flight_after
-returns-then-fails c = simp (← c.failed_flight.ensures, ← c.tick_schedule-next.ensures, c.if-fails.true, ← c.fails.ensures, ← c.flight_ticked-n.ensures)
+unfolding flight_after flight_ticked
+returns-then-fails c = search (rules, tests)
 
-pub returns : goal.returns
-unfolding flight_after
-returns c = simp (c.if-fails.false, ← c.fails.ensures, ← c.flight_ticked-n.ensures)
+pub returns-else-fails : goal.returns-else-fails
+unfolding flight_after flight_ticked
+returns-else-fails c = search (rules, tests)

@@ -1,8 +1,9 @@
 -- `ticking::tick::flight_ticked` meets its contract.
-use Rattle.device.specs.Tick.{flight_ticked}
 use borrow.Author.Rules.{rules}
+use Rattle.unit.proofs.Tests.{tests}
+use Rattle.device.specs.Tick.{flight_ticked}
 use Rattle.ticking.proofs.tick.flight_ticked.Goals as goal
 
 pub returns : goal.returns
 unfolding flight_ticked
-returns c = simp (← c.sum_after-sum.ensures, ← c.tick_schedule-next.ensures)
+returns c = search (rules, tests)

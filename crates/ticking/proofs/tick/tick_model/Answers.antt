@@ -1,8 +1,9 @@
 -- `ticking::tick::tick_model` meets its contract.
-use Rattle.device.specs.Tick.{tick_model}
 use borrow.Author.Rules.{rules}
+use Rattle.unit.proofs.Tests.{tests}
+use Rattle.device.specs.Tick.{tick_model}
 use Rattle.ticking.proofs.tick.tick_model.Goals as goal
 
 pub returns : goal.returns
 unfolding tick_model
-returns c = simp (← c.temperature_after-temperature.ensures, ← c.flight_after-flight.ensures, ← c.tick_status-status.ensures, ← c.clock_ticked-clock.ensures)
+returns c = search (rules, tests)

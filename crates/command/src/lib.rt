@@ -22,13 +22,27 @@ fn must_be_idle(op: u32) -> bool
 pub fn starts_flight(op: u32) -> bool
     ensures { result ≡ starts_flight op }
 {
-    op < TEMPERATURE || op == EVTMG1 || op == EVTMG2
+    // Tests one by one: with `||` the compiler does not join them with the tests of the commands, and a list's starts cost more.
+    if op < TEMPERATURE {
+        return true;
+    }
+    if op == EVTMG1 {
+        return true;
+    }
+    if op == EVTMG2 { true } else { false }
 }
 
 pub fn starts_temperature(op: u32) -> bool
     ensures { result ≡ starts_temperature op }
 {
-    op == TEMPERATURE || op == EVTMG1 || op == EVTMG3
+    // Tests one by one, as above.
+    if op == TEMPERATURE {
+        return true;
+    }
+    if op == EVTMG1 {
+        return true;
+    }
+    if op == EVTMG3 { true } else { false }
 }
 
 fn is_event(op: u32) -> bool
@@ -137,92 +151,112 @@ fn event_temperature(m: Model, op: u32) -> Temperature
 fn started_event(m: Model, op: u32) -> Model
     ensures { result ≡ started_event m op }
 {
-    Model {
-        flight: event_flight(m, op),
-        temperature: event_temperature(m, op),
-        ..m
-    }
+    // Fields set by hand: a struct update copies the model once more in a list.
+    let flight = event_flight(m, op);
+    let temperature = event_temperature(m, op);
+    let mut next = m;
+    next.flight = flight;
+    next.temperature = temperature;
+    next
 }
 
 fn initialised_model(m: Model) -> Model
     ensures { result ≡ initialised_model m }
 {
-    Model {
-        status: joined(m.status, init_bit()),
-        initialised: true,
-        ..m
-    }
+    // Fields set by hand: a struct update copies the model once more in a list.
+    let old = m.status;
+    let status = joined(old, init_bit());
+    let mut next = m;
+    next.status = status;
+    next.initialised = true;
+    next
 }
 
 fn halted_model(m: Model) -> Model
     ensures { result ≡ halted_model m }
 {
-    Model {
-        status: joined(m.status, halt_bit()),
-        flight: Flight {
-            schedule: halt_schedule(m.flight.schedule),
-            ..m.flight
-        },
-        temperature: Temperature {
-            schedule: halt_schedule(m.temperature.schedule),
-            ..m.temperature
-        },
-        ..m
-    }
+    // Fields set by hand: a struct update copies the model once more in a list.
+    let old = m.status;
+    let mut flight = m.flight;
+    let mut temperature = m.temperature;
+    let f = halt_schedule(flight.schedule);
+    let t = halt_schedule(temperature.schedule);
+    flight.schedule = f;
+    temperature.schedule = t;
+    let status = joined(old, halt_bit());
+    let mut next = m;
+    next.status = status;
+    next.flight = flight;
+    next.temperature = temperature;
+    next
 }
 
 // A measurement that is no part of an event starts.
 pub fn single_started(m: Model, op: u32) -> Model
     ensures { result ≡ single_started m op }
 {
+    // Fields set by hand: a struct update copies the model once more in a list.
+    let mut next = m;
     if op == TEMPERATURE {
-        Model {
-            temperature: Temperature {
-                schedule: start_single(m.temperature.schedule),
-                ..m.temperature
-            },
-            ..m
-        }
-    } else {
-        Model {
-            flight: flight_started(m.flight, op),
-            ..m
-        }
+        let mut temperature = m.temperature;
+        let k = start_single(temperature.schedule);
+        temperature.schedule = k;
+        next.temperature = temperature;
+        return next;
     }
+    let old = m.flight;
+    let flight = flight_started(old, op);
+    next.flight = flight;
+    next
 }
 
 // The regulator of the user flash is switched on, and off.
 fn supplied(m: Model) -> Model
     ensures { result ≡ supplied m }
 {
-    Model {
-        status: joined(m.status, ldo_bit()),
-        regulator: true,
-        ..m
-    }
+    // Fields set by hand: a struct update copies the model once more in a list.
+    let old = m.status;
+    let status = joined(old, ldo_bit());
+    let mut next = m;
+    next.status = status;
+    next.regulator = true;
+    next
 }
 
 fn unsupplied(m: Model) -> Model
     ensures { result ≡ unsupplied m }
 {
-    Model {
-        status: without_ldo(m.status),
-        regulator: false,
-        ..m
-    }
+    // Fields set by hand: a struct update copies the model once more in a list.
+    let old = m.status;
+    let status = without_ldo(old);
+    let mut next = m;
+    next.status = status;
+    next.regulator = false;
+    next
 }
 
 // The model after an accepted command.
 pub fn run_model(m: Model, op: u32) -> Model
     ensures { result ≡ run_model m op }
 {
-    match op {
-        RESET => fresh_with(no_bits()),
-        INITIALIZE => initialised_model(m),
-        HALT => halted_model(m),
-        LDO_ON => supplied(m),
-        LDO_OFF => unsupplied(m),
-        _ if is_event(op) => started_event(m, op),
-        _ => single_started(m, op),
+    // A chain of returns: a match costs every call of a list a copy of the model.
+    if op == RESET {
+        return fresh_with(no_bits());
     }
+    if op == INITIALIZE {
+        return initialised_model(m);
+    }
+    if op == HALT {
+        return halted_model(m);
+    }
+    if op == LDO_ON {
+        return supplied(m);
+    }
+    if op == LDO_OFF {
+        return unsupplied(m);
+    }
+    if is_event(op) {
+        return started_event(m, op);
+    }
+    single_started(m, op)
 }

@@ -1,12 +1,11 @@
--- Copying as much of a run as a buffer has room for.
-use Prim.Native.Nat.{ℕ, suc, ◌+◌, ◌-◌, ◌≤◌, min}
-use native.Mathlib.Nat.{add-zero, add-suc, suc-add}
+-- Copying a run: i values are copied, and one more, or there is no room for it.
+use Prim.Native.Nat.{ℕ, suc, ◌+◌, ◌≤◌, ◌<◌}
+use native.Mathlib.Numerals.{add-one}
 use native.Mathlib.Omega.{arith}
-use mathlib.Core.List.{List, [], ◌∷◌, ◌++◌}
+use mathlib.Core.List.{List, [], ◌∷◌}
 use mathlib.Core.Path.{◌≡◌, refl, sym, ap, ◌∙◌}
-use lib.ListN.{length, set, take, drop, length-set, length-drop}
-use lib.Seq.{sets, sets-eq, set_out, length-sets, take-add, length-take-le}
-use Rattle.unit.proofs.Cases.{by-leb}
+use lib.ListN.{length, get_or, set, take, drop, length-set, length-drop}
+use lib.Seq.{sets, set_out, drop-cons, get_or-take, get_or-drop, length-take-le}
 
 module _ {A : Type 0} where
   sets-past : (l vs : List A) (i : ℕ) → length l ≤ i → sets l i vs ≡ l
@@ -14,28 +13,25 @@ module _ {A : Type 0} where
   sets-past l (v ∷ vs) i h =
       sets-past (set l i v) vs (suc i) (rw (length-set l i v) (omega arith)) ∙ set_out l i v h
 
-  sets-joined : (a b l : List A) (at : ℕ) → sets l at (a ++ b) ≡ sets (sets l at a) (at + length a) b
-  sets-joined [] b l at = rw add-zero
-  sets-joined (x ∷ a) b l at = sets-joined a b (set l at x) (suc at) ∙ rw (suc-add, add-suc)
+  pub length_run : (values : List A) (start width : ℕ) → start + width ≤ length values → length (take width (drop start values)) ≡ width
+  length_run values start width h = length-take-le width (drop start values) (rw length-drop (omega arith))
 
-  pub copied :
-      (values run : List A) (start width n : ℕ) {part : List A} →
+  pub run_more :
+      (values begin run : List A) (start width i : ℕ) (d : A) →
       start + width ≤ length values →
-      n ≡ min width (length run) →
-      part ≡ take (start + n - start) (drop start values) →
-      part ++ drop n run ≡ sets run 0 (take width (drop start values))
-  copied values run start width n {part} room fits e =
-      let xs : List A = drop start values in
-      let a : List A = take n xs in
-      let b : List A = take (width - n) (drop n xs) in
-      let first : part ≡ a = e ∙ ap (λ (k : ℕ). take k xs) (omega arith) in
-      let long : length a ≡ n = length-take-le n xs (rw length-drop (omega arith)) in
-      let whole : take width xs ≡ a ++ b = ap (λ (k : ℕ). take k xs) (omega arith) ∙ take-add n (width - n) xs in
-      let z : 0 + length a ≡ n = omega arith in
-      let put : sets run 0 a ≡ a ++ drop n run = rw z at (sets-eq a run 0 (omega arith)) in
-      let past : sets (sets run 0 a) (0 + length a) b ≡ sets run 0 a =
-      by-leb width (length run)
-      (λ h t. let none : width - n ≡ 0 = omega arith in rw none)
-      (λ h t. sets-past (sets run 0 a) b (0 + length a) (rw length-sets (omega arith)))
-      in
-      rw (first, whole) (sym (sets-joined a b run 0 ∙ past ∙ put))
+      i < width →
+      sets begin 0 (take width (drop start values)) ≡ sets run i (drop i (take width (drop start values))) →
+      sets begin 0 (take width (drop start values))
+      ≡ sets (set run i (get_or values (start + i) d)) (i + 1) (drop (i + 1) (take width (drop start values)))
+  run_more values begin run start width i d h k so_far =
+      let part : List A = take width (drop start values) in
+      let e : length part ≡ width = length_run values start width h in
+      let v : get_or part i d ≡ get_or values (start + i) d =
+      get_or-take width (drop start values) i d k ∙ get_or-drop start values i d in
+      so_far
+      ∙ ap (sets run i) (drop-cons part i d (omega arith))
+      ∙ rw (v, add-one i)
+
+  pub run-full :
+      (begin run part : List A) (i : ℕ) → length run ≤ i → sets begin 0 part ≡ sets run i (drop i part) → run ≡ sets begin 0 part
+  run-full begin run part i h so_far = sym (so_far ∙ sets-past run (drop i part) i h)

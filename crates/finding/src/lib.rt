@@ -42,6 +42,11 @@ pub fn copy_run(values: &[i32], start: usize, width: usize, run: &mut [i32])
     requires { start + width ≤ length values.now }
     ensures { run.new ≡ filled run.old (take width (drop start values.now)) }
 {
-    let n = width.min(run.len());
-    run[..n].copy_from_slice(&values[start..start + n]);
+    // Value by value: `copy_from_slice` would need `memmove` from outside of the archive for C.
+    for i in 0..width {
+        if run.len() <= i {
+            return;
+        }
+        run[i] = values[start + i];
+    }
 }

@@ -48,6 +48,10 @@ fn word_end(s: &[u8], start: usize) -> usize
 pub(crate) fn is_blank(c: u8) -> bool
     ensures { result ≡ is_blank c }
 {
+    // Most bytes of a line are above a blank, and one test settles them.
+    if b' ' < c {
+        return false;
+    }
     c == b' ' || c == b'\t'
 }
 

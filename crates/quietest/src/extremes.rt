@@ -39,6 +39,10 @@ pub fn extremes_of(values: &[i32], from: usize, count: usize) -> Extremes
 {
     let mut high = values[from];
     let mut low = high;
+    // One value alone: at narrow widths most calls have just one, and a loop costs more than its value.
+    if count == 1 {
+        return Extremes { high, low };
+    }
     for x in &values[from..from + count] {
         high = high.max(*x);
         low = low.min(*x);

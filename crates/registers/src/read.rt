@@ -128,9 +128,9 @@ fn valid_word(m: Model, a: u32) -> u32
 }
 
 // B4h to C3h.
-fn setup_word(setup: [u16; 16], a: u32) -> u32
+fn setup_word(setup: &[u16; 16], a: u32) -> u32
     requires { (180 ≤ a) × (a ≤ 195) }
-    ensures { result ≡ get_or setup (a - 180) 0 }
+    ensures { result ≡ get_or setup.now (a - 180) 0 }
 {
     u32::from(setup[(a - 0xb4) as usize])
 }
@@ -184,7 +184,7 @@ pub fn fill_words(m: Model, a: u32, n: usize, out: &mut [u8])
     let flight_end = until(a, n, 0xe7);
     let temperature_end = until(a, n, 0xf8);
     fill_part(out, a, 0, calendar_end, |x| valid_word(m, x));
-    fill_part(out, a, calendar_end, setup_end, |x| setup_word(setup, x));
+    fill_part(out, a, calendar_end, setup_end, |x| setup_word(&setup, x));
     fill_part(out, a, setup_end, flight_end, |x| flight_word(flight, x));
     fill_part(
         out,
@@ -201,12 +201,15 @@ pub fn read_model(m: Model, a: u32, n: usize) -> Model
     requires { a + n ≤ 256 }
     ensures { result ≡ read_model m a n }
 {
-    if a <= 0xfe && 0xfe < a + n as u32 {
-        Model {
-            status: no_bits(),
-            ..m
-        }
-    } else {
-        m
+    // Early returns, and the field set by hand: with one condition, or a struct update, a list copies the model's bytes at each call.
+    if 0xfe < a {
+        return m;
     }
+    if a + n as u32 <= 0xfe {
+        return m;
+    }
+    let mut next = m;
+    let status = no_bits();
+    next.status = status;
+    next
 }

@@ -68,9 +68,15 @@ fn clock_after(m: Model, words: &[u8], op: u32, n: usize) -> Clock
     requires { (48 ≤ op) × (op + n ≤ 68) × (2 * n ≤ length words.now) }
     ensures { result ≡ clock_after words.now op n m }
 {
-    let [w30, w31, w32, w33] = calendar_after(m, words, op, n);
-    let ticks = ticks_after(m, words, op, n);
-    clock::words::clock_from(w30, w31, w32, w33, ticks)
+    // Not by `calendar_after`, which is to have one caller, in whose place the compiler then puts it: as a call it has a list keep the
+    // whole model in memory.
+    clock::words::clock_from(
+        written(words, op, n, 0x30, calendar_word(m, 0xb0)),
+        written(words, op, n, 0x31, calendar_word(m, 0xb1)),
+        written(words, op, n, 0x32, calendar_word(m, 0xb2)),
+        written(words, op, n, 0x33, calendar_word(m, 0xb3)),
+        ticks_after(m, words, op, n),
+    )
 }
 
 // Whether the clock or the alarm would be invalid.

@@ -7,7 +7,7 @@ ghost use Rattle.device.specs.StretchSteps.{least as Stretch·least, quiet_left,
 
 use crate::tick::tick_model;
 use calendar::Clock;
-use device::{Flight, Model, Progress, Schedule, StretchReport, Temperature};
+use device::{Model, Progress, Schedule, StretchReport};
 use schedule::{begins, fails};
 use unit::Ticks;
 
@@ -87,11 +87,11 @@ fn wait_later(k: Schedule, q: Ticks) -> Ticks
 fn later_schedule(k: Schedule, q: Ticks) -> Schedule
     ensures { result ≡ later_schedule q.0 k }
 {
-    Schedule {
-        left: less(k.left, q),
-        wait: wait_later(k, q),
-        ..k
-    }
+    // Fields set by hand: a struct update copies the value once more in each call of a list.
+    let mut n = k;
+    n.left = less(k.left, q);
+    n.wait = wait_later(k, q);
+    n
 }
 
 fn later_clock(m: Model, q: Ticks) -> Clock
@@ -101,10 +101,10 @@ fn later_clock(m: Model, q: Ticks) -> Clock
     if setup::clock_stands(m.setup) {
         return m.clock;
     }
-    Clock {
-        ticks: Ticks(m.clock.ticks.0 + q.0),
-        ..m.clock
-    }
+    // Fields set by hand: a struct update copies the value once more in each call of a list.
+    let mut n = m.clock;
+    n.ticks = Ticks(m.clock.ticks.0 + q.0);
+    n
 }
 
 // q ticks in which nothing happens.
@@ -112,18 +112,12 @@ fn later_model(m: Model, q: Ticks) -> Model
     requires { q.0 ≤ quiet_clock m }
     ensures { result ≡ later_model q.0 m }
 {
-    Model {
-        clock: later_clock(m, q),
-        flight: Flight {
-            schedule: later_schedule(m.flight.schedule, q),
-            ..m.flight
-        },
-        temperature: Temperature {
-            schedule: later_schedule(m.temperature.schedule, q),
-            ..m.temperature
-        },
-        ..m
-    }
+    // Fields set by hand: a struct update copies the value once more in each call of a list.
+    let mut n = m;
+    n.clock = later_clock(m, q);
+    n.flight.schedule = later_schedule(m.flight.schedule, q);
+    n.temperature.schedule = later_schedule(m.temperature.schedule, q);
+    n
 }
 
 fn note_tick(k: Schedule, at: Ticks, r: StretchReport) -> StretchReport
@@ -139,11 +133,11 @@ fn moved_quietly(p: Progress, q: Ticks) -> Progress
     requires { (q.0 ≤ quiet_clock p.model) × (p.done.0 + q.0 ≤ 16384) }
     ensures { result ≡ moved_quietly q.0 p }
 {
-    Progress {
-        model: later_model(p.model, q),
-        done: Ticks(p.done.0 + q.0),
-        ..p
-    }
+    // Fields set by hand: a struct update copies the value once more in each call of a list.
+    let mut n = p;
+    n.model = later_model(p.model, q);
+    n.done = Ticks(p.done.0 + q.0);
+    n
 }
 
 fn moved_by_one(p: Progress) -> Progress

@@ -99,14 +99,13 @@ fn tick_status(m: Model, after: Clock) -> Status
 pub fn tick_model(m: Model) -> Model
     ensures { result ≡ tick_model m }
 {
-    let clock = clock_ticked(m);
-    Model {
-        clock,
-        status: tick_status(m, clock),
-        flight: flight_after(m.flight),
-        temperature: temperature_after(m.temperature),
-        ..m
-    }
+    // Fields set by hand: a struct update copies the model once more in each call of a list.
+    let mut n = m;
+    n.clock = clock_ticked(m);
+    n.status = tick_status(m, n.clock);
+    n.flight = flight_after(m.flight);
+    n.temperature = temperature_after(m.temperature);
+    n
 }
 
 // What the next tick reports of a kind.

@@ -1,9 +1,8 @@
 -- `command::supplied` meets its contract.
-use borrow.Author.Rules.{rules}
-use Rattle.unit.proofs.Tests.{tests}
 use Rattle.device.specs.Bus.{supplied}
+use borrow.Author.Rules.{rules}
 use Rattle.command.proofs.supplied.Goals as goal
 
 pub returns : goal.returns
 unfolding supplied
-returns c = search (rules, tests)
+returns c = simp (← c.joined-status.ensures, ← c.ldo_bit.ensures)

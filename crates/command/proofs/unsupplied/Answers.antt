@@ -1,9 +1,8 @@
 -- `command::unsupplied` meets its contract.
-use borrow.Author.Rules.{rules}
-use Rattle.unit.proofs.Tests.{tests}
 use Rattle.device.specs.Bus.{unsupplied}
+use borrow.Author.Rules.{rules}
 use Rattle.command.proofs.unsupplied.Goals as goal
 
 pub returns : goal.returns
 unfolding unsupplied
-returns c = search (rules, tests)
+returns c = simp (← c.without_ldo-status.ensures)

@@ -1,6 +1,8 @@
-use Prim.Native.Nat.{◌+◌, ◌-◌, ◌<◌}
+use Prim.Native.Nat.{ℕ, ◌+◌, ◌-◌, ◌<◌}
+use mathlib.Core.List.{List}
 use mathlib.Core.Path.{◌≡◌, ◌∙◌, ap}
 use native.Mathlib.Omega.{arith}
+use native.Mathlib.Nat.{add-zero}
 use native.Mathlib.Numerals.{add-one}
 use borrow.Author.Rules.{rules}
 use lib.IntN.{ℤ}
@@ -9,10 +11,28 @@ use mir.Syntax.{w32}
 use mir.Val.{SFits, of_z, to_z}
 use mir.ValLaws.{to_z-of_z}
 use Rattle.quietest.specs.Quietest.{value_at, larger, smaller, extreme}
+use Rattle.quietest.specs.Search.{extremes_of}
+use Rattle.quietest.specs.declared.extremes.Extremes.{Extremes}
+use Rattle.quietest.proofs.Join.{larger-itself, smaller-itself}
 use Rattle.quietest.proofs.Meaning.{same-value}
 use Rattle.quietest.proofs.Order.{larger-max, smaller-min}
 use Rattle.quietest.proofs.Signed.{back}
 use Rattle.quietest.proofs.extremes.extremes_of.Goals as goal
+
+one-value :
+    (values : List ℤ) (from count : ℕ) {x : ℤ} → count ≡ 1 → x ≡ value_at values from
+    → ◌≡◌ {A = Extremes} (record { high = x; low = x }) (extremes_of values from count)
+unfolding extreme
+one-value values from count one e =
+    let first = value_at values from in
+    rw (one, e, add-zero from, larger-itself first, smaller-itself first)
+
+pub returns-then-count-eq1 : goal.returns-then-count-eq1
+returns-then-count-eq1 c =
+    let args = c.args in
+    let first = value_at args.values.now args.from in
+    let f : SFits w32 first = search rules in
+    one-value args.values.now args.from args.count c.if-count-eq1.true (to_z-of_z w32 first f)
 
 pub loop-x-init : goal.loop-x-init
 unfolding extreme

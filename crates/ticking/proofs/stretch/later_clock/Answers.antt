@@ -9,8 +9,8 @@ pub returns-then-clock_stands : goal.returns-then-clock_stands
 unfolding later_clock
 returns-then-clock_stands c = simp (c.if-clock_stands.true, ← c.clock_stands.ensures)
 
-pub overflow_add-result : goal.overflow_add-result
-overflow_add-result c =
+pub overflow_add-n : goal.overflow_add-n
+overflow_add-n c =
     omega (arith, clock-room _ _ (sym c.clock_stands.ensures ∙ c.if-clock_stands.false) c.requires)
 
 pub returns : goal.returns

@@ -24,27 +24,51 @@ fn half(w: u32, place: u32) -> u32
 pub fn calendar_word(m: Model, a: u32) -> u32
     ensures { result ≡ calendar_word m a }
 {
-    match a {
-        0xb0 => clock::words::word30(m.clock),
-        0xb1 => clock::words::word31(m.clock),
-        0xb2 => clock::words::word32(m.clock),
-        _ => clock::words::word33(m.clock),
+    // A chain of tests and parts by name: with a `match` on the address, lists of writes and reads took a fifth more time.
+    let clock = m.clock;
+    if a == 0xb0 {
+        return clock::words::word30(clock);
     }
+    if a == 0xb1 {
+        return clock::words::word31(clock);
+    }
+    if a == 0xb2 {
+        return clock::words::word32(clock);
+    }
+    clock::words::word33(clock)
 }
 
 // C4h to E6h.
 fn flight_word(f: Flight, a: u32) -> u32
     ensures { result ≡ flight_word f a }
 {
-    let good = u32::from(f.schedule.good);
-    match a {
-        0xc5..=0xd2 => half(f.ups[((a - 0xc5) / 2) as usize], a - 0xc5),
-        0xd4..=0xe1 => half(f.downs[((a - 0xd4) / 2) as usize], a - 0xd4),
-        0xe2..=0xe3 => half(f.difference, a - 0xe2),
-        0xe4 => good,
-        0xe5.. => half(difference_mean(f.sum, good), a - 0xe5),
-        _ => 0,
+    // A chain of tests, as in `calendar_word`.
+    let k = f.schedule;
+    let ups = f.ups;
+    let downs = f.downs;
+    if a < 0xc5 {
+        return 0;
     }
+    if a < 0xd3 {
+        let place = (a - 0xc5) / 2;
+        let w = ups[place as usize];
+        return half(w, a - 0xc5);
+    }
+    if a < 0xd4 {
+        return 0;
+    }
+    if a < 0xe2 {
+        let place = (a - 0xd4) / 2;
+        let w = downs[place as usize];
+        return half(w, a - 0xd4);
+    }
+    if a < 0xe4 {
+        return half(f.difference, a - 0xe2);
+    }
+    if a == 0xe4 {
+        return k.good as u32;
+    }
+    half(difference_mean(f.sum, k.good as u32), a - 0xe5)
 }
 
 // E7h to F7h.
@@ -52,12 +76,21 @@ fn temperature_word(t: Temperature, a: u32) -> u32
     requires { (231 ≤ a) × (a ≤ 247) }
     ensures { result ≡ temperature_word t a }
 {
-    let good = u32::from(t.schedule.good);
-    match a {
-        ..=0xee => half(t.ports[((a - 0xe7) / 2) as usize], a - 0xe7),
-        0xef => good,
-        _ => half(port_mean(t.sums[((a - 0xf0) / 2) as usize], good), a - 0xf0),
+    // A chain of tests, as in `calendar_word`.
+    let k = t.schedule;
+    let ports = t.ports;
+    let sums = t.sums;
+    if a < 0xef {
+        let place = (a - 0xe7) / 2;
+        let w = ports[place as usize];
+        return half(w, a - 0xe7);
     }
+    if a == 0xef {
+        return k.good as u32;
+    }
+    let place = (a - 0xf0) / 2;
+    let sum = sums[place as usize];
+    half(port_mean(sum, k.good as u32), a - 0xf0)
 }
 
 // The word at read address a, B0h to FFh.
@@ -119,12 +152,18 @@ fn valid_word(m: Model, a: u32) -> u32
     requires { is_sound m ≡ true }
     ensures { result ≡ calendar_word m a }
 {
-    match a {
-        0xb0 => valid30(m.clock),
-        0xb1 => valid31(m.clock),
-        0xb2 => valid32(m.clock),
-        _ => valid33(m.clock),
+    // A chain of tests, as in `calendar_word`.
+    let clock = m.clock;
+    if a == 0xb0 {
+        return valid30(clock);
     }
+    if a == 0xb1 {
+        return valid31(clock);
+    }
+    if a == 0xb2 {
+        return valid32(clock);
+    }
+    valid33(clock)
 }
 
 // B4h to C3h.

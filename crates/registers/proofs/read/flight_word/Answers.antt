@@ -1,33 +1,33 @@
 -- `registers::read::flight_word` meets its contract.
-use borrow.Author.Rules.{rules}
-use Rattle.unit.proofs.Tests.{tests}
+use borrow.Author.Tests.{eq-eqb, le-ltb, lt-ltb, ne_eqb}
 use Rattle.device.specs.Registers.{flight_word}
+use borrow.Author.Rules.{rules}
 use Rattle.registers.proofs.read.flight_word.Goals as goal
 
-pub returns-in-197-to-210 : goal.returns-in-197-to-210
+pub returns-then-a-lt197 : goal.returns-then-a-lt197
 unfolding flight_word
-returns-in-197-to-210 c = search (rules, tests)
+returns-then-a-lt197 c = simp (lt-ltb _ _ c.if-a-lt197.true)
 
-pub returns-in-212-to-225 : goal.returns-in-212-to-225
+pub returns-then-a-lt211 : goal.returns-then-a-lt211
 unfolding flight_word
-returns-in-212-to-225 c = search (rules, tests)
+returns-then-a-lt211 c = simp (← c.half.ensures, lt-ltb _ _ c.if-a-lt211.true, le-ltb _ _ c.if-a-lt197.false)
 
-pub returns-in-226-to-227 : goal.returns-in-226-to-227
+pub returns-then-a-lt212 : goal.returns-then-a-lt212
 unfolding flight_word
-returns-in-226-to-227 c = search (rules, tests)
+returns-then-a-lt212 c = simp (lt-ltb _ _ c.if-a-lt212.true, le-ltb _ _ c.if-a-lt211.false, le-ltb _ _ c.if-a-lt197.false)
 
-pub returns-in-228 : goal.returns-in-228
+pub returns-then-a-lt226 : goal.returns-then-a-lt226
 unfolding flight_word
-returns-in-228 c = search (rules, tests)
+returns-then-a-lt226 c = simp (← c.half-then-a-lt226.ensures, lt-ltb _ _ c.if-a-lt226.true, le-ltb _ _ c.if-a-lt212.false, le-ltb _ _ c.if-a-lt211.false, le-ltb _ _ c.if-a-lt197.false)
 
-pub returns-in-229-to-4294967295 : goal.returns-in-229-to-4294967295
+pub returns-then-a-lt228 : goal.returns-then-a-lt228
 unfolding flight_word
-returns-in-229-to-4294967295 c = search (rules, tests)
+returns-then-a-lt228 c = simp (← c.half-then-a-lt228.ensures, lt-ltb _ _ c.if-a-lt228.true, le-ltb _ _ c.if-a-lt226.false, le-ltb _ _ c.if-a-lt212.false, le-ltb _ _ c.if-a-lt211.false, le-ltb _ _ c.if-a-lt197.false)
 
-pub returns-in_default : goal.returns-in_default
+pub returns-then-a-eq228 : goal.returns-then-a-eq228
 unfolding flight_word
-returns-in_default c = search (rules, tests)
+returns-then-a-eq228 c = simp (eq-eqb _ _ c.if-a-eq228.true, le-ltb _ _ c.if-a-lt228.false, le-ltb _ _ c.if-a-lt226.false, le-ltb _ _ c.if-a-lt212.false, le-ltb _ _ c.if-a-lt211.false, le-ltb _ _ c.if-a-lt197.false)
 
-pub returns-in_default-2 : goal.returns-in_default-2
+pub returns : goal.returns
 unfolding flight_word
-returns-in_default-2 c = search (rules, tests)
+returns c = simp (← c.half-2.ensures, ← c.difference_mean.ensures, ne_eqb _ _ c.if-a-eq228.false, le-ltb _ _ c.if-a-lt228.false, le-ltb _ _ c.if-a-lt226.false, le-ltb _ _ c.if-a-lt212.false, le-ltb _ _ c.if-a-lt211.false, le-ltb _ _ c.if-a-lt197.false)
